@@ -21,7 +21,7 @@ use Rattle.adapter_ring.specs.declared.ring.RingSettings.{RingSettings}
 use Rattle.adapter_ring.specs.declared.ring.Gathering.{Gathering}
 use Rattle.adapter_ring.specs.declared.work.RingWork.{RingWork}
 use Rattle.adapter_ring.specs.Addresses.{has_addr, outside, is_higher, neighbour_in, crown_prince_in}
-use Rattle.adapter_ring.specs.Rings.{ring_send, ring_send_all, ring_set, ring_close, ring_gathering, next_ring, ring_numbered, ring_gather_on, ring_gather, ring_alone, send_heartbeat, ring_proclaim, ring_beat, buries, death_counts, death_row, tell_death, ring_wait_on, ring_wait, ring_ages_of, ring_age, ring_tick, heartbeat_row, proclaim_row, is_lower, all_lower, takes_join, join_row, ptc_row, ack_row_of, ack_row, commit_row, packet_row, ring_row, at_work, ring_step, is_shared, neighbour, upstream, death_told_to, patience, ring_leads, crown_prince, answers_proclaim, may_promise, is_promised}
+use Rattle.adapter_ring.specs.Rings.{ring_send, ring_send_all, ring_set, ring_close, ring_gathering, next_ring, ring_numbered, ring_gather_on, ring_gather, ring_alone, send_heartbeat, ring_proclaim, ring_beat, buries, death_counts, death_rule, tell_death, ring_wait_on, ring_wait, ring_ages_of, ring_age, ring_tick, heartbeat_rule, proclaim_rule, is_lower, all_lower, takes_join, join_rule, ptc_rule, ack_rule_of, ack_rule, commit_rule, packet_rule, ring_rule, at_work, ring_step, is_shared, neighbour, upstream, death_told_to, patience, ring_leads, crown_prince, answers_proclaim, may_promise, is_promised}
 use Rattle.adapter_ring.specs.Agreement.{AddressesDiffer, HasGreatest, IsNeighbour}
 use Rattle.adapter_ring.proofs.AddressLaws.{higher_lt, neighbour_is, greatest_alone, greatest_without, greatest_union, greatest_with, prince_greatest}
 use Rattle.adapter_ring.proofs.Parts.{Made, Books, GatheringOk, GathersOk, RingOk, PacketOk, WorkOk, books_more, sets_kept, packet_kept, gathers_later, either}
@@ -243,8 +243,8 @@ module _ (s : RingSettings) (differ : AddressesDiffer s) (n inc : ℕ) (before :
       subst (λ l. HasGreatest s r.me (without_node r.members l)) (sym dead) (prince_greatest s differ r.id.leader r.me r.members led (omega arith) k.mine (λ g. ne (g ∙ sym dead)) prince)))
       (or_cases (r.id.leader == r.me) (d == r.id.leader && crown_prince_in r.settings r.members == r.me) four.1)
 
-  deaths : (made : List Made) (w : RingWork) (id : RingId) (d : ℕ) → Ok made w → Well (death_row w id d)
-  unfolding death_row
+  deaths : (made : List Made) (w : RingWork) (id : RingId) (d : ℕ) → Ok made w → Well (death_rule w id d)
+  unfolding death_rule
   deaths made w id d o =
       either Well (death_counts w.ring id d) (ring_gather w (without_node w.ring.members d)) w
       (λ e. gathers made w (without_node w.ring.members d) o (left_greatest made w id d o e))
@@ -253,7 +253,7 @@ module _ (s : RingSettings) (differ : AddressesDiffer s) (n inc : ℕ) (before :
   told_death : (made : List Made) (w : RingWork) (d to : ℕ) → Ok made w → Well (tell_death w d to)
   unfolding tell_death
   told_death made w d to o =
-      either Well (to == w.ring.me) (death_row w w.ring.id d) (ring_send w to (Death w.ring.id d))
+      either Well (to == w.ring.me) (death_rule w w.ring.id d) (ring_send w to (Death w.ring.id d))
       (λ e. deaths made w w.ring.id d o)
       (λ e. (made, sent made w to (Death w.ring.id d) o tt))
 
@@ -288,15 +288,15 @@ module _ (s : RingSettings) (differ : AddressesDiffer s) (n inc : ℕ) (before :
   ticks w o = let p = waits before (ring_beat w) (beats before w o) in ages p.0 (ring_wait (ring_beat w)) p.1
 
   -- the rows of packets
-  hears : (made : List Made) (w : RingWork) (from : ℕ) (id : RingId) → Ok made w → Well (heartbeat_row w from id)
-  unfolding heartbeat_row
+  hears : (made : List Made) (w : RingWork) (from : ℕ) (id : RingId) → Ok made w → Well (heartbeat_rule w from id)
+  unfolding heartbeat_rule
   hears made w from id o =
       either Well (same_ring id w.ring.id && is_shared w.ring && from == upstream w.ring) (record w { ring = record (w.ring) { silent = 0 } }) w
       (λ e. (made, counted made w 0 w.ring.beat o))
       (λ e. (made, o))
 
-  answers : (made : List Made) (w : RingWork) (from : ℕ) → Ok made w → Well (proclaim_row w from)
-  unfolding proclaim_row
+  answers : (made : List Made) (w : RingWork) (from : ℕ) → Ok made w → Well (proclaim_rule w from)
+  unfolding proclaim_rule
   answers made w from o =
       either Well (answers_proclaim w.ring from) (ring_send w from (Join w.ring.members)) w
       (λ e. (made, sent made w from (Join w.ring.members) o tt))
@@ -317,15 +317,15 @@ module _ (s : RingSettings) (differ : AddressesDiffer s) (n inc : ℕ) (before :
       let lt = higher_lt s r.me j (subst (λ t. is_higher t r.me j ≡ true) k.settings p.1) in
       omega arith))
 
-  joins : (made : List Made) (w : RingWork) (from : ℕ) (ms : Mask) → Ok made w → Well (join_row w from ms)
-  unfolding join_row
+  joins : (made : List Made) (w : RingWork) (from : ℕ) (ms : Mask) → Ok made w → Well (join_rule w from ms)
+  unfolding join_rule
   joins made w from ms o =
       either Well (takes_join w.ring from ms) (ring_gather w (union_of w.ring.members ms)) w
       (λ e. gathers made w (union_of w.ring.members ms) o (joined_greatest made w from ms o e))
       (λ e. (made, o))
 
-  promises : (made : List Made) (w : RingWork) (from j : ℕ) (id : RingId) (ms : Mask) → Ok made w → Well (ptc_row w from j id ms)
-  unfolding ptc_row
+  promises : (made : List Made) (w : RingWork) (from j : ℕ) (id : RingId) (ms : Mask) → Ok made w → Well (ptc_rule w from j id ms)
+  unfolding ptc_rule
   promises made w from j id ms o =
       let v : RingWork = record w { ring = record (w.ring) { gathering = None; promised = Some id } } in
       either Well (may_promise w.ring from j id ms) (ring_send v from (PtcAck id)) w
@@ -347,11 +347,11 @@ module _ (s : RingSettings) (differ : AddressesDiffer s) (n inc : ℕ) (before :
       })
       (λ e. h)
 
-  acks : (made : List Made) (w : RingWork) (from : ℕ) (id : RingId) → Ok made w → Well (ack_row w from id)
-  unfolding ack_row ack_row_of
+  acks : (made : List Made) (w : RingWork) (from : ℕ) (id : RingId) → Ok made w → Well (ack_rule w from id)
+  unfolding ack_rule ack_rule_of
   acks made w from id o = by w.ring.gathering o.ring.gathers
     where
-      by : (g : Option Gathering) → GathersOk s made w.ring.me w.ring.inc w.ring.last g → Well (ack_row_of w from id g)
+      by : (g : Option Gathering) → GathersOk s made w.ring.me w.ring.inc w.ring.last g → Well (ack_rule_of w from id g)
       by None h = (made, o)
       by (Some g) h =
           let f : Gathering = record g { gather = gather_acked g.gather from } in
@@ -359,8 +359,8 @@ module _ (s : RingSettings) (differ : AddressesDiffer s) (n inc : ℕ) (before :
           (λ e. gathers_on made w f o (acked_ok made w.ring.me w.ring.inc w.ring.last g.gather from h))
           (λ e. (made, o))
 
-  commits : (made : List Made) (w : RingWork) (from : ℕ) (id : RingId) (ms : Mask) → Ok made w → Has (record { id = id; members = ms }) made → Well (commit_row w from id ms)
-  unfolding commit_row
+  commits : (made : List Made) (w : RingWork) (from : ℕ) (id : RingId) (ms : Mask) → Ok made w → Has (record { id = id; members = ms }) made → Well (commit_rule w from id ms)
+  unfolding commit_rule
   commits made w from id ms o was =
       either Well (is_promised w.ring.promised id && has_node ms w.ring.me && from == id.leader) (ring_set w id ms) w
       (λ e.
@@ -368,8 +368,8 @@ module _ (s : RingSettings) (differ : AddressesDiffer s) (n inc : ℕ) (before :
       (made, set_to made w id ms o was (and_parts (is_promised w.ring.promised id) (has_node ms w.ring.me) p.0).1)))
       (λ e. (made, o))
 
-  packets : (w : RingWork) (from j : ℕ) (p : RingPacket) → Ok before w → PacketOk before p → Well (packet_row w from j p)
-  unfolding packet_row
+  packets : (w : RingWork) (from j : ℕ) (p : RingPacket) → Ok before w → PacketOk before p → Well (packet_rule w from j p)
+  unfolding packet_rule
   packets w from j (Heartbeat id) o h = hears before w from id o
   packets w from j (Proclaim id) o h = answers before w from o
   packets w from j (Join ms) o h = joins before w from ms o
@@ -385,7 +385,7 @@ EventOk made (Packet from inc p) = PacketOk made p
 
 -- a step of a ring in the network
 pub stepped_ok : (s : RingSettings) (differ : AddressesDiffer s) (made : List Made) (r : Ring) (e : RingEvent) → Books s made → RingOk s made r → EventOk made e → (more : List Made) × WorkOk s r.me r.inc made more (ring_step r e)
-unfolding ring_step at_work ring_row
+unfolding ring_step at_work ring_rule
 stepped_ok s differ made r e books k ok = by e ok
   where
     begun : WorkOk s r.me r.inc made made (at_work r)
@@ -400,6 +400,6 @@ stepped_ok s differ made r e books k ok = by e ok
       set = tt;
     }
 
-    by : (e : RingEvent) → EventOk made e → (more : List Made) × WorkOk s r.me r.inc made more (ring_row (at_work r) e)
+    by : (e : RingEvent) → EventOk made e → (more : List Made) × WorkOk s r.me r.inc made more (ring_rule (at_work r) e)
     by Tick h = ticks s differ r.me r.inc made (at_work r) begun
     by (Packet from j p) h = packets s differ r.me r.inc made (at_work r) from j p begun h

@@ -118,15 +118,15 @@ buries r d = ring_leads r || (d == r.id.leader && crown_prince r == r.me)
 unfoldable pub death_counts : Ring → RingId → ℕ → Bool
 death_counts r id d = same_ring id r.id && not (d == r.me) && has_node r.members d && is_none r.gathering && buries r d
 
-unfoldable pub death_row : RingWork → RingId → ℕ → RingWork
-death_row w id d = elim (death_counts w.ring id d) [ true ↦ ring_gather w (without_node w.ring.members d) | false ↦ w ]
+unfoldable pub death_rule : RingWork → RingId → ℕ → RingWork
+death_rule w id d = elim (death_counts w.ring id d) [ true ↦ ring_gather w (without_node w.ring.members d) | false ↦ w ]
 
 -- who is to hear of the death
 unfoldable pub death_told_to : Ring → ℕ → ℕ
 death_told_to r d = elim (d == r.id.leader) [ true ↦ crown_prince r | false ↦ r.id.leader ]
 
 unfoldable pub tell_death : RingWork → ℕ → ℕ → RingWork
-tell_death w d to = elim (to == w.ring.me) [ true ↦ death_row w w.ring.id d | false ↦ ring_send w to (Death w.ring.id d) ]
+tell_death w d to = elim (to == w.ring.me) [ true ↦ death_rule w w.ring.id d | false ↦ ring_send w to (Death w.ring.id d) ]
 
 -- part 2 of a tick
 unfoldable pub ring_wait_on : RingWork → RingWork
@@ -159,16 +159,16 @@ ring_age w = ring_ages_of w w.ring.gathering
 unfoldable pub ring_tick : RingWork → RingWork
 ring_tick w = ring_age (ring_wait (ring_beat w))
 
-unfoldable pub heartbeat_row : RingWork → ℕ → RingId → RingWork
-heartbeat_row w from id =
+unfoldable pub heartbeat_rule : RingWork → ℕ → RingId → RingWork
+heartbeat_rule w from id =
     elim (same_ring id w.ring.id && is_shared w.ring && from == upstream w.ring) [ true ↦ record w { ring = record (w.ring) { silent = 0 } } | false ↦ w ]
 
 unfoldable pub answers_proclaim : Ring → ℕ → Bool
 answers_proclaim r from =
     ring_leads r && is_none r.gathering && not (has_node r.members from) && has_addr r.settings from && is_higher r.settings from r.me
 
-unfoldable pub proclaim_row : RingWork → ℕ → RingWork
-proclaim_row w from = elim (answers_proclaim w.ring from) [ true ↦ ring_send w from (Join w.ring.members) | false ↦ w ]
+unfoldable pub proclaim_rule : RingWork → ℕ → RingWork
+proclaim_rule w from = elim (answers_proclaim w.ring from) [ true ↦ ring_send w from (Join w.ring.members) | false ↦ w ]
 
 unfoldable pub is_lower : Ring → ℕ → Bool
 is_lower r n = has_addr r.settings n && is_higher r.settings r.me n
@@ -179,57 +179,57 @@ all_lower r ms = list_all (is_lower r) (nodes_of ms)
 unfoldable pub takes_join : Ring → ℕ → Mask → Bool
 takes_join r from ms = ring_leads r && is_none r.gathering && has_node ms from && all_lower r ms
 
-unfoldable pub join_row : RingWork → ℕ → Mask → RingWork
-join_row w from ms = elim (takes_join w.ring from ms) [ true ↦ ring_gather w (union_of w.ring.members ms) | false ↦ w ]
+unfoldable pub join_rule : RingWork → ℕ → Mask → RingWork
+join_rule w from ms = elim (takes_join w.ring from ms) [ true ↦ ring_gather w (union_of w.ring.members ms) | false ↦ w ]
 
 -- from the leader of that ring to a node asked for it, who has the highest address of the asked
 unfoldable pub may_promise : Ring → ℕ → ℕ → RingId → Mask → Bool
 may_promise r from inc id ms =
     id.leader == from && id.inc == inc && has_node ms r.me && has_node ms from && all_have_addr r.settings ms && is_highest r.settings from ms
 
-unfoldable pub ptc_row : RingWork → ℕ → ℕ → RingId → Mask → RingWork
-ptc_row w from inc id ms =
+unfoldable pub ptc_rule : RingWork → ℕ → ℕ → RingId → Mask → RingWork
+ptc_rule w from inc id ms =
     elim (may_promise w.ring from inc id ms) [
       | true ↦ ring_send (record w { ring = record (w.ring) { gathering = None; promised = Some id } }) from (PtcAck id)
       | false ↦ w
     ]
 
-unfoldable pub ack_row_of : RingWork → ℕ → RingId → Option Gathering → RingWork
-ack_row_of w from id None = w
-ack_row_of w from id (Some g) =
+unfoldable pub ack_rule_of : RingWork → ℕ → RingId → Option Gathering → RingWork
+ack_rule_of w from id None = w
+ack_rule_of w from id (Some g) =
     elim (same_ring g.gather.id id) [ true ↦ ring_gather_on w (record g { gather = gather_acked g.gather from }) | false ↦ w ]
 
-unfoldable pub ack_row : RingWork → ℕ → RingId → RingWork
-ack_row w from id = ack_row_of w from id w.ring.gathering
+unfoldable pub ack_rule : RingWork → ℕ → RingId → RingWork
+ack_rule w from id = ack_rule_of w from id w.ring.gathering
 
 unfoldable pub is_promised : Option RingId → RingId → Bool
 is_promised None id = false
 is_promised (Some p) id = same_ring p id
 
-unfoldable pub commit_row : RingWork → ℕ → RingId → Mask → RingWork
-commit_row w from id ms =
+unfoldable pub commit_rule : RingWork → ℕ → RingId → Mask → RingWork
+commit_rule w from id ms =
     elim (is_promised w.ring.promised id && has_node ms w.ring.me && from == id.leader) [ true ↦ ring_set w id ms | false ↦ w ]
 
 -- the table of packets
-unfoldable pub packet_row : RingWork → ℕ → ℕ → RingPacket → RingWork
-packet_row w from inc (Heartbeat id) = heartbeat_row w from id
-packet_row w from inc (Proclaim id) = proclaim_row w from
-packet_row w from inc (Join ms) = join_row w from ms
-packet_row w from inc (Ptc id ms) = ptc_row w from inc id ms
-packet_row w from inc (PtcAck id) = ack_row w from id
-packet_row w from inc (Commit id ms) = commit_row w from id ms
-packet_row w from inc (Death id d) = death_row w id d
+unfoldable pub packet_rule : RingWork → ℕ → ℕ → RingPacket → RingWork
+packet_rule w from inc (Heartbeat id) = heartbeat_rule w from id
+packet_rule w from inc (Proclaim id) = proclaim_rule w from
+packet_rule w from inc (Join ms) = join_rule w from ms
+packet_rule w from inc (Ptc id ms) = ptc_rule w from inc id ms
+packet_rule w from inc (PtcAck id) = ack_rule w from id
+packet_rule w from inc (Commit id ms) = commit_rule w from id ms
+packet_rule w from inc (Death id d) = death_rule w id d
 
-unfoldable pub ring_row : RingWork → RingEvent → RingWork
-ring_row w Tick = ring_tick w
-ring_row w (Packet from inc packet) = packet_row w from inc packet
+unfoldable pub ring_rule : RingWork → RingEvent → RingWork
+ring_rule w Tick = ring_tick w
+ring_rule w (Packet from inc packet) = packet_rule w from inc packet
 
 unfoldable pub at_work : Ring → RingWork
 at_work r = record { ring = r; sends = []; set = None }
 
 -- a step: the ring after it, what it sent, and the ring that it was set to
 unfoldable pub ring_step : Ring → RingEvent → RingWork
-ring_step r e = ring_row (at_work r) e
+ring_step r e = ring_rule (at_work r) e
 
 -- an adapter that starts is alone, in a ring of number 1
 unfoldable pub ring_new : ℕ → ℕ → ℕ → RingSettings → Ring
@@ -250,5 +250,5 @@ ring_new net me inc settings =
 
 -- opens each word of this file, for a computation
 unfoldable pub rings_opens : Unit {0}
-unfolding neighbour upstream crown_prince ring_leads is_shared patience ring_send ring_send_all ring_set ring_close ring_gathering next_ring ring_numbered ring_gather_on ring_gather ring_alone send_heartbeat ring_proclaim ring_beat buries death_counts death_row death_told_to tell_death ring_wait_on ring_wait ring_ages_of ring_age ring_tick heartbeat_row answers_proclaim proclaim_row is_lower all_lower takes_join join_row may_promise ptc_row ack_row_of ack_row is_promised commit_row packet_row ring_row at_work ring_step ring_new
+unfolding neighbour upstream crown_prince ring_leads is_shared patience ring_send ring_send_all ring_set ring_close ring_gathering next_ring ring_numbered ring_gather_on ring_gather ring_alone send_heartbeat ring_proclaim ring_beat buries death_counts death_rule death_told_to tell_death ring_wait_on ring_wait ring_ages_of ring_age ring_tick heartbeat_rule answers_proclaim proclaim_rule is_lower all_lower takes_join join_rule may_promise ptc_rule ack_rule_of ack_rule is_promised commit_rule packet_rule ring_rule at_work ring_step ring_new
 rings_opens = tt

@@ -4,7 +4,7 @@
 mod addresses;
 mod agreement;
 mod packet;
-mod packet_rows;
+mod packet_rules;
 mod ring;
 mod tick;
 mod work;

@@ -140,7 +140,7 @@ impl Ring {
             sends: List::new(alloc),
             set: None,
         };
-        work.row(alloc, event)?;
+        work.take_event(alloc, event)?;
         out.sends.append(&mut work.sends)?;
         out.set = work.set;
         *self = work.ring;

@@ -1,6 +1,6 @@
 //! A ring's tick.
 ghost use Rattle.std.specs.Prelude.{◌≡◌, ◌<◌, ◌^◌, OnOk};
-ghost use Rattle.adapter_ring.specs.Rings.{patience, send_heartbeat, ring_proclaim, ring_beat, buries, death_counts, death_row, death_told_to, tell_death, ring_wait_on, ring_wait, ring_age, ring_tick};
+ghost use Rattle.adapter_ring.specs.Rings.{patience, send_heartbeat, ring_proclaim, ring_beat, buries, death_counts, death_rule, death_told_to, tell_death, ring_wait_on, ring_wait, ring_age, ring_tick};
 
 use crate::packet::RingPacket;
 use crate::ring::{Gathering, Ring, RingSettings};
@@ -96,9 +96,9 @@ impl RingWork {
     }
 
     /// The ring without the dead node is gathered, where this node is to act on that.
-    #[tactic(auto, unfolding(crate::specs::Rings::death_row))]
-    pub(crate) fn death_row(&mut self, alloc: Global, id: RingId, dead: u8) -> Result<(), NoMemory>
-        ensures { OnOk result (self.new ≡ death_row self.old id dead) }
+    #[tactic(auto, unfolding(crate::specs::Rings::death_rule))]
+    pub(crate) fn death_rule(&mut self, alloc: Global, id: RingId, dead: u8) -> Result<(), NoMemory>
+        ensures { OnOk result (self.new ≡ death_rule self.old id dead) }
     {
         if !self.ring.death_counts(id, dead) {
             return Ok(());
@@ -111,7 +111,7 @@ impl RingWork {
         ensures { OnOk result (self.new ≡ tell_death self.old dead to) }
     {
         if to == self.ring.me {
-            return self.death_row(alloc, self.ring.id, dead);
+            return self.death_rule(alloc, self.ring.id, dead);
         }
         self.send(
             to,

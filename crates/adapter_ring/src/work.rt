@@ -1,6 +1,6 @@
 //! A ring at work: what it sends, and how it is gathered and set.
 ghost use Rattle.std.specs.Prelude.{◌≡◌, map, IfOk, OnOk};
-ghost use Rattle.adapter_ring.specs.Rings.{ring_send, ring_send_all, ring_set, ring_close, ring_gather_on, ring_gather, ring_alone, ring_row};
+ghost use Rattle.adapter_ring.specs.Rings.{ring_send, ring_send_all, ring_set, ring_close, ring_gather_on, ring_gather, ring_alone, ring_rule};
 
 use crate::packet::{RingEvent, RingPacket, RingSend};
 use crate::ring::{Gathering, Ring, RingSet};
@@ -144,13 +144,13 @@ impl RingWork {
         self.set_ring(id, Mask::empty().with(self.ring.me));
     }
 
-    #[tactic(auto, unfolding(crate::specs::Rings::ring_row))]
-    pub(crate) fn row(&mut self, alloc: Global, event: RingEvent) -> Result<(), NoMemory>
-        ensures { OnOk result (self.new ≡ ring_row self.old event) }
+    #[tactic(auto, unfolding(crate::specs::Rings::ring_rule))]
+    pub(crate) fn take_event(&mut self, alloc: Global, event: RingEvent) -> Result<(), NoMemory>
+        ensures { OnOk result (self.new ≡ ring_rule self.old event) }
     {
         match event {
             RingEvent::Tick => self.tick(alloc),
-            RingEvent::Packet { from, inc, packet } => self.packet_row(alloc, from, inc, packet),
+            RingEvent::Packet { from, inc, packet } => self.packet_rule(alloc, from, inc, packet),
         }
     }
 }

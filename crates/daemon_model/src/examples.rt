@@ -49,7 +49,7 @@ pub fn joins_pieces_in_any_order()
 /// Receives that fail are counted while they are in a row.
 #[tactic(auto, unfolding(crate::specs::Opens::all_opens))]
 pub fn counts_failed_receives()
-    ensures row { (daemon_after (1 ∷ []) (failed_at 0 ∷ failed_at 0 ∷ [])).failed ≡ 2 }
+    ensures rule { (daemon_after (1 ∷ []) (failed_at 0 ∷ failed_at 0 ∷ [])).failed ≡ 2 }
     ensures anew { (daemon_after (1 ∷ []) (failed_at 0 ∷ failed_at 0 ∷ quiet_at 0
         ∷ failed_at 0 ∷ [])).failed ≡ 1 }
 {}

@@ -1,4 +1,4 @@
--- Clients that come and go, and what the rows of a step hand to them.
+-- Clients that come and go, and what the rules of a step hand to them.
 use Rattle.std.proofs.Common.{◌≡◌, ℕ, zero, suc, ◌+◌, Bool, true, false, List, [], ◌∷◌, ◌++◌, length, Option, Some, None, Result, Ok, Err, IsTrue, refl, sym, ap, ◌∙◌, subst, append-nil, length-append, arith}
 use Rattle.std.specs.Prelude.{map, remove, is_none, fold}
 use Rattle.std.specs.List.{last_or}

@@ -30,7 +30,7 @@ unfolding stepped
 from_work f s e = refl
 
 module _ {C : Type 0} {script : C → Option (List (Option VoteItem))} {R : C → List Handed → Type 0} where
-  -- where these clients are there as the rows of the step begin
+  -- where these clients are there as the rules of the step begin
   is_step : {A B : List C → Audience → Type 0} {scripts : List (Option (List (Option VoteItem)))} (r : Running C) (n : NodeView C) (e : NodeEvent) (cs : List C)
       → ((x : Audience) → A r.node.clients x → Attend R script cs (attended (at_work r.node.core) e x))
       → ((x y : Audience) → A r.node.clients x → y.left ≡ (attended (at_work r.node.core) e x).left → Attend R script n.clients y → B n.clients y)

@@ -86,7 +86,7 @@ attended s (Calls c) x = audience_called s c x
 
 -- ---- a step
 
--- The rows of a step make t of s. What the records tell behind those of s, with the states that they make of those of
+-- The rules of a step make t of s. What the records tell behind those of s, with the states that they make of those of
 -- the groups, is handed to the clients: each to that whose it is.
 pub record RowsHand (s t : Core) (old new : Audience) : Type 0 where
   pub records : List Happened

@@ -84,11 +84,11 @@ pub fn send_packet<L: Link>(
     let mut pieces = Vec::new(alloc);
     if !cut(
         alloc,
+        &mut pieces,
         me,
         incarnation,
         *number,
         bytes.as_slice(),
-        &mut pieces,
     )? {
         return Ok(());
     }

@@ -67,15 +67,15 @@ Joins P Q W = (xs ys : List Handing) → P xs → Q ys → W (xs ++ ys)
 abbrev pub IsNothing : List Handing → Type 0
 IsNothing hs = hs ≡ []
 
--- t is what the row makes of s, for all answers that agree with those of the clients, which vote by these scripts.
--- What was handed to the clients is what the row's records tell, each to the client whose it is, with the state of its
+-- t is what the rule makes of s, for all answers that agree with those of the clients, which vote by these scripts.
+-- What was handed to the clients is what the rule's records tell, each to the client whose it is, with the state of its
 -- group after it, and P holds of it.
-pub record Does (scripts : List (Option (List (Option VoteItem)))) (P : List Handing → Type 0) (s t : Core) (row : Answering → Core) : Type 0 where
+pub record Does (scripts : List (Option (List (Option VoteItem)))) (P : List Handing → Type 0) (s t : Core) (rule : Answering → Core) : Type 0 where
   pub asked : List Question
   pub filled : AreFilled scripts s.sessions.sessions asked
   pub placed : Rise (length s.records) (length t.records) asked
   pub lives : t.sessions.sessions ≡ s.sessions.sessions
-  pub does : (f : Answering) → Agrees f asked → t ≡ row f
+  pub does : (f : Answering) → Agrees f asked → t ≡ rule f
   pub handings : List Handing
   pub told : handed_in t.records ≡ handed_in s.records ++ told_by handings
   pub owned : AreFor s.sessions handings
@@ -89,6 +89,6 @@ pub record Ready {C : Type 0} (s : Core) (clients : List C) : Type 0 where
   pub level : IsTrue (is_level s.sessions.level)
   pub aligned : length clients ≡ length s.sessions.sessions
 
--- what a row does where these clients answer, which stand for what they were handed
-abbrev pub RowDoes : {C : Type 0} → (C → Option (List (Option VoteItem))) → (C → List Handed → Type 0) → List C → List C → Core → Core → (Answering → Core) → Type 0
-RowDoes script stands_for old new s t row = Does (map script old) (Receive stands_for old new) s t row
+-- what a rule does where these clients answer, which stand for what they were handed
+abbrev pub RuleDoes : {C : Type 0} → (C → Option (List (Option VoteItem))) → (C → List Handed → Type 0) → List C → List C → Core → Core → (Answering → Core) → Type 0
+RuleDoes script stands_for old new s t rule = Does (map script old) (Receive stands_for old new) s t rule

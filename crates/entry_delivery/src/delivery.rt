@@ -11,7 +11,7 @@ ghost use Rattle.node_state.specs.State.{state_of, recorded_all, with_sessions};
 ghost use Rattle.node_state.specs.HandOn.{noted, ballot_sent, cast_sent_of, casts_sent, hand_on};
 ghost use Rattle.entry_delivery.specs.Telling.{heard_in, heard_handings, noted_handings};
 ghost use Rattle.entry_delivery.specs.Received.{Receive};
-ghost use Rattle.entry_delivery.specs.Doing.{Ready, RowDoes};
+ghost use Rattle.entry_delivery.specs.Doing.{Ready, RuleDoes};
 
 use crate::notes::{News, note_all, record_all_heard};
 use client_callbacks::{Callbacks, Filled};
@@ -187,7 +187,7 @@ pub fn hand_on<C: Callbacks>(
     requires state { entry.now.after.now ≡ state_of core.old entry.now.group.now }
     ensures ready { OnOk result (Ready core.new clients.new.items) }
     ensures scripts { OnOk result (KeepsScripts C.script clients.old.items clients.new.items) }
-    ensures does { OnOk result (RowDoes C.script C.stands_for clients.old.items clients.new.items
+    ensures does { OnOk result (RuleDoes C.script C.stands_for clients.old.items clients.new.items
         core.old core.new (λ f. hand_on f core.old to entry.now.group.now entry.now.place before.now
         entry.now.after.now entry.now.entry.now)) }
 {

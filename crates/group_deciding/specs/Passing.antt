@@ -18,11 +18,11 @@ AreThese hs xs = xs ≡ hs
 abbrev pub Before : (List Handing → Type 0) → List Handing → List Handing → Type 0
 Before P hs xs = (ys : List Handing) × P ys × (xs ≡ ys ++ hs)
 
--- t, and whether something has begun, is what the row makes of s, and P holds of what was handed to clients: what is
--- done next with these two is done with what the row makes of s
-pub record DoesPass (scripts : List (Option (List (Option VoteItem)))) (P : List Handing → Type 0) (s t : Core) (began : Bool) (row : Answering → Pass) : Type 0 where
-  pub next : (u : Core) (rest : Answering → Pass → Core) (hs : List Handing) → Does scripts (AreThese hs) t u (λ f. rest f (passed t began)) → Does scripts (Before P hs) s u (λ f. rest f (row f))
+-- t, and whether something has begun, is what the rule makes of s, and P holds of what was handed to clients: what is
+-- done next with these two is done with what the rule makes of s
+pub record DoesPass (scripts : List (Option (List (Option VoteItem)))) (P : List Handing → Type 0) (s t : Core) (began : Bool) (rule : Answering → Pass) : Type 0 where
+  pub next : (u : Core) (rest : Answering → Pass → Core) (hs : List Handing) → Does scripts (AreThese hs) t u (λ f. rest f (passed t began)) → Does scripts (Before P hs) s u (λ f. rest f (rule f))
 
 -- what a pass does where these clients answer, which stand for what they were handed
 abbrev pub PassDoes : {C : Type 0} → (C → Option (List (Option VoteItem))) → (C → List Handed → Type 0) → List C → List C → Core → Core → Bool → (Answering → Pass) → Type 0
-PassDoes script stands_for old new s t began row = DoesPass (map script old) (Receive stands_for old new) s t began row
+PassDoes script stands_for old new s t began rule = DoesPass (map script old) (Receive stands_for old new) s t began rule

@@ -4,7 +4,7 @@ ghost use Rattle.session_clients.specs.Clients.{KeepsScripts};
 ghost use Rattle.std.specs.List.{list_any};
 ghost use Rattle.rsct_packet.specs.Providers.{among};
 ghost use Rattle.group_attr.specs.Agree.{same_source};
-ghost use Rattle.entry_delivery.specs.Doing.{Does, RowDoes};
+ghost use Rattle.entry_delivery.specs.Doing.{Does, RuleDoes};
 ghost use Rattle.group_leading.specs.Working.{AtWork};
 ghost use Rattle.node_state.specs.Leading.{begins};
 ghost use Rattle.node_state.specs.Deciding.{keep_decision, expelled_by, has_other_source, is_no_member, collide_refusal, other_refusal, decide_change};
@@ -125,7 +125,7 @@ fn grant<C: Callbacks>(
     requires work { AtWork core.old clients.old.items }
     ensures work { OnOk result (AtWork core.new clients.new.items) }
     ensures scripts { OnOk result (KeepsScripts C.script clients.old.items clients.new.items) }
-    ensures does { OnOk result (RowDoes C.script C.stands_for clients.old.items clients.new.items
+    ensures does { OnOk result (RuleDoes C.script C.stands_for clients.old.items clients.new.items
         core.old core.new (λ f. begins f (keep_decision core.old group.now provider request None)
         group.now proposal.now phases)) }
 {
@@ -148,7 +148,7 @@ pub(crate) fn decide_change<C: Callbacks>(
     requires work { AtWork core.old clients.old.items }
     ensures work { OnOk result (AtWork core.new clients.new.items) }
     ensures scripts { OnOk result (KeepsScripts C.script clients.old.items clients.new.items) }
-    ensures does { OnOk result (RowDoes C.script C.stands_for clients.old.items clients.new.items
+    ensures does { OnOk result (RuleDoes C.script C.stands_for clients.old.items clients.new.items
         core.old core.new (λ f. decide_change f core.old group.now provider request phases
         proposal.now (other_refusal core.old group.now provider proposal.now))) }
 {

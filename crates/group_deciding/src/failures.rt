@@ -46,7 +46,7 @@ fn next_fallen(
     requires order { InNameOrder core.old.groups }
     requires state { state.now ≡ state_of core.old group.now }
     ensures out { IfOk result (λ out. out ≡ failures_chosen core.old group.now) }
-    ensures row { OnOk result (core.new ≡ failures_taken core.old group.now) }
+    ensures rule { OnOk result (core.new ≡ failures_taken core.old group.now) }
     ensures keeps { OnOk result (Keeps core.old core.new) }
 {
     let waiting = take_failures(core, alloc, group, state.attrs.batch)?;

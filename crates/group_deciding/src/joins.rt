@@ -126,7 +126,7 @@ fn next_joiners(
     ensures attrs { IfOk result (λ j. j.attrs ≡ chosen_attrs core.old group.now) }
     ensures ps { IfOk result (λ j. j.ps ≡ sourced core.old (chosen_attrs core.old group.now).source
         (chosen_joins core.old group.now)) }
-    ensures row { OnOk result (core.new ≡ joins_chosen core.old group.now) }
+    ensures rule { OnOk result (core.new ≡ joins_chosen core.old group.now) }
     ensures keeps { OnOk result (Keeps core.old core.new) }
 {
     let chosen = take_joins(core, alloc, group, state.attrs.batch)?;

@@ -1,7 +1,7 @@
 //! At level 2 an entry announces who passes the time limit in a tick.
 ghost use Rattle.std.specs.Prelude.{◌≡◌, IfOk, OnOk};
 ghost use Rattle.session_clients.specs.Clients.{KeepsScripts};
-ghost use Rattle.entry_delivery.specs.Doing.{RowDoes};
+ghost use Rattle.entry_delivery.specs.Doing.{RuleDoes};
 ghost use Rattle.group_leading.specs.Working.{AtWork};
 ghost use Rattle.node_state.specs.State.{led_of};
 ghost use Rattle.group_deciding.specs.LateVotes.{late_in, late_entry, appended_late};
@@ -64,7 +64,7 @@ pub fn announce<C: Callbacks>(
     requires work { AtWork core.old clients.old.items }
     ensures work { OnOk result (AtWork core.new clients.new.items) }
     ensures scripts { OnOk result (KeepsScripts C.script clients.old.items clients.new.items) }
-    ensures does { OnOk result (RowDoes C.script C.stands_for clients.old.items clients.new.items
+    ensures does { OnOk result (RuleDoes C.script C.stands_for clients.old.items clients.new.items
         core.old core.new (λ f. appended_late f core.old group.now
         (late_entry core.old group.now (led_of core.old group.now).tally))) }
 {

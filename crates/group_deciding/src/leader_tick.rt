@@ -1,7 +1,7 @@
 //! The part of a tick on what a node leads.
 ghost use Rattle.std.specs.Prelude.{◌≡◌, OnOk, false, fold, is_none};
 ghost use Rattle.session_clients.specs.Clients.{KeepsScripts};
-ghost use Rattle.entry_delivery.specs.Doing.{RowDoes};
+ghost use Rattle.entry_delivery.specs.Doing.{RuleDoes};
 ghost use Rattle.group_leading.specs.Working.{AtWork};
 ghost use Rattle.node_state.specs.State.{led_groups, led_of};
 ghost use Rattle.node_state.specs.Ticks.{tally_ticks, tick_group, tick_led};
@@ -35,7 +35,7 @@ fn tick_open<C: Callbacks>(
     requires opened { is_none (led_of core.old group.now).tally ≡ false }
     ensures work { OnOk result (AtWork core.new clients.new.items) }
     ensures scripts { OnOk result (KeepsScripts C.script clients.old.items clients.new.items) }
-    ensures does { OnOk result (RowDoes C.script C.stands_for clients.old.items clients.new.items
+    ensures does { OnOk result (RuleDoes C.script C.stands_for clients.old.items clients.new.items
         core.old core.new (λ f. tally_ticks f core.old group.now
         (led_of core.old group.now).tally)) }
 {
@@ -54,7 +54,7 @@ fn tick_phase<C: Callbacks>(
     requires work { AtWork core.old clients.old.items }
     ensures work { OnOk result (AtWork core.new clients.new.items) }
     ensures scripts { OnOk result (KeepsScripts C.script clients.old.items clients.new.items) }
-    ensures does { OnOk result (RowDoes C.script C.stands_for clients.old.items clients.new.items
+    ensures does { OnOk result (RuleDoes C.script C.stands_for clients.old.items clients.new.items
         core.old core.new (λ f. tally_ticks f core.old group.now
         (led_of core.old group.now).tally)) }
 {
@@ -74,7 +74,7 @@ fn tick_group<C: Callbacks>(
     requires work { AtWork core.old clients.old.items }
     ensures work { OnOk result (AtWork core.new clients.new.items) }
     ensures scripts { OnOk result (KeepsScripts C.script clients.old.items clients.new.items) }
-    ensures does { OnOk result (RowDoes C.script C.stands_for clients.old.items clients.new.items
+    ensures does { OnOk result (RuleDoes C.script C.stands_for clients.old.items clients.new.items
         core.old core.new (λ f. tick_group f core.old group.now)) }
 {
     tick_phase(core, clients, alloc, group)?;
@@ -92,7 +92,7 @@ fn tick_groups<C: Callbacks>(
     requires work { AtWork core.old clients.old.items }
     ensures work { OnOk result (AtWork core.new clients.new.items) }
     ensures scripts { OnOk result (KeepsScripts C.script clients.old.items clients.new.items) }
-    ensures does { OnOk result (RowDoes C.script C.stands_for clients.old.items clients.new.items
+    ensures does { OnOk result (RuleDoes C.script C.stands_for clients.old.items clients.new.items
         core.old core.new (λ f. fold (tick_group f) core.old names.now)) }
 {
     match names {
@@ -113,7 +113,7 @@ fn tick_each_led<C: Callbacks>(
     requires work { AtWork core.old clients.old.items }
     ensures work { OnOk result (AtWork core.new clients.new.items) }
     ensures scripts { OnOk result (KeepsScripts C.script clients.old.items clients.new.items) }
-    ensures does { OnOk result (RowDoes C.script C.stands_for clients.old.items clients.new.items
+    ensures does { OnOk result (RuleDoes C.script C.stands_for clients.old.items clients.new.items
         core.old core.new (λ f. fold (tick_group f) core.old (led_groups core.old))) }
 {
     let names = led_groups(core, alloc)?;
@@ -130,7 +130,7 @@ pub fn tick_led<C: Callbacks>(
     requires work { AtWork core.old clients.old.items }
     ensures work { OnOk result (AtWork core.new clients.new.items) }
     ensures scripts { OnOk result (KeepsScripts C.script clients.old.items clients.new.items) }
-    ensures does { OnOk result (RowDoes C.script C.stands_for clients.old.items clients.new.items
+    ensures does { OnOk result (RuleDoes C.script C.stands_for clients.old.items clients.new.items
         core.old core.new (λ f. tick_led f core.old)) }
 {
     if is_frozen(core) {

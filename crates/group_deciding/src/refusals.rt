@@ -58,7 +58,7 @@ pub fn refuse(
     request: u32,
     why: Why,
 ) -> Result<(), NoMemory>
-    ensures row { OnOk result (core.new ≡ refused core.old group.now provider request why) }
+    ensures rule { OnOk result (core.new ≡ refused core.old group.now provider request why) }
     ensures keeps { OnOk result (Keeps core.old core.new) }
 {
     keep_and_tell(core, alloc, group, provider, request, why)

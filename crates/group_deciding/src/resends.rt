@@ -48,7 +48,8 @@ fn send_entries(
     entries: List<Entry>,
 ) -> Result<(), NoMemory>
     requires { first + length entries < 2 ^ 32 }
-    ensures row { OnOk result (core.new ≡ entries_sent to group.now first stable entries core.old) }
+    ensures rule { OnOk result (core.new
+        ≡ entries_sent to group.now first stable entries core.old) }
     ensures keeps { OnOk result (Keeps core.old core.new) }
 {
     let mut place = first;
@@ -69,7 +70,7 @@ fn send_entries(
 /// Sends up to 16 entries of the group to a member, from the length on that it acknowledged.
 #[tactic(auto, unfolding(node_state::specs::Ticks::sent_again, node_state::specs::Ticks::list_sent_again, node_state::specs::State::row_of))]
 fn send_again(core: &mut Core, alloc: Global, group: &Name, to: u8) -> Result<(), NoMemory>
-    ensures row { OnOk result (core.new ≡ sent_again group.now core.old to) }
+    ensures rule { OnOk result (core.new ≡ sent_again group.now core.old to) }
     ensures keeps { OnOk result (Keeps core.old core.new) }
 {
     let Some(row) = row_of(&core.groups, group.bytes()) else {
@@ -86,7 +87,7 @@ fn send_again(core: &mut Core, alloc: Global, group: &Name, to: u8) -> Result<()
 
 /// Sends entries of the group to these members again.
 fn send_to_each(core: &mut Core, alloc: Global, group: &Name, nodes: &[u8]) -> Result<(), NoMemory>
-    ensures row { OnOk result (core.new ≡ fold (sent_again group.now) core.old nodes.now) }
+    ensures rule { OnOk result (core.new ≡ fold (sent_again group.now) core.old nodes.now) }
     ensures keeps { OnOk result (Keeps core.old core.new) }
 {
     for n in nodes {
@@ -97,7 +98,7 @@ fn send_to_each(core: &mut Core, alloc: Global, group: &Name, nodes: &[u8]) -> R
 
 /// Sends entries of the group to the other members again.
 pub fn send_to_others(core: &mut Core, alloc: Global, group: &Name) -> Result<(), NoMemory>
-    ensures row { OnOk result (core.new ≡ fold (sent_again group.now) core.old (others core.old)) }
+    ensures rule { OnOk result (core.new ≡ fold (sent_again group.now) core.old (others core.old)) }
     ensures keeps { OnOk result (Keeps core.old core.new) }
 {
     let nodes = others(core, alloc)?;

@@ -1,7 +1,7 @@
 //! The end of a step.
 ghost use Rattle.std.specs.Prelude.{◌≡◌, OnOk};
 ghost use Rattle.session_clients.specs.Clients.{KeepsScripts};
-ghost use Rattle.entry_delivery.specs.Doing.{RowDoes};
+ghost use Rattle.entry_delivery.specs.Doing.{RuleDoes};
 ghost use Rattle.group_leading.specs.Working.{AtWork};
 ghost use Rattle.node_state.specs.Ending.{passes, most_begun, end_step};
 
@@ -36,7 +36,7 @@ fn repeat<C: Callbacks>(
     requires work { AtWork core.old clients.old.items }
     ensures work { OnOk result (AtWork core.new clients.new.items) }
     ensures scripts { OnOk result (KeepsScripts C.script clients.old.items clients.new.items) }
-    ensures does { OnOk result (RowDoes C.script C.stands_for clients.old.items clients.new.items
+    ensures does { OnOk result (RuleDoes C.script C.stands_for clients.old.items clients.new.items
         core.old core.new (λ f. passes left most f core.old)) }
 {
     if left == 0 {
@@ -59,7 +59,7 @@ pub fn end_step<C: Callbacks>(
     requires work { AtWork core.old clients.old.items }
     ensures work { OnOk result (AtWork core.new clients.new.items) }
     ensures scripts { OnOk result (KeepsScripts C.script clients.old.items clients.new.items) }
-    ensures does { OnOk result (RowDoes C.script C.stands_for clients.old.items clients.new.items
+    ensures does { OnOk result (RuleDoes C.script C.stands_for clients.old.items clients.new.items
         core.old core.new (λ f. end_step f core.old)) }
 {
     if is_frozen(core) {

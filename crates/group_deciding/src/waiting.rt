@@ -24,7 +24,7 @@ pub fn take_failures(
     requires { InNameOrder core.old.groups }
     ensures taken { IfOk result (λ out. out.items
         ≡ next_failures batch (led_of core.old group.now).waiting) }
-    ensures row { OnOk result (core.new ≡ with_waiting core.old group.now (failures_left batch)) }
+    ensures rule { OnOk result (core.new ≡ with_waiting core.old group.now (failures_left batch)) }
 {
     let i = open(&mut core.groups, alloc, group)?;
     let row = &mut core.groups.rows[i];
@@ -43,7 +43,7 @@ pub fn take_joins(
     ensures taken { IfOk result (λ ps. ps.items ≡ next_joins batch
         (led_of core.old group.now).waiting) }
     ensures apart { IfOk result (λ ps. AreProviders ps.items) }
-    ensures row { OnOk result (core.new ≡ with_waiting core.old group.now (joins_left batch)) }
+    ensures rule { OnOk result (core.new ≡ with_waiting core.old group.now (joins_left batch)) }
 {
     let i = open(&mut core.groups, alloc, group)?;
     let row = &mut core.groups.rows[i];

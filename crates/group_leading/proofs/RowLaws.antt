@@ -1,4 +1,4 @@
--- Changes of one row of the table, and rows of the step with changes that ask no client.
+-- Changes of one row of the table, and rules of the step with changes that ask no client.
 use Rattle.std.proofs.Common.{◌≡◌, ℕ, List, [], ◌∷◌, length, Bool, Option, Some, None, is_some, Bor, Result, Ok, Err, refl, sym, ap, ◌∙◌}
 use Rattle.std.specs.List.{fold}
 use Rattle.std.specs.Option.{option_copied}

@@ -7,7 +7,7 @@ ghost use Rattle.node_state.specs.State.{state_of, fits_at_end, others, least_ac
 ghost use Rattle.node_state.specs.Sending.{send_all};
 ghost use Rattle.node_state.specs.Leading.{put_and_hand, appended, append_if_fits};
 ghost use Rattle.node_state.specs.HandOn.{hand_on};
-ghost use Rattle.entry_delivery.specs.Doing.{RowDoes};
+ghost use Rattle.entry_delivery.specs.Doing.{RuleDoes};
 ghost use Rattle.group_leading.specs.Appending.{sent_and_handed, append_finished};
 ghost use Rattle.group_leading.specs.Working.{AtWork};
 
@@ -76,7 +76,7 @@ fn hand<C: Callbacks>(
     requires state { after.now ≡ state_of core.old group.now }
     ensures work { OnOk result (AtWork core.new clients.new.items) }
     ensures scripts { OnOk result (KeepsScripts C.script clients.old.items clients.new.items) }
-    ensures does { OnOk result (RowDoes C.script C.stands_for clients.old.items clients.new.items
+    ensures does { OnOk result (RuleDoes C.script C.stands_for clients.old.items clients.new.items
         core.old core.new (λ f. hand_on f core.old to group.now place before.now after.now
         entry.now)) }
 {
@@ -106,7 +106,7 @@ fn hand_put<C: Callbacks>(
     requires work { AtWork core.old clients.old.items }
     ensures work { OnOk result (AtWork core.new clients.new.items) }
     ensures scripts { OnOk result (KeepsScripts C.script clients.old.items clients.new.items) }
-    ensures does { OnOk result (RowDoes C.script C.stands_for clients.old.items clients.new.items
+    ensures does { OnOk result (RuleDoes C.script C.stands_for clients.old.items clients.new.items
         core.old core.new (λ f. hand_on f core.old to group.now place before.now
         (state_of core.old group.now) entry.now)) }
 {
@@ -129,7 +129,7 @@ pub fn put_and_hand<C: Callbacks>(
     requires fits { IsTrue (fits_at_end core.old group.now entry.now) }
     ensures work { OnOk result (AtWork core.new clients.new.items) }
     ensures scripts { OnOk result (KeepsScripts C.script clients.old.items clients.new.items) }
-    ensures does { OnOk result (RowDoes C.script C.stands_for clients.old.items clients.new.items
+    ensures does { OnOk result (RuleDoes C.script C.stands_for clients.old.items clients.new.items
         core.old core.new (λ f. put_and_hand f core.old to group.now entry.now)) }
 {
     let place = len_of(core, group.bytes());
@@ -154,7 +154,7 @@ fn send_and_hand<C: Callbacks>(
     requires state { after.now ≡ state_of core.old group.now }
     ensures work { OnOk result (AtWork core.new clients.new.items) }
     ensures scripts { OnOk result (KeepsScripts C.script clients.old.items clients.new.items) }
-    ensures does { OnOk result (RowDoes C.script C.stands_for clients.old.items clients.new.items
+    ensures does { OnOk result (RuleDoes C.script C.stands_for clients.old.items clients.new.items
         core.old core.new (λ f. sent_and_handed f core.old group.now place before.now after.now
         entry.now)) }
 {
@@ -182,7 +182,7 @@ fn send_and_settle<C: Callbacks>(
     requires state { after.now ≡ state_of core.old group.now }
     ensures work { OnOk result (AtWork core.new clients.new.items) }
     ensures scripts { OnOk result (KeepsScripts C.script clients.old.items clients.new.items) }
-    ensures does { OnOk result (RowDoes C.script C.stands_for clients.old.items clients.new.items
+    ensures does { OnOk result (RuleDoes C.script C.stands_for clients.old.items clients.new.items
         core.old core.new (λ f. append_finished f core.old group.now place before.now entry.now)) }
 {
     send_and_hand(core, clients, alloc, group, place, entry, before, after)?;
@@ -203,7 +203,7 @@ fn finish_append<C: Callbacks>(
     requires work { AtWork core.old clients.old.items }
     ensures work { OnOk result (AtWork core.new clients.new.items) }
     ensures scripts { OnOk result (KeepsScripts C.script clients.old.items clients.new.items) }
-    ensures does { OnOk result (RowDoes C.script C.stands_for clients.old.items clients.new.items
+    ensures does { OnOk result (RuleDoes C.script C.stands_for clients.old.items clients.new.items
         core.old core.new (λ f. append_finished f core.old group.now place before.now entry.now)) }
 {
     let after = state_of(core, alloc, group.bytes())?;
@@ -222,7 +222,7 @@ pub fn append<C: Callbacks>(
     requires fits { IsTrue (fits_at_end core.old group.now entry.now) }
     ensures work { OnOk result (AtWork core.new clients.new.items) }
     ensures scripts { OnOk result (KeepsScripts C.script clients.old.items clients.new.items) }
-    ensures does { OnOk result (RowDoes C.script C.stands_for clients.old.items clients.new.items
+    ensures does { OnOk result (RuleDoes C.script C.stands_for clients.old.items clients.new.items
         core.old core.new (λ f. appended f core.old group.now entry.now)) }
 {
     let place = len_of(core, group.bytes());
@@ -242,7 +242,7 @@ pub fn append_if_fits<C: Callbacks>(
     requires work { AtWork core.old clients.old.items }
     ensures work { OnOk result (AtWork core.new clients.new.items) }
     ensures scripts { OnOk result (KeepsScripts C.script clients.old.items clients.new.items) }
-    ensures does { OnOk result (RowDoes C.script C.stands_for clients.old.items clients.new.items
+    ensures does { OnOk result (RuleDoes C.script C.stands_for clients.old.items clients.new.items
         core.old core.new (λ f. append_if_fits f core.old group.now entry.now
         (fits_at_end core.old group.now entry.now))) }
 {

@@ -3,7 +3,7 @@ ghost use Rattle.std.specs.Prelude.{◌≡◌, ◌&&◌, OnOk, IfOk, IsTrue};
 ghost use Rattle.session_clients.specs.Clients.{KeepsScripts};
 ghost use Rattle.node_state.specs.State.{fits_at_end, led_of, state_of};
 ghost use Rattle.node_state.specs.Leading.{tally_for, tally_opened, is_phase, closes_from, closes};
-ghost use Rattle.entry_delivery.specs.Doing.{RowDoes};
+ghost use Rattle.entry_delivery.specs.Doing.{RuleDoes};
 ghost use Rattle.node_groups.specs.Keeps.{Keeps};
 ghost use Rattle.group_leading.specs.Closing.{next_closing, goes_on, closed_with, closed_if, closed_where};
 ghost use Rattle.group_leading.specs.Working.{AtWork};
@@ -34,7 +34,7 @@ fn new_tally(core: &Core, alloc: Global, group: &Name) -> Result<Tally, NoMemory
 /// Opens the tally of the phase that runs.
 #[tactic(auto, unfolding(node_state::specs::Leading::tally_opened))]
 pub fn open_tally(core: &mut Core, alloc: Global, group: &Name) -> Result<(), NoMemory>
-    ensures row { OnOk result (core.new ≡ tally_opened core.old group.now) }
+    ensures rule { OnOk result (core.new ≡ tally_opened core.old group.now) }
     ensures keeps { OnOk result (Keeps core.old core.new) }
 {
     let tally = new_tally(core, alloc, group)?;
@@ -68,7 +68,7 @@ fn close_with<C: Callbacks>(
     ensures next { IfOk result (λ b. b ≡ is_phase entry.now) }
     ensures work { OnOk result (AtWork core.new clients.new.items) }
     ensures scripts { OnOk result (KeepsScripts C.script clients.old.items clients.new.items) }
-    ensures does { OnOk result (RowDoes C.script C.stands_for clients.old.items clients.new.items
+    ensures does { OnOk result (RuleDoes C.script C.stands_for clients.old.items clients.new.items
         core.old core.new (λ f. closed_with f core.old group.now entry.now (is_phase entry.now))) }
 {
     append(core, clients, alloc, group, entry)?;
@@ -94,7 +94,7 @@ fn close_if_fits<C: Callbacks>(
         (λ b. b ≡ (fits_at_end core.old group.now entry.now && is_phase entry.now)) }
     ensures work { OnOk result (AtWork core.new clients.new.items) }
     ensures scripts { OnOk result (KeepsScripts C.script clients.old.items clients.new.items) }
-    ensures does { OnOk result (RowDoes C.script C.stands_for clients.old.items clients.new.items
+    ensures does { OnOk result (RuleDoes C.script C.stands_for clients.old.items clients.new.items
         core.old core.new (λ f. closed_if f core.old group.now entry.now
         (fits_at_end core.old group.now entry.now))) }
 {
@@ -116,7 +116,7 @@ fn close_one<C: Callbacks>(
         (λ b. b ≡ goes_on core.old group.now (next_closing core.old group.now)) }
     ensures work { OnOk result (AtWork core.new clients.new.items) }
     ensures scripts { OnOk result (KeepsScripts C.script clients.old.items clients.new.items) }
-    ensures does { OnOk result (RowDoes C.script C.stands_for clients.old.items clients.new.items
+    ensures does { OnOk result (RuleDoes C.script C.stands_for clients.old.items clients.new.items
         core.old core.new (λ f. closed_where f core.old group.now
         (next_closing core.old group.now))) }
 {
@@ -137,7 +137,7 @@ fn close_from<C: Callbacks>(
     requires { AtWork core.old clients.old.items }
     ensures work { OnOk result (AtWork core.new clients.new.items) }
     ensures scripts { OnOk result (KeepsScripts C.script clients.old.items clients.new.items) }
-    ensures does { OnOk result (RowDoes C.script C.stands_for clients.old.items clients.new.items
+    ensures does { OnOk result (RuleDoes C.script C.stands_for clients.old.items clients.new.items
         core.old core.new (λ f. closes_from most f core.old group.now)) }
 {
     if most == 0 {
@@ -161,7 +161,7 @@ pub fn close<C: Callbacks>(
     requires work { AtWork core.old clients.old.items }
     ensures work { OnOk result (AtWork core.new clients.new.items) }
     ensures scripts { OnOk result (KeepsScripts C.script clients.old.items clients.new.items) }
-    ensures does { OnOk result (RowDoes C.script C.stands_for clients.old.items clients.new.items
+    ensures does { OnOk result (RuleDoes C.script C.stands_for clients.old.items clients.new.items
         core.old core.new (λ f. closes f core.old group.now)) }
 {
     close_from(core, clients, alloc, group, MAX_PHASES)

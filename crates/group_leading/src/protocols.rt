@@ -5,7 +5,7 @@ ghost use Rattle.proposal_core.specs.declared.entry.Entry.TheVariants as entry_k
 ghost use Rattle.proposal_core.specs.declared.proposal.Proposal.{Proposal};
 ghost use Rattle.node_state.specs.State.{fits_at_end};
 ghost use Rattle.node_state.specs.Leading.{appended, append_if_fits, tally_opened, closes, begin_many, begins};
-ghost use Rattle.entry_delivery.specs.Doing.{RowDoes};
+ghost use Rattle.entry_delivery.specs.Doing.{RuleDoes};
 ghost use Rattle.group_leading.specs.Working.{AtWork};
 
 use crate::entries::{append, append_if_fits};
@@ -30,7 +30,7 @@ fn open_phase<C: Callbacks>(
     requires fits { IsTrue (fits_at_end core.old group.now entry.now) }
     ensures work { OnOk result (AtWork core.new clients.new.items) }
     ensures scripts { OnOk result (KeepsScripts C.script clients.old.items clients.new.items) }
-    ensures does { OnOk result (RowDoes C.script C.stands_for clients.old.items clients.new.items
+    ensures does { OnOk result (RuleDoes C.script C.stands_for clients.old.items clients.new.items
         core.old core.new (λ f. closes f (tally_opened
         (appended f core.old group.now entry.now) group.now) group.now)) }
 {
@@ -51,7 +51,7 @@ fn open_if_fits<C: Callbacks>(
     ensures work { OnOk result (AtWork core.new clients.new.items) }
     ensures scripts { OnOk result (KeepsScripts C.script clients.old.items clients.new.items) }
     ensures does { (x : Proposal) → entry.now ≡ entry_kinds.Begin x
-        → OnOk result (RowDoes C.script C.stands_for clients.old.items clients.new.items core.old
+        → OnOk result (RuleDoes C.script C.stands_for clients.old.items clients.new.items core.old
         core.new (λ f. begin_many f core.old group.now x
         (fits_at_end core.old group.now (entry_kinds.Begin x)))) }
 {
@@ -72,7 +72,7 @@ fn begin_many<C: Callbacks>(
     requires work { AtWork core.old clients.old.items }
     ensures work { OnOk result (AtWork core.new clients.new.items) }
     ensures scripts { OnOk result (KeepsScripts C.script clients.old.items clients.new.items) }
-    ensures does { OnOk result (RowDoes C.script C.stands_for clients.old.items clients.new.items
+    ensures does { OnOk result (RuleDoes C.script C.stands_for clients.old.items clients.new.items
         core.old core.new (λ f. begin_many f core.old group.now proposal.now
         (fits_at_end core.old group.now (entry_kinds.Begin proposal.now)))) }
 {
@@ -91,7 +91,7 @@ fn begin_once<C: Callbacks>(
     requires work { AtWork core.old clients.old.items }
     ensures work { OnOk result (AtWork core.new clients.new.items) }
     ensures scripts { OnOk result (KeepsScripts C.script clients.old.items clients.new.items) }
-    ensures does { OnOk result (RowDoes C.script C.stands_for clients.old.items clients.new.items
+    ensures does { OnOk result (RuleDoes C.script C.stands_for clients.old.items clients.new.items
         core.old core.new (λ f. append_if_fits f core.old group.now (entry_kinds.Once proposal.now)
         (fits_at_end core.old group.now (entry_kinds.Once proposal.now)))) }
 {
@@ -112,7 +112,7 @@ pub fn begin<C: Callbacks>(
     requires work { AtWork core.old clients.old.items }
     ensures work { OnOk result (AtWork core.new clients.new.items) }
     ensures scripts { OnOk result (KeepsScripts C.script clients.old.items clients.new.items) }
-    ensures does { OnOk result (RowDoes C.script C.stands_for clients.old.items clients.new.items
+    ensures does { OnOk result (RuleDoes C.script C.stands_for clients.old.items clients.new.items
         core.old core.new (λ f. begins f core.old group.now proposal.now phases)) }
 {
     match phases {

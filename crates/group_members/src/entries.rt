@@ -1,7 +1,7 @@
 //! The entries that a leader sends to the members of its group.
 ghost use Rattle.std.specs.Prelude.{◌≡◌, OnOk, IsTrue, true, nat_lt};
 ghost use Rattle.session_clients.specs.Clients.{KeepsScripts};
-ghost use Rattle.entry_delivery.specs.Doing.{RowDoes};
+ghost use Rattle.entry_delivery.specs.Doing.{RuleDoes};
 ghost use Rattle.group_leading.specs.Working.{AtWork};
 ghost use Rattle.node_state.specs.declared.packet.Body.TheVariants as body;
 ghost use Rattle.node_state.specs.State.{len_of, fits_at_end, forget_below, set_leader};
@@ -61,7 +61,7 @@ fn put_next<C: Callbacks>(
     requires fits { IsTrue (fits_at_end core.old group.now entry.now) }
     ensures work { OnOk result (AtWork core.new clients.new.items) }
     ensures scripts { OnOk result (KeepsScripts C.script clients.old.items clients.new.items) }
-    ensures does { OnOk result (RowDoes C.script C.stands_for clients.old.items clients.new.items
+    ensures does { OnOk result (RuleDoes C.script C.stands_for clients.old.items clients.new.items
         core.old core.new (λ f. entry_next f core.old from group.now stable entry.now true)) }
 {
     put_and_hand(core, clients, alloc, Some(from), group, entry)?;
@@ -106,7 +106,7 @@ pub fn take_entry<C: Callbacks>(
     requires work { AtWork core.old clients.old.items }
     ensures work { OnOk result (AtWork core.new clients.new.items) }
     ensures scripts { OnOk result (KeepsScripts C.script clients.old.items clients.new.items) }
-    ensures does { OnOk result (RowDoes C.script C.stands_for clients.old.items clients.new.items
+    ensures does { OnOk result (RuleDoes C.script C.stands_for clients.old.items clients.new.items
         core.old core.new (λ f. take_entry f core.old from group.now place stable entry.now)) }
 {
     if place != len_of(core, group.bytes()) {

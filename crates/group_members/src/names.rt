@@ -6,7 +6,7 @@ ghost use Rattle.std.specs.Option.{unwrap_or};
 ghost use Rattle.client_callbacks.specs.declared.told.Why.TheVariants.{GroupsFull};
 ghost use Rattle.session_state.specs.declared.state.Request.{Request};
 ghost use Rattle.name_server.specs.Names.{looked_up, lookup};
-ghost use Rattle.entry_delivery.specs.Doing.{RowDoes};
+ghost use Rattle.entry_delivery.specs.Doing.{RuleDoes};
 ghost use Rattle.node_groups.specs.Keeps.{Keeps};
 ghost use Rattle.group_leading.specs.Working.{AtWork};
 ghost use Rattle.node_state.specs.declared.packet.Body.TheVariants as body;
@@ -59,7 +59,7 @@ pub fn send_name(
 /// LOOKUP: the coordinator answers with the leader of the table of names, 0 where that is full.
 #[tactic(auto, unfolding(node_state::specs::Following::take_lookup))]
 pub fn take_lookup(core: &mut Core, alloc: Global, from: u8, group: &Name) -> Result<(), NoMemory>
-    ensures row { OnOk result (core.new ≡ take_lookup core.old from group.now) }
+    ensures rule { OnOk result (core.new ≡ take_lookup core.old from group.now) }
     ensures keeps { OnOk result (Keeps core.old core.new) }
 {
     if !coordinates(core) {
@@ -104,7 +104,7 @@ fn refuse_requests<C: Callbacks>(
     requires aligned { length clients.old.items ≡ length core.old.sessions.sessions }
     ensures aligned { OnOk result (length clients.new.items ≡ length core.new.sessions.sessions) }
     ensures scripts { OnOk result (KeepsScripts C.script clients.old.items clients.new.items) }
-    ensures does { OnOk result (RowDoes C.script C.stands_for clients.old.items clients.new.items
+    ensures does { OnOk result (RuleDoes C.script C.stands_for clients.old.items clients.new.items
         core.old core.new (λ f. fold (λ t (q : Request). take_tell t q.p q.r (GroupsFull 64))
         core.old (requests_of core.old group.now))) }
 {
@@ -115,7 +115,7 @@ fn refuse_requests<C: Callbacks>(
 /// Keeps the leader of the group, and sends it the outstanding requests.
 #[tactic(auto, using(crate::proofs::NameLaws::requests_led))]
 fn know_leader(core: &mut Core, alloc: Global, group: &Name, leader: u8) -> Result<(), NoMemory>
-    ensures row { OnOk result (core.new ≡ fold send_request (set_leader core.old group.now leader)
+    ensures rule { OnOk result (core.new ≡ fold send_request (set_leader core.old group.now leader)
         (requests_of core.old group.now)) }
     ensures keeps { OnOk result (Keeps core.old core.new) }
 {
@@ -134,7 +134,7 @@ pub fn take_name<C: Callbacks>(
     requires work { AtWork core.old clients.old.items }
     ensures work { OnOk result (AtWork core.new clients.new.items) }
     ensures scripts { OnOk result (KeepsScripts C.script clients.old.items clients.new.items) }
-    ensures does { OnOk result (RowDoes C.script C.stands_for clients.old.items clients.new.items
+    ensures does { OnOk result (RuleDoes C.script C.stands_for clients.old.items clients.new.items
         core.old core.new (λ f. take_name core.old group.now node)) }
 {
     if !is_name_used(core, group.bytes(), node) {

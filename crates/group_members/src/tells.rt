@@ -6,7 +6,7 @@ ghost use Rattle.session_state.specs.State.{outstanding};
 ghost use Rattle.session_state.specs.HandOn.{is_numbered, take_telling};
 ghost use Rattle.session_clients.specs.Clients.{StandFor, KeepsScripts};
 ghost use Rattle.session_clients.specs.Notices.{told_lists};
-ghost use Rattle.entry_delivery.specs.Doing.{RowDoes};
+ghost use Rattle.entry_delivery.specs.Doing.{RuleDoes};
 ghost use Rattle.group_leading.specs.Working.{AtWork};
 ghost use Rattle.node_state.specs.Following.{take_tell};
 
@@ -69,7 +69,7 @@ fn tell<C: Callbacks>(
     requires aligned { length clients.old.items ≡ length core.old.sessions.sessions }
     ensures aligned { OnOk result (length clients.new.items ≡ length core.new.sessions.sessions) }
     ensures scripts { OnOk result (KeepsScripts C.script clients.old.items clients.new.items) }
-    ensures does { OnOk result (RowDoes C.script C.stands_for clients.old.items clients.new.items
+    ensures does { OnOk result (RuleDoes C.script C.stands_for clients.old.items clients.new.items
         core.old core.new (λ f. take_tell core.old provider request why)) }
 {
     if !is_outstanding(&core.sessions, provider, request) {
@@ -93,7 +93,7 @@ pub(crate) fn tell_each<C: Callbacks>(
     requires aligned { length clients.old.items ≡ length core.old.sessions.sessions }
     ensures aligned { OnOk result (length clients.new.items ≡ length core.new.sessions.sessions) }
     ensures scripts { OnOk result (KeepsScripts C.script clients.old.items clients.new.items) }
-    ensures does { OnOk result (RowDoes C.script C.stands_for clients.old.items clients.new.items
+    ensures does { OnOk result (RuleDoes C.script C.stands_for clients.old.items clients.new.items
         core.old core.new (λ f. fold (λ t x. take_tell t x.0 x.1 why) core.old requests.now)) }
 {
     for (p, r) in requests {
@@ -114,7 +114,7 @@ pub fn take_tell<C: Callbacks>(
     requires work { AtWork core.old clients.old.items }
     ensures work { OnOk result (AtWork core.new clients.new.items) }
     ensures scripts { OnOk result (KeepsScripts C.script clients.old.items clients.new.items) }
-    ensures does { OnOk result (RowDoes C.script C.stands_for clients.old.items clients.new.items
+    ensures does { OnOk result (RuleDoes C.script C.stands_for clients.old.items clients.new.items
         core.old core.new (λ f. take_tell core.old provider request why)) }
 {
     tell(core, clients, provider, request, why)

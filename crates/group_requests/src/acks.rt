@@ -26,7 +26,7 @@ pub fn take_ack(
     group: &Name,
     len: u32,
 ) -> Result<(), NoMemory>
-    ensures row { OnOk result (core.new ≡ take_ack core.old from group.now len) }
+    ensures rule { OnOk result (core.new ≡ take_ack core.old from group.now len) }
     ensures keeps { OnOk result (Keeps core.old core.new) }
 {
     if !leads(core, group.bytes()) || len > len_of(core, group.bytes()) {

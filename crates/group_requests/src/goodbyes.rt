@@ -3,7 +3,7 @@ ghost use Rattle.std.specs.Prelude.{◌≡◌, OnOk, false};
 ghost use Rattle.session_clients.specs.Clients.{KeepsScripts};
 ghost use Rattle.rsct_packet.specs.Providers.{among};
 ghost use Rattle.proposal_core.specs.Fold.{joiners_in, present};
-ghost use Rattle.entry_delivery.specs.Doing.{RowDoes};
+ghost use Rattle.entry_delivery.specs.Doing.{RuleDoes};
 ghost use Rattle.node_groups.specs.Keeps.{Keeps};
 ghost use Rattle.group_leading.specs.Working.{AtWork};
 ghost use Rattle.node_state.specs.State.{InNameOrder, led_of, state_of};
@@ -68,7 +68,7 @@ fn fail_vote<C: Callbacks>(
     requires work { AtWork core.old clients.old.items }
     ensures work { OnOk result (AtWork core.new clients.new.items) }
     ensures scripts { OnOk result (KeepsScripts C.script clients.old.items clients.new.items) }
-    ensures does { OnOk result (RowDoes C.script C.stands_for clients.old.items clients.new.items
+    ensures does { OnOk result (RuleDoes C.script C.stands_for clients.old.items clients.new.items
         core.old core.new (λ f. tally_failed f core.old group.now provider
         (led_of core.old group.now).tally)) }
 {
@@ -106,7 +106,7 @@ fn leave<C: Callbacks>(
     requires work { AtWork core.old clients.old.items }
     ensures work { OnOk result (AtWork core.new clients.new.items) }
     ensures scripts { OnOk result (KeepsScripts C.script clients.old.items clients.new.items) }
-    ensures does { OnOk result (RowDoes C.script C.stands_for clients.old.items clients.new.items
+    ensures does { OnOk result (RuleDoes C.script C.stands_for clients.old.items clients.new.items
         core.old core.new (λ f. gone_present f core.old group.now provider)) }
 {
     mark_gone(core, alloc, group, provider)?;
@@ -122,7 +122,7 @@ fn drop_waiting(
     provider: ProviderId,
 ) -> Result<(), NoMemory>
     requires order { InNameOrder core.old.groups }
-    ensures row { OnOk result ((f : Answering) → core.new
+    ensures rule { OnOk result ((f : Answering) → core.new
         ≡ gone_of f core.old group.now provider false
         (among (led_of core.old group.now).waiting.joins provider)) }
     ensures keeps { OnOk result (Keeps core.old core.new) }
@@ -144,7 +144,7 @@ pub fn take_gone<C: Callbacks>(
     requires work { AtWork core.old clients.old.items }
     ensures work { OnOk result (AtWork core.new clients.new.items) }
     ensures scripts { OnOk result (KeepsScripts C.script clients.old.items clients.new.items) }
-    ensures does { OnOk result (RowDoes C.script C.stands_for clients.old.items clients.new.items
+    ensures does { OnOk result (RuleDoes C.script C.stands_for clients.old.items clients.new.items
         core.old core.new (λ f. take_gone f core.old group.now provider)) }
 {
     if !leads(core, group.bytes()) {

@@ -2,7 +2,7 @@
 ghost use Rattle.std.specs.Prelude.{◌≡◌, ◌&&◌, IfOk, OnOk, option_copied};
 ghost use Rattle.session_clients.specs.Clients.{KeepsScripts};
 ghost use Rattle.proposal_core.specs.Fold.{runs};
-ghost use Rattle.entry_delivery.specs.Doing.{Does, RowDoes};
+ghost use Rattle.entry_delivery.specs.Doing.{Does, RuleDoes};
 ghost use Rattle.group_leading.specs.Working.{AtWork};
 ghost use Rattle.node_state.specs.State.{leads, state_of};
 ghost use Rattle.node_state.specs.Following.{take_vote};
@@ -49,7 +49,7 @@ pub fn take_vote<C: Callbacks>(
     requires work { AtWork core.old clients.old.items }
     ensures work { OnOk result (AtWork core.new clients.new.items) }
     ensures scripts { OnOk result (KeepsScripts C.script clients.old.items clients.new.items) }
-    ensures does { OnOk result (RowDoes C.script C.stands_for clients.old.items clients.new.items
+    ensures does { OnOk result (RuleDoes C.script C.stands_for clients.old.items clients.new.items
         core.old core.new (λ f. take_vote f core.old group.now proto phase provider vote
         (option_copied value.entry) (option_copied message.entry))) }
 {

@@ -22,7 +22,7 @@ fn pieces_of(
     requires { sender ≤ 32 }
 {
     let mut pieces = Vec::new(alloc);
-    cut(alloc, sender, 1, number, message, &mut pieces)?;
+    cut(alloc, &mut pieces, sender, 1, number, message)?;
     Ok(pieces)
 }
 
@@ -180,7 +180,7 @@ fn a_newer_message_takes_the_place(rt: HostRuntime) -> Result<(), Fail> {
 fn a_status_client_is_answered_each_time(rt: HostRuntime) -> Result<(), Fail> {
     let alloc = rt.alloc();
     let mut pieces = Vec::new(alloc);
-    assert!(rt; cut(alloc, 0, 0, 1, b"asked", &mut pieces)?);
+    assert!(rt; cut(alloc, &mut pieces, 0, 0, 1, b"asked")?);
     assert!(rt; pieces.len() == 1);
     let mut joiner = Joiner::new();
     for turn in 0..2 {
@@ -197,11 +197,11 @@ fn a_status_client_is_answered_each_time(rt: HostRuntime) -> Result<(), Fail> {
 fn cuts_no_empty_message_and_none_too_long(rt: HostRuntime) -> Result<(), Fail> {
     let alloc = rt.alloc();
     let mut pieces = Vec::new(alloc);
-    assert!(rt; !cut(alloc, 1, 1, 1, b"", &mut pieces)?);
+    assert!(rt; !cut(alloc, &mut pieces, 1, 1, 1, b"")?);
     let longer = message_of(alloc, LONGEST_MESSAGE + 1, 0)?;
-    assert!(rt; !cut(alloc, 1, 1, 1, longer.as_slice(), &mut pieces)?);
+    assert!(rt; !cut(alloc, &mut pieces, 1, 1, 1, longer.as_slice())?);
     assert!(rt; pieces.is_empty());
-    assert!(rt; cut(alloc, 1, 1, 1, b"one", &mut pieces)?);
+    assert!(rt; cut(alloc, &mut pieces, 1, 1, 1, b"one")?);
     assert!(rt; pieces.len() == 1);
     let (head, text) = read_piece(pieces[0].as_slice()).ok_or("no piece")?;
     assert!(rt; head.index == 0 && head.count == 1);

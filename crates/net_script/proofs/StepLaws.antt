@@ -4,7 +4,7 @@ use Rattle.session_state.specs.declared.state.Session.{Session}
 use Rattle.session_clients.specs.Notices.{FillTheirScripts}
 use Rattle.node_state.specs.declared.state.Core.{Core}
 use Rattle.node_state.specs.HandOn.{Answering}
-use Rattle.node_state.specs.Step.{NodeEvent, at_work, event_row, stepped}
+use Rattle.node_state.specs.Step.{NodeEvent, at_work, event_rule, stepped}
 use Rattle.entry_delivery.specs.Received.{Handing}
 use Rattle.entry_delivery.specs.Doing.{Does}
 use Rattle.group_leading.proofs.AnswerLaws.{does_some}
@@ -20,7 +20,7 @@ use Rattle.net_script.proofs.VoteLaws.{scripts_agree}
 
 from_work : (f : Answering) (s t : Core) (e : NodeEvent) → at_work s ≡ at_work t → stepped f s e ≡ stepped f t e
 unfolding stepped
-from_work f s t e h = ap (λ u. event_row f u e) h
+from_work f s t e h = ap (λ u. event_rule f u e) h
 
 -- a row that is done by clients that vote by these scripts is what the definition gives
 does_by_scripts : FillTheirScripts → (scripts : List Script) (P : List Handing → Type 0) (s t : Core) (row : Answering → Core) → Does (votes_in Some scripts s.sessions.sessions) P s t row → t ≡ row (by_scripts scripts)

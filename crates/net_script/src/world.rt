@@ -54,8 +54,8 @@ impl<C: Made> World<C> {
         post_all(
             &mut self.packets,
             &mut self.kept,
-            self.limit,
             alloc,
+            self.limit,
             left.sends.as_slice(),
         )?;
         out.append(&mut left.records)?;

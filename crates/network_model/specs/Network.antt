@@ -5,7 +5,7 @@ use Rattle.hags_io.specs.declared.link.LinkCall.TheVariants as call
 use Rattle.node_state.specs.declared.config.Config.{Config}
 use Rattle.node_state.specs.declared.happened.Happened.{Happened}
 use Rattle.node_state.specs.declared.happened.Happened.TheVariants as happened
-use Rattle.step_refinement.specs.Rows.{at_node}
+use Rattle.step_refinement.specs.Rules.{at_node}
 use Rattle.daemon_model.specs.Daemon.{Daemon, Opening, Turn, begun, opened, turned}
 
 -- what happens in a network: the daemon of a node starts, in an incarnation and at a moment; it carries out a call of its

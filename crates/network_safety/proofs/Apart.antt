@@ -7,7 +7,7 @@ use Rattle.node_state.specs.declared.config.Config.{Config}
 use Rattle.node_state.specs.declared.happened.Happened.{Happened}
 use Rattle.node_state.specs.declared.happened.Happened.TheVariants as happened
 use Rattle.node_state.specs.Step.{started}
-use Rattle.step_refinement.specs.Rows.{at_node}
+use Rattle.step_refinement.specs.Rules.{at_node}
 use Rattle.step_refinement.proofs.Changed.{set_here, set_there}
 use Rattle.daemon_model.specs.Daemon.{Daemon, Opening, Turn, begun, opened, opened_all, turned, turned_all, lived}
 use Rattle.network_model.specs.Network.{Act, Begins, Opens, Turns, Ends, Net, no_net, noted_since, went_on, starts, ends, idles, begins, does_if, acted}

@@ -4,7 +4,7 @@ use Rattle.std.specs.Prelude.{◌==◌, if◌then◌else◌}
 use Rattle.std.proofs.Math.Seq.{drop-append_seam}
 use Rattle.hags_io.specs.declared.link.LinkCall.{LinkCall}
 use Rattle.node_state.specs.declared.happened.Happened.{Happened}
-use Rattle.step_refinement.specs.Rows.{at_node}
+use Rattle.step_refinement.specs.Rules.{at_node}
 use Rattle.daemon_model.specs.Daemon.{Daemon}
 use Rattle.network_safety.proofs.Messages.{datagrams_both}
 use Rattle.network_model.specs.Network.{Net, datagrams_of, sent_since, noted_since, went_on}

@@ -14,7 +14,7 @@ use Rattle.node_state.specs.Sending.{packet_on, send_on}
 use Rattle.node_state.specs.Status.{status_text}
 use Rattle.node_state.specs.HandOn.{Answering}
 use Rattle.node_state.specs.Ending.{end_step}
-use Rattle.node_state.specs.Step.{NodeEvent, Given, Garbage, at_work, started, stepped, take_body, packet_row}
+use Rattle.node_state.specs.Step.{NodeEvent, Given, Garbage, at_work, started, stepped, take_body, packet_rule}
 use Rattle.provider_laws.proofs.resting.Orderly.{Orderly, alike}
 use Rattle.provider_laws.proofs.resting.Onward.{bones_of, led_same}
 use Rattle.provider_laws.proofs.resting.Trying.{Rest, rest_on}
@@ -92,7 +92,7 @@ other_quiet f s p false talk = nothing s
 
 -- a packet that talks, or is for another node
 pub given_quiet : (f : Answering) (s : Core) (p : Packet) → Resting s → ((p.to == s.views.me) ≡ true → IsTalk p.body) → IsQuiet s (stepped f s (Given p))
-unfolding packet_row
+unfolding packet_rule
 given_quiet f s p k talk =
-    let q : IsQuiet s (packet_row f (at_work s) p) = other_quiet f s p (p.to == s.views.me) talk in
-    subst (IsQuiet s) (sym (stepped_is f s (Given p) ∙ rests_quiet f s (packet_row f (at_work s) p) k q)) q
+    let q : IsQuiet s (packet_rule f (at_work s) p) = other_quiet f s p (p.to == s.views.me) talk in
+    subst (IsQuiet s) (sym (stepped_is f s (Given p) ∙ rests_quiet f s (packet_rule f (at_work s) p) k q)) q

@@ -18,7 +18,7 @@ use Rattle.world_model.specs.World.{Node, World, is_node}
 use Rattle.world_laws.proofs.world_runs.Backwards.{reversed}
 use Rattle.world_laws.specs.world_answers.Answers.{Answered, goes_on, events_in, answered_after}
 use Rattle.step_refinement.specs.Tied.{Scene, NodeIsIf, Rests}
-use Rattle.step_refinement.specs.Rows.{at_node, ended, Arises}
+use Rattle.step_refinement.specs.Rules.{at_node, ended, Arises}
 use Rattle.step_refinement.specs.Runs.{Reached, Steps}
 use Rattle.step_refinement.proofs.Changed.{set_here, each_set}
 use Rattle.step_refinement.proofs.RunLaw.{reached_rests}

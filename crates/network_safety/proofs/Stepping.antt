@@ -12,7 +12,7 @@ use Rattle.node_state.specs.Bytes.{packet_of, bytes_of}
 use Rattle.node_state.specs.Step.{NodeEvent, at_work, stepped}
 use Rattle.world_model.specs.World.{World}
 use Rattle.world_laws.specs.world_answers.Answers.{Answered, goes_on}
-use Rattle.step_refinement.specs.Rows.{at_node}
+use Rattle.step_refinement.specs.Rules.{at_node}
 use Rattle.step_refinement.proofs.Changed.{set_here, each_set}
 use Rattle.world_safety.specs.Events.{MayHappen}
 use Rattle.world_safety.specs.Mirrors.{core_at, inc_at}

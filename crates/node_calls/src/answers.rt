@@ -15,7 +15,7 @@ use std::alloc::Global;
 /// Records that a call is refused. Want of memory is no refusal, and is handed on.
 #[tactic(auto, unfolding(node_state::specs::Calls::refuse_call, node_state::specs::State::recorded), using(crate::proofs::CallLaws::refused_keeps))]
 pub fn refuse(core: &mut Core, alloc: Global, client: &[u8], fault: GsFault) -> Result<(), NoMemory>
-    ensures row { OnOk result (core.new ≡ refuse_call core.old client.now fault) }
+    ensures rule { OnOk result (core.new ≡ refuse_call core.old client.now fault) }
     ensures refusal { OnOk result (¬ (fault ≡ GsFault.NoMemory)) }
     ensures keeps { OnOk result (Stays core.old core.new) }
 {
@@ -37,7 +37,7 @@ pub fn change<X: Drop>(
     client: &[u8],
     answer: Result<X, GsFault>,
 ) -> Result<(), NoMemory>
-    ensures row { (s : Core) (r : Result SessionState GsFault)
+    ensures rule { (s : Core) (r : Result SessionState GsFault)
         → Answers answer s.sessions core.old.sessions r
         → core.old ≡ with_sessions s core.old.sessions
         → OnOk result (core.new ≡ changed s client.now r) }

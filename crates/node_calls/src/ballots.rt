@@ -20,7 +20,7 @@ use std::alloc::Global;
 /// Records a kept ballot, where it is filled.
 #[tactic(auto, unfolding(node_state::specs::Calls::record_ballot, node_state::specs::State::recorded), using(crate::proofs::CallLaws::ballot_recorded_keeps))]
 fn record_ballot(core: &mut Core, alloc: Global, kept: &KeptBallot) -> Result<(), NoMemory>
-    ensures row { OnOk result (core.new ≡ record_ballot core.old kept.now kept.now.ballot.filled) }
+    ensures rule { OnOk result (core.new ≡ record_ballot core.old kept.now kept.now.ballot.filled) }
     ensures keeps { OnOk result (Stays core.old core.new) }
 {
     match kept.ballot.filled() {
@@ -42,7 +42,7 @@ fn record_ballot(core: &mut Core, alloc: Global, kept: &KeptBallot) -> Result<()
 /// Records the ballot that was kept last, and sends it where the node is not frozen.
 #[tactic(auto, unfolding(node_state::specs::Calls::cast_last, node_state::specs::Calls::ballot_sent_if), using(crate::proofs::CallLaws::last_there))]
 fn cast_last(core: &mut Core, alloc: Global) -> Result<(), NoMemory>
-    ensures row { OnOk result (core.new ≡ cast_last core.old
+    ensures rule { OnOk result (core.new ≡ cast_last core.old
         (last_or None core.old.sessions.kept)) }
     ensures keeps { OnOk result (Stays core.old core.new) }
 {
@@ -65,7 +65,7 @@ pub fn give_ballot(
     client: &[u8],
     answer: Result<(), GsFault>,
 ) -> Result<(), NoMemory>
-    ensures row { (s : Core) (r : Result SessionState GsFault)
+    ensures rule { (s : Core) (r : Result SessionState GsFault)
         → Answers answer s.sessions core.old.sessions r
         → core.old ≡ with_sessions s core.old.sessions
         → OnOk result (core.new ≡ give_ballot s client.now r) }

@@ -45,7 +45,7 @@ fn join(
     instance: u16,
     attrs: &Attrs,
 ) -> Result<(), NoMemory>
-    ensures row { OnOk result (core.new ≡ proposed core.old client.now
+    ensures rule { OnOk result (core.new ≡ proposed core.old client.now
         (joined core.old.sessions (client_token core.old.sessions client.now) group.now instance
         attrs.now)) }
     ensures keeps { OnOk result (Stays core.old core.new) }
@@ -63,7 +63,7 @@ fn leave(
     group: &[u8],
     phases: Phases,
 ) -> Result<(), NoMemory>
-    ensures row { OnOk result (core.new ≡ proposed core.old client.now
+    ensures rule { OnOk result (core.new ≡ proposed core.old client.now
         (left core.old.sessions (caller core.old.sessions client.now group.now) phases)) }
     ensures keeps { OnOk result (Stays core.old core.new) }
 {
@@ -80,7 +80,7 @@ fn expel(
     phases: Phases,
     out: &[ProviderId],
 ) -> Result<(), NoMemory>
-    ensures row { OnOk result (core.new ≡ proposed core.old client.now
+    ensures rule { OnOk result (core.new ≡ proposed core.old client.now
         (expelled core.old.sessions (caller core.old.sessions client.now group.now) phases
         out.now)) }
     ensures keeps { OnOk result (Stays core.old core.new) }
@@ -98,7 +98,7 @@ fn change_state(
     phases: Phases,
     value: &[u8],
 ) -> Result<(), NoMemory>
-    ensures row { OnOk result (core.new ≡ proposed core.old client.now
+    ensures rule { OnOk result (core.new ≡ proposed core.old client.now
         (state_changed core.old.sessions (caller core.old.sessions client.now group.now) phases
         value.now)) }
     ensures keeps { OnOk result (Stays core.old core.new) }
@@ -116,7 +116,7 @@ fn send_message(
     phases: Phases,
     bytes: &[u8],
 ) -> Result<(), NoMemory>
-    ensures row { OnOk result (core.new ≡ proposed core.old client.now
+    ensures rule { OnOk result (core.new ≡ proposed core.old client.now
         (message_sent core.old.sessions (caller core.old.sessions client.now group.now) phases
         bytes.now)) }
     ensures keeps { OnOk result (Stays core.old core.new) }
@@ -134,7 +134,7 @@ fn change_attributes(
     phases: Phases,
     attrs: &Attrs,
 ) -> Result<(), NoMemory>
-    ensures row { OnOk result (core.new ≡ proposed core.old client.now
+    ensures rule { OnOk result (core.new ≡ proposed core.old client.now
         (attributes_changed core.old.sessions (caller core.old.sessions client.now group.now) phases
         attrs.now)) }
     ensures keeps { OnOk result (Stays core.old core.new) }
@@ -164,7 +164,7 @@ fn vote(
     value: &Option<List<u8>>,
 ) -> Result<(), NoMemory>
     requires level { IsTrue (is_level core.old.sessions.level) }
-    ensures row { OnOk result (core.new ≡ give_ballot core.old client.now
+    ensures rule { OnOk result (core.new ≡ give_ballot core.old client.now
         (voted core.old.sessions (caller core.old.sessions client.now group.now) vote value.now)) }
     ensures keeps { OnOk result (Stays core.old core.new) }
 {
@@ -174,7 +174,7 @@ fn vote(
 }
 
 fn subscribe(core: &mut Core, alloc: Global, client: &[u8], group: &[u8]) -> Result<(), NoMemory>
-    ensures row { OnOk result (core.new ≡ changed core.old client.now
+    ensures rule { OnOk result (core.new ≡ changed core.old client.now
         (subscribe_taken core.old.sessions (client_token core.old.sessions client.now) group.now
         (holds core.old group.now))) }
     ensures keeps { OnOk result (Stays core.old core.new) }
@@ -186,7 +186,7 @@ fn subscribe(core: &mut Core, alloc: Global, client: &[u8], group: &[u8]) -> Res
 }
 
 fn unsubscribe(core: &mut Core, alloc: Global, client: &[u8], group: &[u8]) -> Result<(), NoMemory>
-    ensures row { OnOk result (core.new ≡ changed core.old client.now
+    ensures rule { OnOk result (core.new ≡ changed core.old client.now
         (unsubscribe_taken core.old.sessions (client_token core.old.sessions client.now)
         (subscriber core.old.sessions client.now group.now))) }
     ensures keeps { OnOk result (Stays core.old core.new) }
@@ -202,7 +202,7 @@ fn unsubscribe(core: &mut Core, alloc: Global, client: &[u8], group: &[u8]) -> R
 pub fn take_call(core: &mut Core, alloc: Global, call: &CallLine) -> Result<(), NoMemory>
     requires within { IsTrue (is_within_session call.now) }
     requires level { IsTrue (is_level core.old.sessions.level) }
-    ensures row { OnOk result (core.new ≡ take_call core.old call.now) }
+    ensures rule { OnOk result (core.new ≡ take_call core.old call.now) }
     ensures keeps { OnOk result (Stays core.old core.new) }
 {
     match call {

@@ -20,7 +20,7 @@ use std::alloc::Global;
 /// Records that a request is taken.
 #[tactic(auto, unfolding(node_state::specs::State::recorded), using(crate::proofs::CallLaws::recorded_keeps))]
 fn record_asked(core: &mut Core, alloc: Global, request: &Request) -> Result<(), NoMemory>
-    ensures row { OnOk result (core.new ≡ recorded core.old
+    ensures rule { OnOk result (core.new ≡ recorded core.old
         (happened.Asked request.now.p request.now.r request.now.group request.now.proposal)) }
     ensures keeps { OnOk result (Stays core.old core.new) }
 {
@@ -35,7 +35,7 @@ fn record_asked(core: &mut Core, alloc: Global, request: &Request) -> Result<(),
 /// Records the outstanding request that was made last, and sends it.
 #[tactic(auto, unfolding(node_state::specs::Calls::ask_last), using(crate::proofs::CallLaws::last_there))]
 fn ask_last(core: &mut Core, alloc: Global) -> Result<(), NoMemory>
-    ensures row { OnOk result (core.new ≡ ask_last core.old
+    ensures rule { OnOk result (core.new ≡ ask_last core.old
         (last_or None core.old.sessions.requests)) }
     ensures keeps { OnOk result (Stays core.old core.new) }
 {
@@ -54,7 +54,7 @@ pub fn propose<X: Drop>(
     client: &[u8],
     answer: Result<X, GsFault>,
 ) -> Result<(), NoMemory>
-    ensures row { (s : Core) (r : Result SessionState GsFault)
+    ensures rule { (s : Core) (r : Result SessionState GsFault)
         → Answers answer s.sessions core.old.sessions r
         → core.old ≡ with_sessions s core.old.sessions
         → OnOk result (core.new ≡ proposed s client.now r) }

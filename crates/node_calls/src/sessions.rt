@@ -30,7 +30,7 @@ pub fn take_init<C: Callbacks>(
 ) -> Result<(), NoMemory>
     requires work { AtWork core.old clients.old.items }
     ensures work { OnOk result (AtWork core.new clients.new.items) }
-    ensures row { OnOk result (core.new ≡ changed core.old name.now
+    ensures rule { OnOk result (core.new ≡ changed core.old name.now
         (inited core.old.sessions name.now)) }
     ensures clients { OnOk result (clients.new.items
         ≡ clients_with client clients.old.items (inited core.old.sessions name.now)) }
@@ -75,7 +75,7 @@ fn providers_of(
 /// Tells the leader of a provider's group that the provider is gone.
 #[tactic(auto, unfolding(node_state::specs::Calls::send_gone), using(crate::proofs::CallLaws::gone_keeps))]
 fn send_gone(core: &mut Core, alloc: Global, provider: &Provider) -> Result<(), NoMemory>
-    ensures row { OnOk result (core.new ≡ send_gone core.old provider.now) }
+    ensures rule { OnOk result (core.new ≡ send_gone core.old provider.now) }
     ensures keeps { OnOk result (Stays core.old core.new) }
 {
     let leader = leader_of(core, provider.group.bytes());
@@ -90,7 +90,7 @@ fn send_gone(core: &mut Core, alloc: Global, provider: &Provider) -> Result<(), 
 /// Tells it of each of these.
 #[tactic(auto, using(std::proofs::lemmas::List::Sums::fold_more, node_groups::proofs::KeepLaws::stays_itself, node_groups::proofs::KeepLaws::stays_then))]
 fn send_each_gone(core: &mut Core, alloc: Global, ended: &[Provider]) -> Result<(), NoMemory>
-    ensures row { OnOk result (core.new ≡ fold send_gone core.old ended.now) }
+    ensures rule { OnOk result (core.new ≡ fold send_gone core.old ended.now) }
     ensures keeps { OnOk result (Stays core.old core.new) }
 {
     for x in ended {
@@ -102,7 +102,7 @@ fn send_each_gone(core: &mut Core, alloc: Global, ended: &[Provider]) -> Result<
 /// Tells it of each of these, where the node is not frozen.
 #[tactic(auto, unfolding(node_state::specs::Calls::send_all_gone), using(node_groups::proofs::KeepLaws::stays_itself))]
 fn send_all_gone(core: &mut Core, alloc: Global, ended: &[Provider]) -> Result<(), NoMemory>
-    ensures row { OnOk result (core.new ≡ send_all_gone core.old ended.now) }
+    ensures rule { OnOk result (core.new ≡ send_all_gone core.old ended.now) }
     ensures keeps { OnOk result (Stays core.old core.new) }
 {
     if is_frozen(core) {
@@ -121,7 +121,7 @@ pub fn take_goodbye<C: Callbacks>(
 ) -> Result<(), NoMemory>
     requires work { AtWork core.old clients.old.items }
     ensures work { OnOk result (AtWork core.new clients.new.items) }
-    ensures row { OnOk result (core.new ≡ take_call core.old (call.Goodbye client.now)) }
+    ensures rule { OnOk result (core.new ≡ take_call core.old (call.Goodbye client.now)) }
     ensures clients { OnOk result (clients.new.items
         ≡ removed_at (client_place core.old.sessions (client_token core.old.sessions client.now))
         clients.old.items) }

@@ -7,7 +7,7 @@ use Rattle.node_state.specs.Step.{NodeEvent, stepped}
 use Rattle.entry_delivery.specs.Received.{Handing}
 use Rattle.entry_delivery.specs.Doing.{Does}
 use Rattle.group_leading.proofs.AnswerLaws.{does_some}
-use Rattle.send_laws.proofs.RowLaws.{step_sends}
+use Rattle.send_laws.proofs.RuleLaws.{step_sends}
 use Rattle.node_core.specs.Sends.{SendsFew}
 
 pub does_few : (scripts : List (Option (List (Option VoteItem)))) (P : List Handing → Type 0) (s called t : Core) (e : NodeEvent) → Does scripts P called t (λ f. stepped f s e) → SendsFew s e t

@@ -10,11 +10,11 @@ use Rattle.node_state.specs.declared.packet.Packet.{Packet}
 use Rattle.node_state.specs.declared.state.Core.{Core}
 use Rattle.node_state.specs.HandOn.{Answering}
 use Rattle.node_state.specs.Sending.{send_on}
-use Rattle.node_state.specs.Ticks.{tick_rings, tick_views, tick_owed, tick_led, tick_row}
+use Rattle.node_state.specs.Ticks.{tick_rings, tick_views, tick_owed, tick_led, tick_rule}
 use Rattle.node_state.specs.Ending.{end_step}
 use Rattle.node_state.specs.Calls.{take_call}
 use Rattle.node_state.specs.Bytes.{event_in}
-use Rattle.node_state.specs.Step.{Asks, Calls, take_order, take_body, packet_row, used_if, event_row, at_work, stepped}
+use Rattle.node_state.specs.Step.{Asks, Calls, take_order, take_body, packet_rule, used_if, event_rule, at_work, stepped}
 use Rattle.entry_delivery.specs.Received.{Handing}
 use Rattle.entry_delivery.specs.Doing.{Joins, Does}
 use Rattle.entry_delivery.proofs.DoingLaws.{does_then, does_plain, does_nothing, does_after, does_before, does_as, ready_same}
@@ -23,7 +23,7 @@ use Rattle.node_state.proofs.AlongLaws.{along_same}
 use Rattle.node_groups.specs.Keeps.{Keeps}
 use Rattle.group_leading.specs.Working.{AtWork}
 use Rattle.group_leading.proofs.WorkLaws.{keeps_follows}
-use Rattle.node_core.specs.Event.{called, datagram_row}
+use Rattle.node_core.specs.Event.{called, datagram_rule}
 
 abbrev Scripts : Type 0
 Scripts = List (Option (List (Option VoteItem)))
@@ -61,21 +61,21 @@ unfolding used_if
 unused_does ss P p s row b e = subst (λ x. Does ss P s s (λ f. used_if s (row f) x)) (sym e) (does_nothing ss P s p)
 
 -- a packet for another node, and bytes that are no packet
-pub away_does : (ss : Scripts) (P : List Handing → Type 0) → P [] → (s : Core) (x : Packet) → (x.to ≡ s.views.me → ⊥) → Does ss P s s (λ f. packet_row f s x)
-unfolding packet_row
-away_does ss P p s x e = let away : (x.to == s.views.me) ≡ false = ne_eqb x.to s.views.me e in rw (packet_row, away) (does_nothing ss P s p)
+pub away_does : (ss : Scripts) (P : List Handing → Type 0) → P [] → (s : Core) (x : Packet) → (x.to ≡ s.views.me → ⊥) → Does ss P s s (λ f. packet_rule f s x)
+unfolding packet_rule
+away_does ss P p s x e = let away : (x.to == s.views.me) ≡ false = ne_eqb x.to s.views.me e in rw (packet_rule, away) (does_nothing ss P s p)
 
 -- a packet for this node
-pub here_does : (ss : Scripts) (P : List Handing → Type 0) (s t : Core) (x : Packet) → x.to ≡ s.views.me → Does ss P s t (λ f. take_body f s x x.body) → Does ss P s t (λ f. packet_row f s x)
-unfolding packet_row
-here_does ss P s t x e done = let here : (x.to == s.views.me) ≡ true = grind (arith, nat_tests) in rw (packet_row, here) done
+pub here_does : (ss : Scripts) (P : List Handing → Type 0) (s t : Core) (x : Packet) → x.to ≡ s.views.me → Does ss P s t (λ f. take_body f s x x.body) → Does ss P s t (λ f. packet_rule f s x)
+unfolding packet_rule
+here_does ss P s t x e done = let here : (x.to == s.views.me) ≡ true = grind (arith, nat_tests) in rw (packet_rule, here) done
 
-pub given_does : (ss : Scripts) (P : List Handing → Type 0) (s t : Core) (o : Option Packet) (x : Packet) → o ≡ Some x → Does ss P s t (λ f. packet_row f s x) → Does ss P s t (λ f. datagram_row f s o)
-unfolding datagram_row
+pub given_does : (ss : Scripts) (P : List Handing → Type 0) (s t : Core) (o : Option Packet) (x : Packet) → o ≡ Some x → Does ss P s t (λ f. packet_rule f s x) → Does ss P s t (λ f. datagram_rule f s o)
+unfolding datagram_rule
 given_does ss P s t o x e done = rw e done
 
-pub dropped_does : (ss : Scripts) (P : List Handing → Type 0) → P [] → (s : Core) (o : Option Packet) → o ≡ None → Does ss P s s (λ f. datagram_row f s o)
-unfolding datagram_row
+pub dropped_does : (ss : Scripts) (P : List Handing → Type 0) → P [] → (s : Core) (o : Option Packet) → o ≡ None → Does ss P s s (λ f. datagram_rule f s o)
+unfolding datagram_rule
 dropped_does ss P p s None e = does_nothing ss P s p
 dropped_does ss P p s (Some x) e = absurd cc
 
@@ -86,8 +86,8 @@ sent_on_keeps s t network to b e = rw e (record { records = omega arith; session
 -- ---- events
 
 pub tick_does : (ss : Scripts) (P Q V W X : List Handing → Type 0) → Joins P Q V → Joins V W X → (s a b c d t : Core) → a ≡ tick_rings s → Keeps s a → Does ss P a b (λ f. tick_views f a) → c ≡ tick_owed b → Keeps b c → Does ss Q c d (λ f. tick_led f c) → Does ss W d t (λ f. end_step f d)
-    → Does ss X s t (λ f. tick_row f s)
-unfolding tick_row
+    → Does ss X s t (λ f. tick_rule f s)
+unfolding tick_rule
 tick_does ss P Q V W X first_two all s a b c d t rings first views owed next led ends =
     let one : Does ss P s b (λ f. tick_views f (tick_rings s)) =
     does_as ss P s b (λ f. tick_views f a) (λ f. tick_views f (tick_rings s)) (λ f. ap (tick_views f) rings) (does_after ss P s a b (λ f. tick_views f a) (keeps_follows s a first) views) in
@@ -95,22 +95,22 @@ tick_does ss P Q V W X first_two all s a b c d t rings first views owed next led
     let three : Does ss V s d (λ f. tick_led f (tick_owed (tick_views f (tick_rings s)))) = does_then ss P Q V first_two s c d (λ f. tick_owed (tick_views f (tick_rings s))) tick_led two led in
     does_then ss V W X all s d t (λ f. tick_led f (tick_owed (tick_views f (tick_rings s)))) end_step three ends
 
-pub order_does : (ss : Scripts) (P Q W : List Handing → Type 0) → Joins P Q W → (s a t : Core) (mask : Mask) → Does ss P s a (λ f. take_order f s mask) → Does ss Q a t (λ f. end_step f a) → Does ss W s t (λ f. event_row f s (Asks mask))
-unfolding event_row
+pub order_does : (ss : Scripts) (P Q W : List Handing → Type 0) → Joins P Q W → (s a t : Core) (mask : Mask) → Does ss P s a (λ f. take_order f s mask) → Does ss Q a t (λ f. end_step f a) → Does ss W s t (λ f. event_rule f s (Asks mask))
+unfolding event_rule
 order_does ss P Q W join s a t mask first ends = does_then ss P Q W join s a t (λ f. take_order f s mask) end_step first ends
 
-pub datagram_does : (ss : Scripts) (P Q W : List Handing → Type 0) → Joins P Q W → (s a t : Core) (p : Option Packet) → Does ss P s a (λ f. datagram_row f s p) → Does ss Q a t (λ f. end_step f a) → Does ss W s t (λ f. event_row f s (event_in p))
-unfolding event_row datagram_row
+pub datagram_does : (ss : Scripts) (P Q W : List Handing → Type 0) → Joins P Q W → (s a t : Core) (p : Option Packet) → Does ss P s a (λ f. datagram_rule f s p) → Does ss Q a t (λ f. end_step f a) → Does ss W s t (λ f. event_rule f s (event_in p))
+unfolding event_rule datagram_rule
 datagram_does ss P Q W join s a t None first ends = does_then ss P Q W join s a t (λ f. s) end_step first ends
-datagram_does ss P Q W join s a t (Some p) first ends = does_then ss P Q W join s a t (λ f. packet_row f s p) end_step first ends
+datagram_does ss P Q W join s a t (Some p) first ends = does_then ss P Q W join s a t (λ f. packet_rule f s p) end_step first ends
 
 -- no packet is a call
-pub received_does : (ss : Scripts) (P : List Handing → Type 0) (s t : Core) (p : Option Packet) → Does ss P s t (λ f. event_row f s (event_in p)) → Does ss P (called s (event_in p)) t (λ f. event_row f s (event_in p))
+pub received_does : (ss : Scripts) (P : List Handing → Type 0) (s t : Core) (p : Option Packet) → Does ss P s t (λ f. event_rule f s (event_in p)) → Does ss P (called s (event_in p)) t (λ f. event_rule f s (event_in p))
 received_does ss P s t None d = d
 received_does ss P s t (Some p) d = d
 
-pub call_does : (ss : Scripts) (P : List Handing → Type 0) (s a t : Core) (c : CallLine) → a ≡ take_call s c → Does ss P a t (λ f. end_step f a) → Does ss P (take_call s c) t (λ f. event_row f s (Calls c))
-unfolding event_row
+pub call_does : (ss : Scripts) (P : List Handing → Type 0) (s a t : Core) (c : CallLine) → a ≡ take_call s c → Does ss P a t (λ f. end_step f a) → Does ss P (take_call s c) t (λ f. event_rule f s (Calls c))
+unfolding event_rule
 call_does ss P s a t c call ends = subst (λ (x : Core). Does ss P x t (λ f. end_step f x)) call ends
 
 -- the end of a step after a call that begins or ends a session

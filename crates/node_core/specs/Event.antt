@@ -5,7 +5,7 @@ use Rattle.node_state.specs.declared.state.Core.{Core}
 use Rattle.node_state.specs.HandOn.{Answering}
 use Rattle.node_state.specs.Bytes.{event_of}
 use Rattle.node_state.specs.Calls.{take_call}
-use Rattle.node_state.specs.Step.{Ticks, Asks, Calls, packet_row}
+use Rattle.node_state.specs.Step.{Ticks, Asks, Calls, packet_rule}
 use Rattle.node_state.specs.Step as step
 use Rattle.node_calls.specs.Calling.{is_within_session}
 use Rattle.node_core.specs.declared.events.NodeEvent.{NodeEvent}
@@ -31,6 +31,6 @@ called s step.Garbage = s
 called s (Calls c) = take_call s c
 
 -- what a datagram makes before the end of the step: bytes that are no packet make nothing
-unfoldable pub datagram_row : Answering → Core → Option Packet → Core
-datagram_row f s None = s
-datagram_row f s (Some p) = packet_row f s p
+unfoldable pub datagram_rule : Answering → Core → Option Packet → Core
+datagram_rule f s None = s
+datagram_rule f s (Some p) = packet_rule f s p

@@ -1,12 +1,12 @@
 //! What happens to a node, and what it makes of it.
 ghost use Rattle.std.specs.Prelude.{◌≡◌, OnOk, IsTrue};
 ghost use Rattle.session_clients.specs.Clients.{KeepsScripts};
-ghost use Rattle.entry_delivery.specs.Doing.{RowDoes};
+ghost use Rattle.entry_delivery.specs.Doing.{RuleDoes};
 ghost use Rattle.group_leading.specs.Working.{AtWork};
 ghost use Rattle.node_state.specs.Bytes.{event_of};
-ghost use Rattle.node_state.specs.Ticks.{tick_row};
+ghost use Rattle.node_state.specs.Ticks.{tick_rule};
 ghost use Rattle.node_state.specs.Calls.{take_call};
-ghost use Rattle.node_state.specs.Step.{Asks, Calls, at_work, event_row, stepped};
+ghost use Rattle.node_state.specs.Step.{Asks, Calls, at_work, event_rule, stepped};
 ghost use Rattle.node_calls.specs.Calling.{is_within_session};
 ghost use Rattle.node_core.specs.Event.{called, event_in, is_taken};
 
@@ -46,8 +46,8 @@ fn tick<C: Callbacks>(core: &mut Core, clients: &mut Vec<C>, alloc: Global) -> R
     requires work { AtWork core.old clients.old.items }
     ensures work { OnOk result (AtWork core.new clients.new.items) }
     ensures scripts { OnOk result (KeepsScripts C.script clients.old.items clients.new.items) }
-    ensures does { OnOk result (RowDoes C.script C.stands_for clients.old.items clients.new.items
-        core.old core.new (λ f. tick_row f core.old)) }
+    ensures does { OnOk result (RuleDoes C.script C.stands_for clients.old.items clients.new.items
+        core.old core.new (λ f. tick_rule f core.old)) }
 {
     tick_rings(core, alloc)?;
     tick_views(core, clients, alloc)?;
@@ -66,8 +66,8 @@ fn obey<C: Callbacks>(
     requires work { AtWork core.old clients.old.items }
     ensures work { OnOk result (AtWork core.new clients.new.items) }
     ensures scripts { OnOk result (KeepsScripts C.script clients.old.items clients.new.items) }
-    ensures does { OnOk result (RowDoes C.script C.stands_for clients.old.items clients.new.items
-        core.old core.new (λ f. event_row f core.old (Asks mask))) }
+    ensures does { OnOk result (RuleDoes C.script C.stands_for clients.old.items clients.new.items
+        core.old core.new (λ f. event_rule f core.old (Asks mask))) }
 {
     take_order(core, clients, alloc, mask)?;
     end_step(core, clients, alloc)
@@ -83,8 +83,8 @@ fn receive<C: Callbacks>(
     requires work { AtWork core.old clients.old.items }
     ensures work { OnOk result (AtWork core.new clients.new.items) }
     ensures scripts { OnOk result (KeepsScripts C.script clients.old.items clients.new.items) }
-    ensures does { OnOk result (RowDoes C.script C.stands_for clients.old.items clients.new.items
-        core.old core.new (λ f. event_row f core.old (event_of bytes.now))) }
+    ensures does { OnOk result (RuleDoes C.script C.stands_for clients.old.items clients.new.items
+        core.old core.new (λ f. event_rule f core.old (event_of bytes.now))) }
 {
     take_datagram(core, clients, alloc, bytes)?;
     end_step(core, clients, alloc)
@@ -102,8 +102,8 @@ fn answer<C: Callbacks>(
     requires work { AtWork core.old clients.old.items }
     ensures work { OnOk result (AtWork core.new clients.new.items) }
     ensures scripts { OnOk result (KeepsScripts C.script clients.old.items clients.new.items) }
-    ensures does { OnOk result (RowDoes C.script C.stands_for clients.old.items clients.new.items
-        (take_call core.old call.now) core.new (λ f. event_row f core.old (Calls call.now))) }
+    ensures does { OnOk result (RuleDoes C.script C.stands_for clients.old.items clients.new.items
+        (take_call core.old call.now) core.new (λ f. event_rule f core.old (Calls call.now))) }
 {
     take_call(core, alloc, call)?;
     end_step(core, clients, alloc)
@@ -120,9 +120,9 @@ fn take_cleared<C: Callbacks>(
     requires work { AtWork core.old clients.old.items }
     ensures work { OnOk result (AtWork core.new clients.new.items) }
     ensures scripts { OnOk result (KeepsScripts C.script clients.old.items clients.new.items) }
-    ensures does { OnOk result (RowDoes C.script C.stands_for clients.old.items clients.new.items
+    ensures does { OnOk result (RuleDoes C.script C.stands_for clients.old.items clients.new.items
         (called core.old (event_in event.entry)) core.new
-        (λ f. event_row f core.old (event_in event.entry))) }
+        (λ f. event_rule f core.old (event_in event.entry))) }
 {
     match event {
         NodeEvent::Tick => tick(core, clients, alloc),
@@ -144,7 +144,7 @@ pub fn take_event<C: Callbacks>(
     requires work { AtWork core.old clients.old.items }
     ensures work { OnOk result (AtWork core.new clients.new.items) }
     ensures scripts { OnOk result (KeepsScripts C.script clients.old.items clients.new.items) }
-    ensures does { OnOk result (RowDoes C.script C.stands_for clients.old.items clients.new.items
+    ensures does { OnOk result (RuleDoes C.script C.stands_for clients.old.items clients.new.items
         (called (at_work core.old) (event_in event.entry)) core.new
         (λ f. stepped f core.old (event_in event.entry))) }
 {

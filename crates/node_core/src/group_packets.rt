@@ -9,7 +9,7 @@ ghost use Rattle.proposal_core.specs.ProposalCodec.{IsProposal};
 ghost use Rattle.group_codec.specs.InPlace.{proposal_in};
 ghost use Rattle.proposal_core.specs.EntryCodec.{IsEntry};
 ghost use Rattle.group_codec.specs.InPlace.{entry_in};
-ghost use Rattle.entry_delivery.specs.Doing.{RowDoes};
+ghost use Rattle.entry_delivery.specs.Doing.{RuleDoes};
 ghost use Rattle.node_groups.specs.Keeps.{Keeps};
 ghost use Rattle.group_leading.specs.Working.{AtWork};
 ghost use Rattle.node_state.specs.Following.{take_lookup, take_name, take_request, take_tell, take_entry, take_ack, take_vote, take_gone};
@@ -65,7 +65,7 @@ pub fn take_lookup_packet(
     group: &GroupRef<'_>,
 ) -> Result<(), NoMemory>
     requires name { IsName group.now.name }
-    ensures row { OnOk result (core.new ≡ used_if core.old
+    ensures rule { OnOk result (core.new ≡ used_if core.old
         (take_lookup core.old packet.now.from group.now.name)
         (is_used core.old (packet_in packet.now) group.now.view)) }
     ensures keeps { OnOk result (Keeps core.old core.new) }
@@ -89,7 +89,7 @@ pub fn take_name_packet<C: Callbacks>(
     requires work { AtWork core.old clients.old.items }
     ensures work { OnOk result (AtWork core.new clients.new.items) }
     ensures scripts { OnOk result (KeepsScripts C.script clients.old.items clients.new.items) }
-    ensures does { OnOk result (RowDoes C.script C.stands_for clients.old.items clients.new.items
+    ensures does { OnOk result (RuleDoes C.script C.stands_for clients.old.items clients.new.items
         core.old core.new (λ f. used_if core.old (take_name core.old leader.now.group.name
         leader.now.leader) (is_used core.old (packet_in packet.now) leader.now.group.view))) }
 {
@@ -117,7 +117,7 @@ pub fn take_request_packet<C: Callbacks>(
     requires work { AtWork core.old clients.old.items }
     ensures work { OnOk result (AtWork core.new clients.new.items) }
     ensures scripts { OnOk result (KeepsScripts C.script clients.old.items clients.new.items) }
-    ensures does { OnOk result (RowDoes C.script C.stands_for clients.old.items clients.new.items
+    ensures does { OnOk result (RuleDoes C.script C.stands_for clients.old.items clients.new.items
         core.old core.new (λ f. used_if core.old (take_request f core.old packet.now.from
         group.now.name by request phases (proposal_in proposal.now))
         (is_used core.old (packet_in packet.now) group.now.view))) }
@@ -154,7 +154,7 @@ pub fn take_tell_packet<C: Callbacks>(
     requires work { AtWork core.old clients.old.items }
     ensures work { OnOk result (AtWork core.new clients.new.items) }
     ensures scripts { OnOk result (KeepsScripts C.script clients.old.items clients.new.items) }
-    ensures does { OnOk result (RowDoes C.script C.stands_for clients.old.items clients.new.items
+    ensures does { OnOk result (RuleDoes C.script C.stands_for clients.old.items clients.new.items
         core.old core.new (λ f. used_if core.old (take_tell core.old by request why)
         (is_used core.old (packet_in packet.now) group.now.view))) }
 {
@@ -180,7 +180,7 @@ pub fn take_entry_packet<C: Callbacks>(
     requires work { AtWork core.old clients.old.items }
     ensures work { OnOk result (AtWork core.new clients.new.items) }
     ensures scripts { OnOk result (KeepsScripts C.script clients.old.items clients.new.items) }
-    ensures does { OnOk result (RowDoes C.script C.stands_for clients.old.items clients.new.items
+    ensures does { OnOk result (RuleDoes C.script C.stands_for clients.old.items clients.new.items
         core.old core.new (λ f. used_if core.old (take_entry f core.old packet.now.from
         group.now.name place stable (entry_in entry.now))
         (is_used core.old (packet_in packet.now) group.now.view))) }
@@ -211,7 +211,7 @@ pub fn take_ack_packet(
     ack: &Ack<'_>,
 ) -> Result<(), NoMemory>
     requires name { IsName ack.now.group.name }
-    ensures row { OnOk result (core.new ≡ used_if core.old
+    ensures rule { OnOk result (core.new ≡ used_if core.old
         (take_ack core.old packet.now.from ack.now.group.name ack.now.len)
         (is_used core.old (packet_in packet.now) ack.now.group.view)) }
     ensures keeps { OnOk result (Keeps core.old core.new) }
@@ -243,7 +243,7 @@ pub fn take_vote_packet<C: Callbacks>(
     requires work { AtWork core.old clients.old.items }
     ensures work { OnOk result (AtWork core.new clients.new.items) }
     ensures scripts { OnOk result (KeepsScripts C.script clients.old.items clients.new.items) }
-    ensures does { OnOk result (RowDoes C.script C.stands_for clients.old.items clients.new.items
+    ensures does { OnOk result (RuleDoes C.script C.stands_for clients.old.items clients.new.items
         core.old core.new (λ f. used_if core.old (take_vote f core.old group.now.name proto phase by
         vote (option_copied value.entry) (option_copied message.entry))
         (is_used core.old (packet_in packet.now) group.now.view))) }
@@ -280,7 +280,7 @@ pub fn take_gone_packet<C: Callbacks>(
     requires work { AtWork core.old clients.old.items }
     ensures work { OnOk result (AtWork core.new clients.new.items) }
     ensures scripts { OnOk result (KeepsScripts C.script clients.old.items clients.new.items) }
-    ensures does { OnOk result (RowDoes C.script C.stands_for clients.old.items clients.new.items
+    ensures does { OnOk result (RuleDoes C.script C.stands_for clients.old.items clients.new.items
         core.old core.new (λ f. used_if core.old (take_gone f core.old gone.now.group.name
         gone.now.p) (is_used core.old (packet_in packet.now) gone.now.group.view))) }
 {

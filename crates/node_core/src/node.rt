@@ -5,7 +5,7 @@ ghost use Rattle.session_state.specs.State.{client_token, client_place};
 ghost use Rattle.session_state.specs.Calls.{inited, removed_at};
 ghost use Rattle.node_calls.specs.Calling.{clients_with};
 ghost use Rattle.entry_delivery.specs.Received.{Receive};
-ghost use Rattle.entry_delivery.specs.Doing.{Does, RowDoes};
+ghost use Rattle.entry_delivery.specs.Doing.{Does, RuleDoes};
 ghost use Rattle.node_state.specs.declared.call.CallLine.TheVariants as call;
 ghost use Rattle.node_state.specs.Calls.{take_call};
 ghost use Rattle.node_state.specs.State.{InNameOrder};
@@ -105,7 +105,7 @@ impl<C: Callbacks> Node<C> {
 
     /// Appends the lines of a status as the node stands, as a reply to a status client carries them. Where memory
     /// runs out nothing is appended.
-    pub fn status(&self, alloc: Global, what: What, out: &mut Vec<u8>) -> Result<(), NoMemory>
+    pub fn status(&self, alloc: Global, out: &mut Vec<u8>, what: What) -> Result<(), NoMemory>
         ensures ok { OnOk result (out.new.items
             ≡ out.old.items ++ status_text self.now.core what) }
         ensures err { OnErr result (out.new.items ≡ out.old.items) }
@@ -140,7 +140,7 @@ impl<C: Callbacks> Node<C> {
     pub fn step(&mut self, alloc: Global, event: NodeEvent<'_>) -> Result<(), StepFault>
         requires taken { IsTrue (is_taken event) }
         ensures scripts { OnOk result (KeepsScripts C.script self.old.clients self.new.clients) }
-        ensures does { OnOk result (RowDoes C.script C.stands_for self.old.clients self.new.clients
+        ensures does { OnOk result (RuleDoes C.script C.stands_for self.old.clients self.new.clients
             (called (at_work self.old.core) (event_in event.entry)) self.new.core
             (λ f. stepped f self.old.core (event_in event.entry))) }
         ensures sends { OnOk result

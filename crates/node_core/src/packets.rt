@@ -1,17 +1,17 @@
 //! The table of packets: what a node makes of each.
 ghost use Rattle.std.specs.Prelude.{◌≡◌, IfSome, OnOk, option_map};
 ghost use Rattle.session_clients.specs.Clients.{KeepsScripts};
-ghost use Rattle.entry_delivery.specs.Doing.{RowDoes};
+ghost use Rattle.entry_delivery.specs.Doing.{RuleDoes};
 ghost use Rattle.group_leading.specs.Working.{AtWork};
 ghost use Rattle.node_groups.specs.Keeps.{Keeps};
 ghost use Rattle.node_state.specs.declared.packet.Body.TheVariants as body;
 ghost use Rattle.node_state.specs.Bytes.{packet_of};
 ghost use Rattle.node_state.specs.Sending.{send_on};
 ghost use Rattle.node_state.specs.Status.{status_text};
-ghost use Rattle.node_state.specs.Step.{take_body, packet_row};
+ghost use Rattle.node_state.specs.Step.{take_body, packet_rule};
 ghost use Rattle.node_state.specs.Ticks.{take_report};
 ghost use Rattle.packet_codec.specs.InPlace.{packet_in};
-ghost use Rattle.node_core.specs.Event.{datagram_row};
+ghost use Rattle.node_core.specs.Event.{datagram_rule};
 ghost use Rattle.node_core.specs.Parts.{HasParts};
 
 use crate::group_packets::{
@@ -35,7 +35,7 @@ fn take_report_packet(
     alloc: Global,
     rows: &Listed<'_, ReportRow>,
 ) -> Result<(), NoMemory>
-    ensures row { OnOk result (core.new ≡ take_report core.old rows.now) }
+    ensures rule { OnOk result (core.new ≡ take_report core.old rows.now) }
     ensures keeps { OnOk result (Keeps core.old core.new) }
 {
     let rows = rows.own(alloc)?;
@@ -51,7 +51,7 @@ fn take_query(
     packet: &PacketRef<'_>,
     query: &Query,
 ) -> Result<(), NoMemory>
-    ensures row { OnOk result (core.new ≡ send_on core.old packet.now.network packet.now.from
+    ensures rule { OnOk result (core.new ≡ send_on core.old packet.now.network packet.now.from
         (body.Reply query.now.question (status_text core.old query.now.what))) }
     ensures keeps { OnOk result (Keeps core.old core.new) }
 {
@@ -74,7 +74,7 @@ fn take_body<C: Callbacks>(
     requires work { AtWork core.old clients.old.items }
     ensures work { OnOk result (AtWork core.new clients.new.items) }
     ensures scripts { OnOk result (KeepsScripts C.script clients.old.items clients.new.items) }
-    ensures does { OnOk result (RowDoes C.script C.stands_for clients.old.items clients.new.items
+    ensures does { OnOk result (RuleDoes C.script C.stands_for clients.old.items clients.new.items
         core.old core.new (λ f. take_body f core.old (packet_in packet.now)
         (packet_in packet.now).body)) }
 {
@@ -141,7 +141,7 @@ fn take_body<C: Callbacks>(
 }
 
 /// A packet: one for another node is dropped.
-#[tactic(auto, unfolding(node_state::specs::Step::packet_row))]
+#[tactic(auto, unfolding(node_state::specs::Step::packet_rule))]
 fn take_packet<C: Callbacks>(
     core: &mut Core,
     clients: &mut Vec<C>,
@@ -152,8 +152,8 @@ fn take_packet<C: Callbacks>(
     requires work { AtWork core.old clients.old.items }
     ensures work { OnOk result (AtWork core.new clients.new.items) }
     ensures scripts { OnOk result (KeepsScripts C.script clients.old.items clients.new.items) }
-    ensures does { OnOk result (RowDoes C.script C.stands_for clients.old.items clients.new.items
-        core.old core.new (λ f. packet_row f core.old (packet_in packet.now))) }
+    ensures does { OnOk result (RuleDoes C.script C.stands_for clients.old.items clients.new.items
+        core.old core.new (λ f. packet_rule f core.old (packet_in packet.now))) }
 {
     if packet.to != core.views.me {
         return Ok(());
@@ -171,7 +171,7 @@ fn packet_read(bytes: &[u8]) -> Option<PacketRef<'_>>
 }
 
 /// A datagram: bytes that are no packet are dropped.
-#[tactic(auto, unfolding(crate::specs::Event::datagram_row))]
+#[tactic(auto, unfolding(crate::specs::Event::datagram_rule))]
 pub fn take_datagram<C: Callbacks>(
     core: &mut Core,
     clients: &mut Vec<C>,
@@ -181,8 +181,8 @@ pub fn take_datagram<C: Callbacks>(
     requires work { AtWork core.old clients.old.items }
     ensures work { OnOk result (AtWork core.new clients.new.items) }
     ensures scripts { OnOk result (KeepsScripts C.script clients.old.items clients.new.items) }
-    ensures does { OnOk result (RowDoes C.script C.stands_for clients.old.items clients.new.items
-        core.old core.new (λ f. datagram_row f core.old (packet_of bytes.now))) }
+    ensures does { OnOk result (RuleDoes C.script C.stands_for clients.old.items clients.new.items
+        core.old core.new (λ f. datagram_rule f core.old (packet_of bytes.now))) }
 {
     match packet_read(bytes) {
         None => Ok(()),

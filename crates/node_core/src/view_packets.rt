@@ -3,9 +3,9 @@ ghost use Rattle.std.specs.Prelude.{OnOk};
 ghost use Rattle.session_clients.specs.Clients.{KeepsScripts};
 ghost use Rattle.view_exchange.specs.SourcesInPlace.{install_in};
 ghost use Rattle.view_state.specs.declared.packet.ViewPacket.TheVariants as view_packet;
-ghost use Rattle.entry_delivery.specs.Doing.{RowDoes};
+ghost use Rattle.entry_delivery.specs.Doing.{RuleDoes};
 ghost use Rattle.group_leading.specs.Working.{AtWork};
-ghost use Rattle.node_state.specs.Step.{view_row};
+ghost use Rattle.node_state.specs.Step.{view_rule};
 
 use client_callbacks::Callbacks;
 use node_state::Core;
@@ -17,7 +17,7 @@ use view_core::ViewEvent;
 use view_exchange::{AnswerRef, InstallRef};
 
 /// PREPARE.
-#[tactic(auto, unfolding(node_state::specs::Step::view_row, view_core::specs::Steps::view_stepped, view_core::specs::Steps::view_row))]
+#[tactic(auto, unfolding(node_state::specs::Step::view_rule, view_core::specs::Steps::view_stepped, view_core::specs::Steps::view_rule))]
 pub fn take_prepare<C: Callbacks>(
     core: &mut Core,
     clients: &mut Vec<C>,
@@ -29,8 +29,8 @@ pub fn take_prepare<C: Callbacks>(
     requires work { AtWork core.old clients.old.items }
     ensures work { OnOk result (AtWork core.new clients.new.items) }
     ensures scripts { OnOk result (KeepsScripts C.script clients.old.items clients.new.items) }
-    ensures does { OnOk result (RowDoes C.script C.stands_for clients.old.items clients.new.items
-        core.old core.new (λ f. view_row f core.old packet.now.from packet.now.inc
+    ensures does { OnOk result (RuleDoes C.script C.stands_for clients.old.items clients.new.items
+        core.old core.new (λ f. view_rule f core.old packet.now.from packet.now.inc
         (view_packet.Prepare view mask))) }
 {
     let event = ViewEvent::Prepare {
@@ -43,7 +43,7 @@ pub fn take_prepare<C: Callbacks>(
 }
 
 /// ANSWER.
-#[tactic(auto, unfolding(node_state::specs::Step::view_row, view_core::specs::Steps::view_stepped, view_core::specs::Steps::view_row))]
+#[tactic(auto, unfolding(node_state::specs::Step::view_rule, view_core::specs::Steps::view_stepped, view_core::specs::Steps::view_rule))]
 pub fn take_answer<C: Callbacks>(
     core: &mut Core,
     clients: &mut Vec<C>,
@@ -55,8 +55,8 @@ pub fn take_answer<C: Callbacks>(
     requires work { AtWork core.old clients.old.items }
     ensures work { OnOk result (AtWork core.new clients.new.items) }
     ensures scripts { OnOk result (KeepsScripts C.script clients.old.items clients.new.items) }
-    ensures does { OnOk result (RowDoes C.script C.stands_for clients.old.items clients.new.items
-        core.old core.new (λ f. view_row f core.old packet.now.from packet.now.inc
+    ensures does { OnOk result (RuleDoes C.script C.stands_for clients.old.items clients.new.items
+        core.old core.new (λ f. view_rule f core.old packet.now.from packet.now.inc
         (view_packet.Answer view answer.now.view answer.now.parts))) }
 {
     let event = ViewEvent::Answer {
@@ -72,7 +72,7 @@ pub fn take_answer<C: Callbacks>(
 }
 
 /// REFUSE.
-#[tactic(auto, unfolding(node_state::specs::Step::view_row, view_core::specs::Steps::view_stepped, view_core::specs::Steps::view_row))]
+#[tactic(auto, unfolding(node_state::specs::Step::view_rule, view_core::specs::Steps::view_stepped, view_core::specs::Steps::view_rule))]
 pub fn take_refuse<C: Callbacks>(
     core: &mut Core,
     clients: &mut Vec<C>,
@@ -84,15 +84,15 @@ pub fn take_refuse<C: Callbacks>(
     requires work { AtWork core.old clients.old.items }
     ensures work { OnOk result (AtWork core.new clients.new.items) }
     ensures scripts { OnOk result (KeepsScripts C.script clients.old.items clients.new.items) }
-    ensures does { OnOk result (RowDoes C.script C.stands_for clients.old.items clients.new.items
-        core.old core.new (λ f. view_row f core.old packet.now.from packet.now.inc
+    ensures does { OnOk result (RuleDoes C.script C.stands_for clients.old.items clients.new.items
+        core.old core.new (λ f. view_rule f core.old packet.now.from packet.now.inc
         (view_packet.Refuse view number))) }
 {
     take_view(core, clients, alloc, ViewEvent::Refuse { view, number })
 }
 
 /// INSTALL.
-#[tactic(auto, unfolding(node_state::specs::Step::view_row, view_core::specs::Steps::view_stepped, view_core::specs::Steps::view_row))]
+#[tactic(auto, unfolding(node_state::specs::Step::view_rule, view_core::specs::Steps::view_stepped, view_core::specs::Steps::view_rule))]
 pub fn take_install<C: Callbacks>(
     core: &mut Core,
     clients: &mut Vec<C>,
@@ -103,8 +103,8 @@ pub fn take_install<C: Callbacks>(
     requires work { AtWork core.old clients.old.items }
     ensures work { OnOk result (AtWork core.new clients.new.items) }
     ensures scripts { OnOk result (KeepsScripts C.script clients.old.items clients.new.items) }
-    ensures does { OnOk result (RowDoes C.script C.stands_for clients.old.items clients.new.items
-        core.old core.new (λ f. view_row f core.old packet.now.from packet.now.inc
+    ensures does { OnOk result (RuleDoes C.script C.stands_for clients.old.items clients.new.items
+        core.old core.new (λ f. view_rule f core.old packet.now.from packet.now.inc
         (view_packet.Install (install_in install.now)))) }
 {
     let install = install.own(alloc)?;
@@ -112,7 +112,7 @@ pub fn take_install<C: Callbacks>(
 }
 
 /// TAKEN.
-#[tactic(auto, unfolding(node_state::specs::Step::view_row, view_core::specs::Steps::view_stepped, view_core::specs::Steps::view_row))]
+#[tactic(auto, unfolding(node_state::specs::Step::view_rule, view_core::specs::Steps::view_stepped, view_core::specs::Steps::view_rule))]
 pub fn take_taken<C: Callbacks>(
     core: &mut Core,
     clients: &mut Vec<C>,
@@ -123,8 +123,8 @@ pub fn take_taken<C: Callbacks>(
     requires work { AtWork core.old clients.old.items }
     ensures work { OnOk result (AtWork core.new clients.new.items) }
     ensures scripts { OnOk result (KeepsScripts C.script clients.old.items clients.new.items) }
-    ensures does { OnOk result (RowDoes C.script C.stands_for clients.old.items clients.new.items
-        core.old core.new (λ f. view_row f core.old packet.now.from packet.now.inc
+    ensures does { OnOk result (RuleDoes C.script C.stands_for clients.old.items clients.new.items
+        core.old core.new (λ f. view_rule f core.old packet.now.from packet.now.inc
         (view_packet.Taken view))) }
 {
     take_view(

@@ -77,7 +77,7 @@ fn put_entry(core: &mut Core, alloc: Global, group: &Name, entry: &Entry) -> Res
 pub fn put(core: &mut Core, alloc: Global, group: &Name, entry: &Entry) -> Result<(), NoMemory>
     requires order { InNameOrder core.old.groups }
     requires fits { IsTrue (fits_at_end core.old group.now entry.now) }
-    ensures row { OnOk result (core.new ≡ put core.old group.now entry.now) }
+    ensures rule { OnOk result (core.new ≡ put core.old group.now entry.now) }
     ensures keeps { OnOk result (Keeps core.old core.new) }
 {
     let place = len_of(core, group.bytes());
@@ -93,7 +93,7 @@ pub fn forget_below(
     group: &Name,
     place: u32,
 ) -> Result<(), NoMemory>
-    ensures row { OnOk result (core.new ≡ forget_below core.old group.now place) }
+    ensures rule { OnOk result (core.new ≡ forget_below core.old group.now place) }
     ensures keeps { OnOk result (Keeps core.old core.new) }
 {
     edits::forget_below(&mut core.groups, alloc, group, place)
@@ -102,7 +102,7 @@ pub fn forget_below(
 /// Forgets what all members acknowledged.
 #[tactic(auto, unfolding(node_state::specs::Leading::forget_least))]
 pub fn forget_least(core: &mut Core, alloc: Global, group: &Name) -> Result<(), NoMemory>
-    ensures row { OnOk result (core.new ≡ forget_least core.old group.now) }
+    ensures rule { OnOk result (core.new ≡ forget_least core.old group.now) }
     ensures keeps { OnOk result (Keeps core.old core.new) }
 {
     let least = least_acked(core, group.bytes());
@@ -112,7 +112,7 @@ pub fn forget_least(core: &mut Core, alloc: Global, group: &Name) -> Result<(), 
 /// The leader of the group is known.
 #[tactic(auto, unfolding(node_state::specs::State::set_leader, node_state::specs::State::with_row))]
 pub fn set_leader(core: &mut Core, alloc: Global, group: &Name, node: u8) -> Result<(), NoMemory>
-    ensures row { OnOk result (core.new ≡ set_leader core.old group.now node) }
+    ensures rule { OnOk result (core.new ≡ set_leader core.old group.now node) }
     ensures keeps { OnOk result (Keeps core.old core.new) }
 {
     edits::set_leader(&mut core.groups, alloc, group, node)
@@ -127,7 +127,7 @@ pub fn wait_failure(
     provider: ProviderId,
     cause: Cause,
 ) -> Result<(), NoMemory>
-    ensures row { OnOk result
+    ensures rule { OnOk result
         (core.new ≡ with_waiting core.old group.now (add_failure provider cause)) }
     ensures keeps { OnOk result (Keeps core.old core.new) }
 {
@@ -142,7 +142,7 @@ pub fn drop_join(
     group: &Name,
     provider: ProviderId,
 ) -> Result<(), NoMemory>
-    ensures row { OnOk result (core.new ≡ with_waiting core.old group.now (drop_join provider)) }
+    ensures rule { OnOk result (core.new ≡ with_waiting core.old group.now (drop_join provider)) }
     ensures keeps { OnOk result (Keeps core.old core.new) }
 {
     edits::drop_join(&mut core.groups, alloc, group, provider)
@@ -156,7 +156,7 @@ pub fn set_tally(
     group: &Name,
     tally: Option<Tally>,
 ) -> Result<(), NoMemory>
-    ensures row { OnOk result (core.new ≡ with_tally core.old group.now tally) }
+    ensures rule { OnOk result (core.new ≡ with_tally core.old group.now tally) }
     ensures keeps { OnOk result (Keeps core.old core.new) }
 {
     edits::set_tally(&mut core.groups, alloc, group, tally)
@@ -170,7 +170,7 @@ pub fn open_tally(
     group: &Name,
     tally: Option<Tally>,
 ) -> Result<(), NoMemory>
-    ensures row { OnOk result (core.new ≡ tally_set core.old group.now tally) }
+    ensures rule { OnOk result (core.new ≡ tally_set core.old group.now tally) }
     ensures keeps { OnOk result (Keeps core.old core.new) }
 {
     edits::open_tally(&mut core.groups, alloc, group, tally)
@@ -188,7 +188,7 @@ pub fn cast_vote(
     value: Option<Text>,
     message: Option<Text>,
 ) -> Result<(), NoMemory>
-    ensures row { OnOk result (core.new ≡ with_led core.old group.now
+    ensures rule { OnOk result (core.new ≡ with_led core.old group.now
         (λ l. vote_cast l provider vote value message l.tally)) }
     ensures keeps { OnOk result (Keeps core.old core.new) }
 {
@@ -211,7 +211,7 @@ pub fn fail_voter(
     provider: ProviderId,
 ) -> Result<(), NoMemory>
     requires { InNameOrder core.old.groups }
-    ensures row { OnOk result (core.new ≡ with_tally core.old group.now
+    ensures rule { OnOk result (core.new ≡ with_tally core.old group.now
         (option_map (tally_fail provider) (led_of core.old group.now).tally)) }
     ensures keeps { OnOk result (Keeps core.old core.new) }
 {
@@ -221,7 +221,7 @@ pub fn fail_voter(
 /// The tally of the phase that runs ticks.
 pub fn tick_tally(core: &mut Core, alloc: Global, group: &Name) -> Result<(), NoMemory>
     requires { InNameOrder core.old.groups }
-    ensures row { OnOk result (core.new ≡ with_tally core.old group.now
+    ensures rule { OnOk result (core.new ≡ with_tally core.old group.now
         (ticked_in (led_of core.old group.now).tally)) }
     ensures keeps { OnOk result (Keeps core.old core.new) }
 {
@@ -237,7 +237,7 @@ pub fn note_acked(
     node: u8,
     len: u32,
 ) -> Result<(), NoMemory>
-    ensures row { OnOk result (core.new ≡ with_led core.old group.now
+    ensures rule { OnOk result (core.new ≡ with_led core.old group.now
         (λ l. record l { acked = acked_raised node len l.acked })) }
     ensures keeps { OnOk result (Keeps core.old core.new) }
 {
@@ -252,7 +252,7 @@ pub fn mark_gone(
     group: &Name,
     provider: ProviderId,
 ) -> Result<(), NoMemory>
-    ensures row { OnOk result (core.new ≡ with_led core.old group.now
+    ensures rule { OnOk result (core.new ≡ with_led core.old group.now
         (λ l. record l { gone = marked l.gone provider })) }
     ensures keeps { OnOk result (Keeps core.old core.new) }
 {
@@ -269,7 +269,7 @@ pub fn keep_decision(
     request: u32,
     why: Option<Why>,
 ) -> Result<(), NoMemory>
-    ensures row { OnOk result (core.new ≡ keep_decision core.old group.now provider request why) }
+    ensures rule { OnOk result (core.new ≡ keep_decision core.old group.now provider request why) }
     ensures keeps { OnOk result (Keeps core.old core.new) }
 {
     edits::keep_decision(

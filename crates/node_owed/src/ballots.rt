@@ -28,7 +28,7 @@ pub fn copy_kept(alloc: Global, kept: &KeptBallot) -> Result<KeptBallot, NoMemor
 /// Sends a kept ballot that is filled to the leader of its group, where that is known.
 #[tactic(auto, unfolding(node_state::specs::Sending::send_kept))]
 pub fn send_kept(core: &mut Core, alloc: Global, kept: &KeptBallot) -> Result<(), NoMemory>
-    ensures row { OnOk result (core.new ≡ send_kept core.old kept.now) }
+    ensures rule { OnOk result (core.new ≡ send_kept core.old kept.now) }
     ensures keeps { OnOk result (Keeps core.old core.new) }
 {
     let leader = leader_of(core, kept.group.bytes());
@@ -59,7 +59,7 @@ fn send_each_again(core: &mut Core, alloc: Global, kept: &[KeptBallot]) -> Resul
 
 /// Sends each kept ballot of a running phase again.
 pub fn send_votes_again(core: &mut Core, alloc: Global) -> Result<(), NoMemory>
-    ensures row { OnOk result (core.new ≡ send_votes_again core.old) }
+    ensures rule { OnOk result (core.new ≡ send_votes_again core.old) }
     ensures keeps { OnOk result (Keeps core.old core.new) }
 {
     let kept = mem::replace(&mut core.sessions.kept, List::new(alloc));

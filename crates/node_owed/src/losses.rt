@@ -107,7 +107,7 @@ fn tell_at(core: &mut Core, alloc: Global, place: usize) -> Result<(), NoMemory>
 /// Tells who is lost, group by group.
 #[tactic(auto, unfolding(node_state::specs::State::held_rows), using(crate::proofs::LossLaws::told_more, crate::proofs::LossLaws::told_groups, std::proofs::lemmas::Grind::common_steps))]
 fn tell_lost(core: &mut Core, alloc: Global) -> Result<(), NoMemory>
-    ensures row { OnOk result (core.new ≡ fold lost_told core.old (held_rows core.old)) }
+    ensures rule { OnOk result (core.new ≡ fold lost_told core.old (held_rows core.old)) }
     ensures keeps { OnOk result (Keeps core.old core.new) }
 {
     for i in 0..core.groups.rows.len() {
@@ -119,7 +119,7 @@ fn tell_lost(core: &mut Core, alloc: Global) -> Result<(), NoMemory>
 /// The part of a tick on what is owed: requests, then GONE for those who are lost, then votes are sent again.
 #[tactic(auto, unfolding(node_state::specs::Ticks::tick_owed))]
 pub fn tick_owed(core: &mut Core, alloc: Global) -> Result<(), NoMemory>
-    ensures row { OnOk result (core.new ≡ tick_owed core.old) }
+    ensures rule { OnOk result (core.new ≡ tick_owed core.old) }
     ensures keeps { OnOk result (Keeps core.old core.new) }
 {
     if is_frozen(core) {

@@ -31,7 +31,7 @@ pub fn copy_request(alloc: Global, request: &Request) -> Result<Request, NoMemor
 /// Sends an outstanding request to the leader of its group, or looks the name up; nothing where the node is frozen.
 #[tactic(auto, unfolding(node_state::specs::Sending::send_request))]
 pub fn send_request(core: &mut Core, alloc: Global, request: &Request) -> Result<(), NoMemory>
-    ensures row { OnOk result (core.new ≡ send_request core.old request.now) }
+    ensures rule { OnOk result (core.new ≡ send_request core.old request.now) }
     ensures keeps { OnOk result (Keeps core.old core.new) }
 {
     if is_frozen(core) {
@@ -73,7 +73,7 @@ fn send_each_of(
 
 /// Sends each outstanding request, in order of number.
 pub fn send_requests(core: &mut Core, alloc: Global) -> Result<(), NoMemory>
-    ensures row { OnOk result (core.new ≡ send_requests core.old) }
+    ensures rule { OnOk result (core.new ≡ send_requests core.old) }
     ensures keeps { OnOk result (Keeps core.old core.new) }
 {
     let requests = mem::replace(&mut core.sessions.requests, List::new(alloc));
@@ -84,7 +84,7 @@ pub fn send_requests(core: &mut Core, alloc: Global) -> Result<(), NoMemory>
 
 /// Sends each outstanding request in the group, in order of number.
 pub fn send_requests_of(core: &mut Core, alloc: Global, group: &[u8]) -> Result<(), NoMemory>
-    ensures row { OnOk result
+    ensures rule { OnOk result
         (core.new ≡ fold send_request core.old (requests_of core.old group.now)) }
     ensures keeps { OnOk result (Keeps core.old core.new) }
 {

@@ -26,7 +26,7 @@ fn take_rows(reach: &mut Reach, rows: &[ReportRow])
 /// REPORT: each row is taken.
 #[tactic(auto, unfolding(node_state::specs::Ticks::take_report))]
 pub fn take_report(core: &mut Core, rows: &[ReportRow])
-    ensures row { core.new ≡ take_report core.old rows.now }
+    ensures rule { core.new ≡ take_report core.old rows.now }
     ensures keeps { Keeps core.old core.new }
 {
     take_rows(&mut core.reach, rows);
@@ -103,7 +103,7 @@ fn send_rows(
 /// The own row becomes these nodes, and all rows go to the others of them.
 #[tactic(auto, unfolding(node_state::specs::Ticks::send_report))]
 pub fn send_report(core: &mut Core, alloc: Global, mask: Mask) -> Result<(), NoMemory>
-    ensures row { OnOk result (core.new ≡ send_report core.old mask) }
+    ensures rule { OnOk result (core.new ≡ send_report core.old mask) }
     ensures keeps { OnOk result (Keeps core.old core.new) }
 {
     core.reach.set_own(mask);

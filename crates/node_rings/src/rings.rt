@@ -8,7 +8,7 @@ ghost use Rattle.node_groups.specs.Keeps.{Keeps};
 ghost use Rattle.node_state.specs.declared.packet.Body.TheVariants as body;
 ghost use Rattle.node_state.specs.State.{recorded_all};
 ghost use Rattle.node_state.specs.Sending.{send_on};
-ghost use Rattle.node_state.specs.Ticks.{ring_put, ring_row, ring_taken, set_records};
+ghost use Rattle.node_state.specs.Ticks.{ring_put, ring_rule, ring_taken, set_records};
 
 use adapter_ring::{Ring, RingEvent, RingOut, RingPacket, RingSend, RingSet};
 use node_sending::send_on;
@@ -81,7 +81,7 @@ fn take_step(core: &mut Core, alloc: Global, ring: &Ring, out: &RingOut) -> Resu
 
 /// A ring takes an event, and what its step leaves is taken.
 pub fn step(core: &mut Core, alloc: Global, ring: &Ring, event: RingEvent) -> Result<(), NoMemory>
-    ensures row { OnOk result (core.new ≡ ring_taken core.old (ring_step ring.now event)) }
+    ensures rule { OnOk result (core.new ≡ ring_taken core.old (ring_step ring.now event)) }
     ensures keeps { OnOk result (Keeps core.old core.new) }
 {
     let mut next = *ring;
@@ -97,7 +97,7 @@ fn ring_of(rings: &[Ring], network: u8) -> Option<Ring>
 }
 
 /// A packet of a ring goes to the ring of its network.
-#[tactic(auto, unfolding(node_state::specs::Ticks::ring_row, node_state::specs::Ticks::ring_row_of))]
+#[tactic(auto, unfolding(node_state::specs::Ticks::ring_rule, node_state::specs::Ticks::ring_rule_of))]
 pub fn take_ring_packet(
     core: &mut Core,
     alloc: Global,
@@ -106,7 +106,7 @@ pub fn take_ring_packet(
     inc: u32,
     packet: RingPacket,
 ) -> Result<(), NoMemory>
-    ensures row { OnOk result (core.new ≡ ring_row core.old network from inc packet) }
+    ensures rule { OnOk result (core.new ≡ ring_rule core.old network from inc packet) }
     ensures keeps { OnOk result (Keeps core.old core.new) }
 {
     match ring_of(core.rings.as_slice(), network) {

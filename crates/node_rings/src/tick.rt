@@ -16,7 +16,7 @@ use std::alloc::Global;
 
 /// Each of these rings ticks.
 fn tick_each(core: &mut Core, alloc: Global, rings: &[Ring]) -> Result<(), NoMemory>
-    ensures row { OnOk result (core.new ≡ fold (λ u (r : Ring). ring_taken u
+    ensures rule { OnOk result (core.new ≡ fold (λ u (r : Ring). ring_taken u
         (ring_step r ring_event.Tick)) core.old rings.now) }
     ensures keeps { OnOk result (Keeps core.old core.new) }
 {
@@ -39,7 +39,7 @@ fn union_of(rings: &[Ring]) -> Mask
 /// The rings tick in network order, and all rows go to the nodes of their union.
 #[tactic(auto, unfolding(node_state::specs::Ticks::rings_tick))]
 fn tick_all(core: &mut Core, alloc: Global) -> Result<(), NoMemory>
-    ensures row { OnOk result (core.new ≡ rings_tick core.old) }
+    ensures rule { OnOk result (core.new ≡ rings_tick core.old) }
     ensures keeps { OnOk result (Keeps core.old core.new) }
 {
     let rings = List::of(alloc, core.rings.as_slice())?;
@@ -52,7 +52,7 @@ fn tick_all(core: &mut Core, alloc: Global) -> Result<(), NoMemory>
 /// union.
 #[tactic(auto, unfolding(node_state::specs::Ticks::tick_rings))]
 pub fn tick_rings(core: &mut Core, alloc: Global) -> Result<(), NoMemory>
-    ensures row { OnOk result (core.new ≡ tick_rings core.old) }
+    ensures rule { OnOk result (core.new ≡ tick_rings core.old) }
     ensures keeps { OnOk result (Keeps core.old core.new) }
 {
     if !is_rings(core.config.mode) {

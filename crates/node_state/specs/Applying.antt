@@ -176,7 +176,7 @@ unfoldable pub apply_install : Answering → Core → Option Install → Core
 apply_install f s None = s
 apply_install f s (Some i) = entered_if f s i (lacking s i)
 
--- what a row of views leaves: its state, what it sends, and the install that is to be applied
+-- what a rule of views leaves: its state, what it sends, and the install that is to be applied
 unfoldable pub views_taken : Answering → Core → ViewWork → Core
 views_taken f s w =
     apply_install f (fold (λ t (x : ViewSend). sent t x.to (body.View x.packet)) (record s { views = w.views }) w.sends) w.install

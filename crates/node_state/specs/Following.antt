@@ -1,4 +1,4 @@
--- The rows of the packets of a view.
+-- The rules of the packets of a view.
 use Rattle.std.specs.Prelude.{ℕ, Bool, true, false, not, ◌==◌, ◌&&◌, ◌||◌, ◌++◌, List, [], ◌∷◌, filter, fold, length, Option, Some, None, nat_le, nat_lt, is_none}
 use Rattle.std.specs.Option.{unwrap_or}
 use Rattle.std.specs.Str.{bytes_eq}

@@ -12,7 +12,7 @@ use Rattle.node_reach.specs.Reach.{reach_new}
 use Rattle.session_state.specs.State.{no_sessions}
 use Rattle.view_state.specs.declared.packet.ViewPacket.{ViewPacket}
 use Rattle.view_state.specs.declared.packet.ViewPacket.TheVariants as packet
-use Rattle.view_state.specs.Views.{views_new, views_at_work, ask_row, prepare_row, answer_row, refuse_row, install_row, taken_row}
+use Rattle.view_state.specs.Views.{views_new, views_at_work, ask_rule, prepare_rule, answer_rule, refuse_rule, install_rule, taken_rule}
 use Rattle.node_state.specs.declared.call.CallLine.{CallLine}
 use Rattle.node_state.specs.declared.config.Config.{Config}
 use Rattle.node_state.specs.declared.config.Mode.{Mode}
@@ -29,7 +29,7 @@ use Rattle.node_state.specs.Sending.{send_on}
 use Rattle.node_state.specs.HandOn.{Answering}
 use Rattle.node_state.specs.Following.{take_lookup, take_name, take_request, take_tell, take_entry, take_ack, take_vote, take_gone}
 use Rattle.node_state.specs.Applying.{own_parts, level_set, views_taken}
-use Rattle.node_state.specs.Ticks.{ring_row, take_report, tick_row}
+use Rattle.node_state.specs.Ticks.{ring_rule, take_report, tick_rule}
 use Rattle.node_state.specs.Ending.{end_step}
 use Rattle.node_state.specs.Status.{status_text}
 use Rattle.node_state.specs.Calls.{take_call}
@@ -58,21 +58,21 @@ used_if s t false = s
 -- an order to ask for a view does nothing in mode fixed
 unfoldable pub take_order : Answering → Core → Mask → Core
 take_order f s mask =
-    elim (is_fixed s.config.mode) [ true ↦ s | false ↦ views_taken f s (ask_row (views_at_work s.views) mask (own_parts s)) ]
+    elim (is_fixed s.config.mode) [ true ↦ s | false ↦ views_taken f s (ask_rule (views_at_work s.views) mask (own_parts s)) ]
 
 -- the packets of views
-unfoldable pub view_row : Answering → Core → ℕ → ℕ → ViewPacket → Core
-view_row f s from inc (packet.Prepare v mask) = views_taken f s (prepare_row (views_at_work s.views) from inc v mask (own_parts s))
-view_row f s from inc (packet.Answer v old parts) = views_taken f s (answer_row (views_at_work s.views) v (record { node = from; inc = inc; view = old; parts = parts }))
-view_row f s from inc (packet.Refuse v n) = views_taken f s (refuse_row (views_at_work s.views) v n)
-view_row f s from inc (packet.Install i) = views_taken f s (install_row (views_at_work s.views) i)
-view_row f s from inc (packet.Taken v) = views_taken f s (taken_row (views_at_work s.views) from v)
+unfoldable pub view_rule : Answering → Core → ℕ → ℕ → ViewPacket → Core
+view_rule f s from inc (packet.Prepare v mask) = views_taken f s (prepare_rule (views_at_work s.views) from inc v mask (own_parts s))
+view_rule f s from inc (packet.Answer v old parts) = views_taken f s (answer_rule (views_at_work s.views) v (record { node = from; inc = inc; view = old; parts = parts }))
+view_rule f s from inc (packet.Refuse v n) = views_taken f s (refuse_rule (views_at_work s.views) v n)
+view_rule f s from inc (packet.Install i) = views_taken f s (install_rule (views_at_work s.views) i)
+view_rule f s from inc (packet.Taken v) = views_taken f s (taken_rule (views_at_work s.views) from v)
 
 -- the table of packets
 unfoldable pub take_body : Answering → Core → Packet → Body → Core
-take_body f s p (body.Ring x) = ring_row s p.network p.from p.inc x
+take_body f s p (body.Ring x) = ring_rule s p.network p.from p.inc x
 take_body f s p (body.Report rows) = take_report s rows
-take_body f s p (body.View x) = view_row f s p.from p.inc x
+take_body f s p (body.View x) = view_rule f s p.from p.inc x
 take_body f s p (body.Lookup v g) = used_if s (take_lookup s p.from g) (is_used s p v)
 take_body f s p (body.Name v g n) = used_if s (take_name s g n) (is_used s p v)
 take_body f s p (body.Request v g q r phases x) = used_if s (take_request f s p.from g q r phases x) (is_used s p v)
@@ -85,17 +85,17 @@ take_body f s p (body.Query question what) = send_on s p.network p.from (body.Re
 take_body f s p (body.Reply question text) = s
 
 -- a packet for another node is dropped
-unfoldable pub packet_row : Answering → Core → Packet → Core
-packet_row f s p = elim (p.to == s.views.me) [ true ↦ take_body f s p p.body | false ↦ s ]
+unfoldable pub packet_rule : Answering → Core → Packet → Core
+packet_rule f s p = elim (p.to == s.views.me) [ true ↦ take_body f s p p.body | false ↦ s ]
 
 -- ---- the step
 
-unfoldable pub event_row : Answering → Core → NodeEvent → Core
-event_row f s Ticks = tick_row f s
-event_row f s (Asks mask) = end_step f (take_order f s mask)
-event_row f s (Given p) = end_step f (packet_row f s p)
-event_row f s (Calls c) = end_step f (take_call s c)
-event_row f s Garbage = end_step f s
+unfoldable pub event_rule : Answering → Core → NodeEvent → Core
+event_rule f s Ticks = tick_rule f s
+event_rule f s (Asks mask) = end_step f (take_order f s mask)
+event_rule f s (Given p) = end_step f (packet_rule f s p)
+event_rule f s (Calls c) = end_step f (take_call s c)
+event_rule f s Garbage = end_step f s
 
 -- at work, with nothing sent or recorded yet
 abbrev pub at_work : Core → Core
@@ -103,7 +103,7 @@ at_work s = record s { sends = []; records = [] }
 
 -- The step: the state after it, with what it sends and records. `f` says what clients answer.
 unfoldable pub stepped : Answering → Core → NodeEvent → Core
-stepped f s e = event_row f (at_work s) e
+stepped f s e = event_rule f (at_work s) e
 
 -- ---- the start
 
@@ -153,5 +153,5 @@ started c me inc =
 
 -- opens each word of this file, for a computation
 unfoldable pub step_opens : Unit {0}
-unfolding is_used used_if take_order view_row take_body packet_row event_row stepped own_ring own_rings first_view first_members ring_record started
+unfolding is_used used_if take_order view_rule take_body packet_rule event_rule stepped own_ring own_rings first_view first_members ring_record started
 step_opens = tt

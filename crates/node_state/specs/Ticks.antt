@@ -58,13 +58,13 @@ ring_taken s w =
     let t : Core = fold (λ u (x : RingSend). send_on u x.network x.to (body.Ring x.packet)) (record s { rings = ring_put s.rings w.ring }) w.sends in
     recorded_all t (set_records s.views.me w.ring.net w.set)
 
-unfoldable pub ring_row_of : Core → ℕ → ℕ → RingPacket → Option Ring → Core
-ring_row_of s from inc p None = s
-ring_row_of s from inc p (Some r) = ring_taken s (ring_step r (ring_event.Packet from inc p))
+unfoldable pub ring_rule_of : Core → ℕ → ℕ → RingPacket → Option Ring → Core
+ring_rule_of s from inc p None = s
+ring_rule_of s from inc p (Some r) = ring_taken s (ring_step r (ring_event.Packet from inc p))
 
 -- a packet of a ring goes to the ring of the network that its head names
-unfoldable pub ring_row : Core → ℕ → ℕ → ℕ → RingPacket → Core
-ring_row s network from inc p = ring_row_of s from inc p (find (λ (r : Ring). r.net == network) s.rings)
+unfoldable pub ring_rule : Core → ℕ → ℕ → ℕ → RingPacket → Core
+ring_rule s network from inc p = ring_rule_of s from inc p (find (λ (r : Ring). r.net == network) s.rings)
 
 unfoldable pub row_reported : Reach → ReportRow → Reach
 row_reported r x = reach.reported r x.node (record { inc = x.inc; seq = x.seq; mask = x.mask })
@@ -185,10 +185,10 @@ unfoldable pub tick_led : Answering → Core → Core
 tick_led f s = elim (frozen s) [ true ↦ s | false ↦ fold (tick_group f) s (led_groups s) ]
 
 -- the parts of a tick; (6) is the end of every step
-unfoldable pub tick_row : Answering → Core → Core
-tick_row f s = end_step f (tick_led f (tick_owed (tick_views f (tick_rings s))))
+unfoldable pub tick_rule : Answering → Core → Core
+tick_rule f s = end_step f (tick_led f (tick_owed (tick_views f (tick_rings s))))
 
 -- opens each word of this file, for a computation
 unfoldable pub ticks_opens : Unit {0}
-unfolding ring_put set_records ring_taken ring_row_of ring_row row_reported take_report rings_union row_listed report_of send_report rings_tick tick_rings reached is_long is_due ring_ask_for ring_ask tick_views is_lost lost_told tick_owed late_appended announced tally_ticks entries_sent list_sent_again sent_again tick_group tick_led tick_row
+unfolding ring_put set_records ring_taken ring_rule_of ring_rule row_reported take_report rings_union row_listed report_of send_report rings_tick tick_rings reached is_long is_due ring_ask_for ring_ask tick_views is_lost lost_told tick_owed late_appended announced tally_ticks entries_sent list_sent_again sent_again tick_group tick_led tick_rule
 ticks_opens = tt

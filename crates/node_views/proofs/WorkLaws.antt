@@ -23,8 +23,8 @@ use Rattle.view_state.specs.declared.packet.ViewSend.{ViewSend}
 use Rattle.view_core.specs.declared.step.ViewEvent.TheVariants as event
 use Rattle.view_state.specs.declared.views.RingAsk.{RingAsk}
 use Rattle.view_state.specs.declared.views.ViewWork.{ViewWork}
-use Rattle.view_state.specs.Views.{views_at_work, views_entered, ask_row}
-use Rattle.view_core.specs.Steps.{view_row, view_stepped}
+use Rattle.view_state.specs.Views.{views_at_work, views_entered, ask_rule}
+use Rattle.view_core.specs.Steps.{view_rule, view_stepped}
 use Rattle.node_state.specs.declared.config.Config.{Config}
 use Rattle.node_state.specs.declared.group.GroupRow.{GroupRow}
 use Rattle.node_state.specs.declared.happened.Happened.{Happened}
@@ -157,7 +157,7 @@ arrived_work s t u w x y i bs cs ds work order entering a b c d many =
     let k : Stays t y = stays_then t u y a (stays_then u w y b (keeps_stays w y (keeps_then w x y c d))) in
     record { ready = ready_same t y cs ds k.sessions.0 k.sessions.1 many there.ready; order = k.order there.order }
 
--- ---- rows in which clients answer
+-- ---- rules in which clients answer
 
 each_filled : (f : Answering) (s : Core) (ms : List Missing) → fold (λ t (m : Missing). list_filled f m.group.now t m.entries.now) s ms ≡ fill_lists f s (map lacking_at ms)
 unfolding fill_lists
@@ -225,7 +225,7 @@ applied_does scripts P Q W join s t u i b is goes filling entering =
     does_as scripts W s u (λ f. lead_groups f (arrived (filled_if f s (lacking s i)) i (bases_of i))) _ (λ f. entered_is f s i (lacking s i) (sym is ∙ goes))
     (does_then scripts P Q W join s t u (λ f. filled_if f s (lacking s i)) (λ f y. lead_groups f (arrived y i (bases_of i))) filling entering)
 
--- ---- rows of views
+-- ---- rules of views
 
 taken_is : (f : Answering) (s : Core) (w : ViewWork) → apply_install f (views_sent s w) w.install ≡ views_taken f s w
 unfolding views_taken views_sent
@@ -247,9 +247,9 @@ taken_does scripts P s t u w i sending some applying =
     (does_after scripts P s t u _ (keeps_follows s t (keeps_as s (views_sent s w) t sending (views_sent_keeps s w))) applying)
 
 order_is : (f : Answering) (s : Core) (mask : Mask) (b : Bool) → is_fixed s.config.mode ≡ b → (elim b as (λ _. Core) [ true ↦ s | false ↦ views_taken f s (view_stepped s.views (event.Ask mask) (own_parts s)) ]) ≡ take_order f s mask
-unfolding take_order view_stepped view_row
+unfolding take_order view_stepped view_rule
 order_is f s mask b e =
-    ap (λ (z : Bool). elim z as (λ _. Core) [ true ↦ s | false ↦ views_taken f s (ask_row (views_at_work s.views) mask (own_parts s)) ]) (sym e)
+    ap (λ (z : Bool). elim z as (λ _. Core) [ true ↦ s | false ↦ views_taken f s (ask_rule (views_at_work s.views) mask (own_parts s)) ]) (sym e)
 
 pub no_order_does : (scripts : List (Option (List (Option VoteItem)))) (P : List Handing → Type 0) → P [] → (s : Core) (mask : Mask) (b : Bool) → b ≡ is_fixed s.config.mode → b ≡ true → Does scripts P s s (λ f. take_order f s mask)
 no_order_does scripts P p s mask b is fixed = does_as scripts P s s (λ f. s) _ (λ f. order_is f s mask true (sym is ∙ fixed)) (does_nothing scripts P s p)
@@ -259,7 +259,7 @@ pub order_does : (scripts : List (Option (List (Option VoteItem)))) (P : List Ha
 order_does scripts P s t mask b is stops done = does_as scripts P s t _ _ (λ f. order_is f s mask false (sym is ∙ stops)) done
 
 ticked_is : (f : Answering) (s : Core) (a : Option RingAsk) → a ≡ ring_ask s → let t : Core = views_taken f s (view_stepped s.views (event.Tick a) (own_parts s)) in views_taken f t (view_stepped t.views event.Remind (own_parts t)) ≡ tick_views f s
-unfolding tick_views view_stepped view_row
+unfolding tick_views view_stepped view_rule
 ticked_is f s a e = rw e refl
 
 pub ticked_does : (scripts : List (Option (List (Option VoteItem)))) (P Q W : List Handing → Type 0) → Joins P Q W → (s t u : Core) (a : Option RingAsk) → a ≡ ring_ask s → Does scripts P s t (λ f. views_taken f s (view_stepped s.views (event.Tick a) (own_parts s)))

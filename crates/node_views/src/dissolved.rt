@@ -10,7 +10,7 @@ ghost use Rattle.session_state.specs.State.{provider_of, place_of, outstanding, 
 ghost use Rattle.view_state.specs.Bases.{base_named};
 ghost use Rattle.node_groups.specs.Keeps.{Stays};
 ghost use Rattle.entry_delivery.specs.Received.{Receive};
-ghost use Rattle.entry_delivery.specs.Doing.{Does, RowDoes};
+ghost use Rattle.entry_delivery.specs.Doing.{Does, RuleDoes};
 ghost use Rattle.node_state.specs.declared.happened.Happened.TheVariants as happened;
 ghost use Rattle.node_views.specs.Arriving.{handed_at};
 ghost use Rattle.session_state.specs.Calls.{SameSessions};
@@ -138,7 +138,7 @@ fn dissolve<C: Callbacks>(
     ensures received { OnOk result (Receive C.stands_for clients.old.items clients.new.items
         (handed_at (place_of core.old.sessions provider)
         (happened.Told provider request why.Dissolved) ∷ [])) }
-    ensures row { OnOk result (core.new ≡ dissolved core.old provider request) }
+    ensures rule { OnOk result (core.new ≡ dissolved core.old provider request) }
     ensures stays { OnOk result (Stays core.old core.new) }
 {
     tell_dissolved(&mut core.sessions, clients, provider, request)?;
@@ -162,7 +162,7 @@ fn dissolve_if<C: Callbacks>(
     requires aligned { length clients.old.items ≡ length core.old.sessions.sessions }
     ensures length { length clients.new.items ≡ length clients.old.items }
     ensures scripts { OnOk result (KeepsScripts C.script clients.old.items clients.new.items) }
-    ensures does { OnOk result (RowDoes C.script C.stands_for clients.old.items clients.new.items
+    ensures does { OnOk result (RuleDoes C.script C.stands_for clients.old.items clients.new.items
         core.old core.new (λ f. dissolved_if core.old group.now old (option_copied base.entry)
         (provider_of core.old.sessions provider))) }
     ensures stays { OnOk result (Stays core.old core.new) }
@@ -192,7 +192,7 @@ fn dissolve_each<C: Callbacks>(
     requires aligned { length clients.old.items ≡ length core.old.sessions.sessions }
     ensures length { length clients.new.items ≡ length clients.old.items }
     ensures scripts { OnOk result (KeepsScripts C.script clients.old.items clients.new.items) }
-    ensures does { OnOk result (RowDoes C.script C.stands_for clients.old.items clients.new.items
+    ensures does { OnOk result (RuleDoes C.script C.stands_for clients.old.items clients.new.items
         core.old core.new (λ f. fold (λ t p. dissolved_if t group.now old (option_copied base.entry)
         (provider_of t.sessions p)) core.old providers.now)) }
     ensures stays { OnOk result (Stays core.old core.new) }
@@ -215,7 +215,7 @@ fn dissolve_group<C: Callbacks>(
     requires aligned { length clients.old.items ≡ length core.old.sessions.sessions }
     ensures length { length clients.new.items ≡ length clients.old.items }
     ensures scripts { OnOk result (KeepsScripts C.script clients.old.items clients.new.items) }
-    ensures does { OnOk result (RowDoes C.script C.stands_for clients.old.items clients.new.items
+    ensures does { OnOk result (RuleDoes C.script C.stands_for clients.old.items clients.new.items
         core.old core.new (λ f. fold (group_dissolved old bases.now) core.old
         (filter (λ x. is_some x.list) (row.now ∷ [])))) }
     ensures stays { OnOk result (Stays core.old core.new) }
@@ -256,7 +256,7 @@ pub(crate) fn dissolve_sides<C: Callbacks>(
     requires aligned { length clients.old.items ≡ length core.old.sessions.sessions }
     ensures length { length clients.new.items ≡ length clients.old.items }
     ensures scripts { OnOk result (KeepsScripts C.script clients.old.items clients.new.items) }
-    ensures does { OnOk result (RowDoes C.script C.stands_for clients.old.items clients.new.items
+    ensures does { OnOk result (RuleDoes C.script C.stands_for clients.old.items clients.new.items
         core.old core.new (λ f. sides_dissolved core.old
         (filter (λ x. is_some x.list) rows.now) old bases.now)) }
     ensures stays { OnOk result (Stays core.old core.new) }

@@ -4,7 +4,7 @@ ghost use Rattle.session_clients.specs.Clients.{KeepsScripts};
 ghost use Rattle.rsct_packet.specs.Format.{EachFits};
 ghost use Rattle.name_server.specs.Names.{names_differ};
 ghost use Rattle.view_state.specs.Bases.{bases_of};
-ghost use Rattle.entry_delivery.specs.Doing.{RowDoes};
+ghost use Rattle.entry_delivery.specs.Doing.{RuleDoes};
 ghost use Rattle.node_groups.specs.Keeps.{Keeps};
 ghost use Rattle.group_leading.specs.Working.{AtWork};
 ghost use Rattle.node_state.specs.State.{InNameOrder, recorded_all};
@@ -100,7 +100,7 @@ fn start_anew(
 /// TAKEN to the coordinator, if it is another node.
 #[tactic(auto, unfolding(node_state::specs::Applying::taken_sent), using(node_groups::proofs::KeepLaws::sent_keeps, node_groups::proofs::KeepLaws::keeps_itself))]
 fn send_taken(core: &mut Core) -> Result<(), NoMemory>
-    ensures row { OnOk result (core.new ≡ taken_sent core.old) }
+    ensures rule { OnOk result (core.new ≡ taken_sent core.old) }
     ensures keeps { OnOk result (Keeps core.old core.new) }
 {
     let view = core.views.view;
@@ -114,7 +114,7 @@ fn send_taken(core: &mut Core) -> Result<(), NoMemory>
 /// Outstanding requests and kept ballots are sent.
 #[tactic(auto, unfolding(node_state::specs::Applying::owed_sent), using(node_groups::proofs::KeepLaws::keeps_then))]
 fn send_owed(core: &mut Core, alloc: Global) -> Result<(), NoMemory>
-    ensures row { OnOk result (core.new ≡ owed_sent core.old) }
+    ensures rule { OnOk result (core.new ≡ owed_sent core.old) }
     ensures keeps { OnOk result (Keeps core.old core.new) }
 {
     send_requests(core, alloc)?;
@@ -134,7 +134,7 @@ fn arrive<C: Callbacks>(
     requires order { InNameOrder (map base_row bases.now) }
     ensures work { OnOk result (AtWork core.new clients.new.items) }
     ensures scripts { OnOk result (KeepsScripts C.script clients.old.items clients.new.items) }
-    ensures does { OnOk result (RowDoes C.script C.stands_for clients.old.items clients.new.items
+    ensures does { OnOk result (RuleDoes C.script C.stands_for clients.old.items clients.new.items
         core.old core.new (λ f. arrived core.old install bases.now)) }
 {
     let old = core.views.view;
@@ -155,7 +155,7 @@ fn enter<C: Callbacks>(
     requires work { AtWork core.old clients.old.items }
     ensures work { OnOk result (AtWork core.new clients.new.items) }
     ensures scripts { OnOk result (KeepsScripts C.script clients.old.items clients.new.items) }
-    ensures does { OnOk result (RowDoes C.script C.stands_for clients.old.items clients.new.items
+    ensures does { OnOk result (RuleDoes C.script C.stands_for clients.old.items clients.new.items
         core.old core.new (λ f. lead_groups f (arrived core.old install (bases_of install)))) }
 {
     let bases = bases_of(alloc, &install)?;
@@ -173,7 +173,7 @@ pub(crate) fn apply<C: Callbacks>(
     requires work { AtWork core.old clients.old.items }
     ensures work { OnOk result (AtWork core.new clients.new.items) }
     ensures scripts { OnOk result (KeepsScripts C.script clients.old.items clients.new.items) }
-    ensures does { OnOk result (RowDoes C.script C.stands_for clients.old.items clients.new.items
+    ensures does { OnOk result (RuleDoes C.script C.stands_for clients.old.items clients.new.items
         core.old core.new (λ f. apply_install f core.old (Some install))) }
 {
     if !fill(core, clients, alloc, &install)? {

@@ -3,7 +3,7 @@ ghost use Rattle.std.specs.Prelude.{◌≡◌, OnOk, IfOk, filter};
 ghost use Rattle.session_clients.specs.Clients.{KeepsScripts};
 ghost use Rattle.std.specs.List.{fold};
 ghost use Rattle.rsct_packet.specs.Providers.{among};
-ghost use Rattle.entry_delivery.specs.Doing.{RowDoes};
+ghost use Rattle.entry_delivery.specs.Doing.{RuleDoes};
 ghost use Rattle.group_leading.specs.Working.{AtWork};
 ghost use Rattle.node_groups.specs.Keeps.{Keeps};
 ghost use Rattle.node_state.specs.State.{state_of};
@@ -25,7 +25,7 @@ fn wait_failed(
     group: &Name,
     providers: &[ProviderId],
 ) -> Result<(), NoMemory>
-    ensures row { OnOk result (core.new ≡ wait_failed core.old group.now providers.now) }
+    ensures rule { OnOk result (core.new ≡ wait_failed core.old group.now providers.now) }
     ensures keeps { OnOk result (Keeps core.old core.new) }
 {
     for p in providers {
@@ -45,7 +45,7 @@ fn reopen<C: Callbacks>(
     requires work { AtWork core.old clients.old.items }
     ensures work { OnOk result (AtWork core.new clients.new.items) }
     ensures scripts { OnOk result (KeepsScripts C.script clients.old.items clients.new.items) }
-    ensures does { OnOk result (RowDoes C.script C.stands_for clients.old.items clients.new.items
+    ensures does { OnOk result (RuleDoes C.script C.stands_for clients.old.items clients.new.items
         core.old core.new (λ f. phase_reopened f core.old group.now runs)) }
 {
     if !runs {
@@ -82,7 +82,7 @@ fn lead_from<C: Callbacks>(
     requires state { state.now ≡ state_of core.old group.now }
     ensures work { OnOk result (AtWork core.new clients.new.items) }
     ensures scripts { OnOk result (KeepsScripts C.script clients.old.items clients.new.items) }
-    ensures does { OnOk result (RowDoes C.script C.stands_for clients.old.items clients.new.items
+    ensures does { OnOk result (RuleDoes C.script C.stands_for clients.old.items clients.new.items
         core.old core.new (λ f. lead f core.old group.now)) }
 {
     let failed = failed_members(alloc, state)?;
@@ -100,7 +100,7 @@ fn lead<C: Callbacks>(
     requires work { AtWork core.old clients.old.items }
     ensures work { OnOk result (AtWork core.new clients.new.items) }
     ensures scripts { OnOk result (KeepsScripts C.script clients.old.items clients.new.items) }
-    ensures does { OnOk result (RowDoes C.script C.stands_for clients.old.items clients.new.items
+    ensures does { OnOk result (RuleDoes C.script C.stands_for clients.old.items clients.new.items
         core.old core.new (λ f. lead f core.old group.now)) }
 {
     let state = state_of(core, alloc, group.bytes())?;
@@ -116,7 +116,7 @@ fn lead_each<C: Callbacks>(
     requires work { AtWork core.old clients.old.items }
     ensures work { OnOk result (AtWork core.new clients.new.items) }
     ensures scripts { OnOk result (KeepsScripts C.script clients.old.items clients.new.items) }
-    ensures does { OnOk result (RowDoes C.script C.stands_for clients.old.items clients.new.items
+    ensures does { OnOk result (RuleDoes C.script C.stands_for clients.old.items clients.new.items
         core.old core.new (λ f. fold (lead f) core.old groups.now)) }
 {
     for g in groups {
@@ -134,7 +134,7 @@ pub(crate) fn lead_groups<C: Callbacks>(
     requires work { AtWork core.old clients.old.items }
     ensures work { OnOk result (AtWork core.new clients.new.items) }
     ensures scripts { OnOk result (KeepsScripts C.script clients.old.items clients.new.items) }
-    ensures does { OnOk result (RowDoes C.script C.stands_for clients.old.items clients.new.items
+    ensures does { OnOk result (RuleDoes C.script C.stands_for clients.old.items clients.new.items
         core.old core.new (λ f. lead_groups f core.old)) }
 {
     let groups = led_groups(core, alloc)?;

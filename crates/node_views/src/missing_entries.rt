@@ -1,7 +1,7 @@
 //! What the node's lists lack of those that an install carries of its old view.
 ghost use Rattle.std.specs.Prelude.{◌≡◌, OnOk, IfOk, None, map, is_some, option_copied};
 ghost use Rattle.session_clients.specs.Clients.{KeepsScripts};
-ghost use Rattle.entry_delivery.specs.Doing.{RowDoes};
+ghost use Rattle.entry_delivery.specs.Doing.{RuleDoes};
 ghost use Rattle.group_leading.specs.Working.{AtWork};
 ghost use Rattle.view_state.specs.Bases.{source_at};
 ghost use Rattle.view_state.specs.Cut.{lacking_of};
@@ -100,7 +100,7 @@ fn fill_one<C: Callbacks>(
     requires work { AtWork core.old clients.old.items }
     ensures work { OnOk result (AtWork core.new clients.new.items) }
     ensures scripts { OnOk result (KeepsScripts C.script clients.old.items clients.new.items) }
-    ensures does { OnOk result (RowDoes C.script C.stands_for clients.old.items clients.new.items
+    ensures does { OnOk result (RuleDoes C.script C.stands_for clients.old.items clients.new.items
         core.old core.new (λ f. put_and_hand f core.old None group.now entry.now)) }
 {
     if !fits_at_end(core, alloc, group.bytes(), entry) {
@@ -120,7 +120,7 @@ fn fill_list<C: Callbacks>(
     requires work { AtWork core.old clients.old.items }
     ensures work { OnOk result (AtWork core.new clients.new.items) }
     ensures scripts { OnOk result (KeepsScripts C.script clients.old.items clients.new.items) }
-    ensures does { OnOk result (RowDoes C.script C.stands_for clients.old.items clients.new.items
+    ensures does { OnOk result (RuleDoes C.script C.stands_for clients.old.items clients.new.items
         core.old core.new (λ f. list_filled f group.now core.old entries.now)) }
 {
     for e in entries {
@@ -139,7 +139,7 @@ fn fill_lists<C: Callbacks>(
     requires work { AtWork core.old clients.old.items }
     ensures work { OnOk result (AtWork core.new clients.new.items) }
     ensures scripts { OnOk result (KeepsScripts C.script clients.old.items clients.new.items) }
-    ensures does { OnOk result (RowDoes C.script C.stands_for clients.old.items clients.new.items
+    ensures does { OnOk result (RuleDoes C.script C.stands_for clients.old.items clients.new.items
         core.old core.new (λ f. fill_lists f core.old (map lacking_at missing.now))) }
 {
     for m in missing {
@@ -160,7 +160,7 @@ pub(crate) fn fill<C: Callbacks>(
     ensures goes { IfOk result (λ b. b ≡ is_some (lacking core.old install.now)) }
     ensures work { OnOk result (AtWork core.new clients.new.items) }
     ensures scripts { OnOk result (KeepsScripts C.script clients.old.items clients.new.items) }
-    ensures does { OnOk result (RowDoes C.script C.stands_for clients.old.items clients.new.items
+    ensures does { OnOk result (RuleDoes C.script C.stands_for clients.old.items clients.new.items
         core.old core.new (λ f. filled_if f core.old (lacking core.old install.now))) }
 {
     match all_missing(core, alloc, install)? {

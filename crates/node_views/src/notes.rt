@@ -10,7 +10,7 @@ ghost use Rattle.view_state.specs.Bases.{base_named};
 ghost use Rattle.node_state.specs.Applying.{entering_noted};
 ghost use Rattle.node_groups.specs.Keeps.{Stays};
 ghost use Rattle.entry_delivery.specs.Received.{Receive};
-ghost use Rattle.entry_delivery.specs.Doing.{RowDoes};
+ghost use Rattle.entry_delivery.specs.Doing.{RuleDoes};
 ghost use Rattle.node_views.specs.Arriving.{note_at, notes_at, handed_at, note_handings};
 
 use crate::dissolved::base_named;
@@ -216,7 +216,7 @@ pub(crate) fn note_bases<C: Callbacks>(
     requires aligned { length clients.old.items ≡ length core.old.sessions.sessions }
     ensures length { length clients.new.items ≡ length clients.old.items }
     ensures scripts { OnOk result (KeepsScripts C.script clients.old.items clients.new.items) }
-    ensures does { OnOk result (RowDoes C.script C.stands_for clients.old.items clients.new.items
+    ensures does { OnOk result (RuleDoes C.script C.stands_for clients.old.items clients.new.items
         core.old core.new (λ f. entering_noted core.old bases.now)) }
     ensures stays { OnOk result (Stays core.old core.new) }
 {

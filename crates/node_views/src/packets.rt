@@ -1,8 +1,8 @@
-//! What the rows of views make of a node.
+//! What the rules of views make of a node.
 ghost use Rattle.std.specs.Prelude.{◌≡◌, OnOk, IfOk};
 ghost use Rattle.session_clients.specs.Clients.{KeepsScripts};
 ghost use Rattle.std.specs.List.{fold};
-ghost use Rattle.entry_delivery.specs.Doing.{RowDoes};
+ghost use Rattle.entry_delivery.specs.Doing.{RuleDoes};
 ghost use Rattle.group_leading.specs.Working.{AtWork};
 ghost use Rattle.view_core.specs.Steps.{view_stepped};
 ghost use Rattle.view_state.specs.declared.packet.ViewSend.{ViewSend};
@@ -41,7 +41,7 @@ fn send_each(core: &mut Core, sends: ViewSends) -> Result<(), NoMemory>
 fn step(core: &mut Core, alloc: Global, event: ViewEvent<'_>) -> Result<Option<Install>, NoMemory>
     ensures install { IfOk result (λ o. o ≡ (view_stepped core.old.views event.entry
         (own_parts core.old)).install) }
-    ensures row { OnOk result (core.new ≡ views_sent core.old
+    ensures rule { OnOk result (core.new ≡ views_sent core.old
         (view_stepped core.old.views event.entry (own_parts core.old))) }
 {
     let mut out = ViewOut::new(alloc);
@@ -54,7 +54,7 @@ fn step(core: &mut Core, alloc: Global, event: ViewEvent<'_>) -> Result<Option<I
     Ok(install)
 }
 
-/// What the rows of views make of an order, of a tick or of PREPARE, ANSWER, REFUSE, INSTALL or TAKEN; an install that follows is entered.
+/// What the rules of views make of an order, of a tick or of PREPARE, ANSWER, REFUSE, INSTALL or TAKEN; an install that follows is entered.
 pub fn take_view<C: Callbacks>(
     core: &mut Core,
     clients: &mut Vec<C>,
@@ -64,7 +64,7 @@ pub fn take_view<C: Callbacks>(
     requires work { AtWork core.old clients.old.items }
     ensures work { OnOk result (AtWork core.new clients.new.items) }
     ensures scripts { OnOk result (KeepsScripts C.script clients.old.items clients.new.items) }
-    ensures does { OnOk result (RowDoes C.script C.stands_for clients.old.items clients.new.items
+    ensures does { OnOk result (RuleDoes C.script C.stands_for clients.old.items clients.new.items
         core.old core.new (λ f. views_taken f core.old
         (view_stepped core.old.views event.entry (own_parts core.old)))) }
 {
@@ -84,7 +84,7 @@ pub fn take_order<C: Callbacks>(
     requires work { AtWork core.old clients.old.items }
     ensures work { OnOk result (AtWork core.new clients.new.items) }
     ensures scripts { OnOk result (KeepsScripts C.script clients.old.items clients.new.items) }
-    ensures does { OnOk result (RowDoes C.script C.stands_for clients.old.items clients.new.items
+    ensures does { OnOk result (RuleDoes C.script C.stands_for clients.old.items clients.new.items
         core.old core.new (λ f. take_order f core.old mask)) }
 {
     if is_fixed(core.config.mode) {
@@ -102,7 +102,7 @@ pub fn tick_views<C: Callbacks>(
     requires work { AtWork core.old clients.old.items }
     ensures work { OnOk result (AtWork core.new clients.new.items) }
     ensures scripts { OnOk result (KeepsScripts C.script clients.old.items clients.new.items) }
-    ensures does { OnOk result (RowDoes C.script C.stands_for clients.old.items clients.new.items
+    ensures does { OnOk result (RuleDoes C.script C.stands_for clients.old.items clients.new.items
         core.old core.new (λ f. tick_views f core.old)) }
 {
     let ring_ask = ring_ask(core);

@@ -31,7 +31,7 @@ fn message_of(alloc: Global, count: u32) -> Result<Vec<u8>, AllocError> {
 fn cut_all(alloc: Global, message: &[u8], messages: u32, pieces: &mut Vec<Vec<u8>>) -> u32 {
     let mut done = 0u32;
     for i in 0..messages {
-        if let Ok(true) = cut(alloc, 1, 1, u64::from(i) + 1, message, pieces) {
+        if let Ok(true) = cut(alloc, pieces, 1, 1, u64::from(i) + 1, message) {
             done = done.saturating_add(1);
         }
     }

@@ -46,11 +46,11 @@ fn pieces_of(alloc: Global, first: &PieceHead, message: &[u8]) -> Result<Vec<Vec
 /// empty or has more than 70,560,000 bytes. Where memory has run out, `out` is as before.
 pub fn cut(
     alloc: Global,
+    out: &mut Vec<Vec<u8>>,
     sender: u8,
     incarnation: u32,
     number: u64,
     message: &[u8],
-    out: &mut Vec<Vec<u8>>,
 ) -> Result<bool, NoMemory>
     requires { sender ≤ 32 }
     ensures when { IfOk result (λ done. done ≡ can_cut message.now) }

@@ -33,8 +33,8 @@ fn count(kept: &mut u64, limit: u64, len: usize) -> Result<(), WorldFault>
 fn post(
     packets: &mut WorldPackets,
     kept: &mut u64,
-    limit: u64,
     alloc: Global,
+    limit: u64,
     packet: &Packet,
 ) -> Result<(), WorldFault>
     ensures packets { OnOk result ((w : world.World) → PacketsStand packets.old w
@@ -55,8 +55,8 @@ fn post(
 pub fn post_all(
     packets: &mut WorldPackets,
     kept: &mut u64,
-    limit: u64,
     alloc: Global,
+    limit: u64,
     sent: &[Packet],
 ) -> Result<(), WorldFault>
     ensures packets { OnOk result ((w : world.World) → PacketsStand packets.old w
@@ -68,7 +68,7 @@ pub fn post_all(
 {
     let mut left = sent;
     while let Some((p, rest)) = left.split_first() {
-        if let Err(e) = post(packets, kept, limit, alloc, p) {
+        if let Err(e) = post(packets, kept, alloc, limit, p) {
             return Err(e);
         }
         left = rest;

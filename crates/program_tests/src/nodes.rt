@@ -17,7 +17,7 @@ fn says(alloc: Global, what: What, text: &[u8]) -> Option<bool> {
     let node = node(alloc)?;
     let mut out = Vec::new(alloc);
     out.push(b'>').ok()?;
-    node.status(alloc, what, &mut out).ok()?;
+    node.status(alloc, &mut out, what).ok()?;
     Some(out.as_slice() == text)
 }
 

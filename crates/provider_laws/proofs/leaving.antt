@@ -1,5 +1,5 @@
 pub mod Walk
-pub mod Rows
+pub mod Rules
 pub mod Walking
 pub mod Left
 pub mod Calling

@@ -2,7 +2,7 @@ pub mod Orderly
 pub mod Growing
 pub mod Beginning
 pub mod Walk
-pub mod Rows
+pub mod Rules
 pub mod Calling
 pub mod Walking
 pub mod Onward

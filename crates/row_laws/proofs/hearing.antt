@@ -1,7 +1,7 @@
 pub mod Changes
 pub mod Leading
 pub mod Sessions
-pub mod Rows
+pub mod Rules
 pub mod Whose
 pub mod Viewing
 pub mod Handing

@@ -1,4 +1,4 @@
-//! What the rows of the step do in every run: who hears what, which votes are kept, who fails.
+//! What the rules of the step do in every run: who hears what, which votes are kept, who fails.
 #![tactic(auto)]
 
 pub mod failed_rows;

@@ -4,7 +4,7 @@ pub mod Growing
 pub mod Standing
 pub mod Putting
 pub mod TakerWalk
-pub mod TakerRows
+pub mod TakerRules
 pub mod TakerWalking
 pub mod Keeping
 pub mod Calls
@@ -13,7 +13,7 @@ pub mod Resting
 pub mod Stepping
 pub mod TakerLaw
 pub mod FairWalk
-pub mod FairRows
+pub mod FairRules
 pub mod FairWalking
 pub mod Fair
 pub mod Tellings

@@ -1,6 +1,6 @@
 pub mod Stepping
 pub mod Leading
-pub mod Rows
+pub mod Rules
 pub mod Viewing
 pub mod Finding
 pub mod Playing

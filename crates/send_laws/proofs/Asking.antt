@@ -28,7 +28,7 @@ use Rattle.view_exchange.specs.Longest.{NamesDiffer}
 use Rattle.view_bases.proofs.Bases.{base_is}
 use Rattle.view_state.specs.declared.views.RingAsk.{RingAsk}
 use Rattle.view_state.specs.declared.views.ViewWork.{ViewWork}
-use Rattle.view_state.specs.Views.{view_sent_all, gathering_set, promised, begin_install, gathered, gather_on, own_answer, ask_others, next_view, may_ask, ask_if, ask_row, prepare_again, note_stuck, tick_asks, asks_or_ages, gathering_ticks, views_at_work}
+use Rattle.view_state.specs.Views.{view_sent_all, gathering_set, promised, begin_install, gathered, gather_on, own_answer, ask_others, next_view, may_ask, ask_if, ask_rule, prepare_again, note_stuck, tick_asks, asks_or_ages, gathering_ticks, views_at_work}
 use Rattle.node_state.specs.declared.group.GroupRow.{GroupRow}
 use Rattle.node_state.specs.declared.state.Core.{Core}
 use Rattle.node_state.specs.State.{AllAfter, InNameOrder, row_found, row_of, list_of, state_of, held_rows, has_name}
@@ -162,8 +162,8 @@ asked_is w s mask true = refl
 asked_is w s mask false = refl
 
 -- it is made of its own answer
-asks_alone : (w : ViewWork) (s : Core) (mask : Mask) → w.install ≡ None → own_answer w.views (own_parts s) ≡ own_answer s.views (own_parts s) → AloneIf s (ask_row w mask (own_parts s)).install
-unfolding ask_row asked_if ask_others gather_on gathered begin_install view_sent_all gathering_set promised
+asks_alone : (w : ViewWork) (s : Core) (mask : Mask) → w.install ≡ None → own_answer w.views (own_parts s) ≡ own_answer s.views (own_parts s) → AloneIf s (ask_rule w mask (own_parts s)).install
+unfolding ask_rule asked_if ask_others gather_on gathered begin_install view_sent_all gathering_set promised
 asks_alone w s mask none same = subst (λ (z : ViewWork). AloneIf s z.install) (sym (asked_is w s mask (may_ask w.views mask))) (by (may_ask w.views mask) (nat_le (length (own_parts s)) max_parts))
   where
     g : Exchange
@@ -188,9 +188,9 @@ asks_alone w s mask none same = subst (λ (z : ViewWork). AloneIf s z.install) (
     by true false = nothing
     by true true = all (all_answered g)
 
-pub asks_fine : (s : Core) (mask : Mask) → Stands s → FineIf s.views.view (ask_row (views_at_work s.views) mask (own_parts s)).install
+pub asks_fine : (s : Core) (mask : Mask) → Stands s → FineIf s.views.view (ask_rule (views_at_work s.views) mask (own_parts s)).install
 asks_fine s mask k =
-    alone_fine_if s (ask_row (views_at_work s.views) mask (own_parts s)).install k (asks_alone (views_at_work s.views) s mask refl refl)
+    alone_fine_if s (ask_rule (views_at_work s.views) mask (own_parts s)).install k (asks_alone (views_at_work s.views) s mask refl refl)
 
 -- in a tick
 pub ticks_alone : (s : Core) (o : Option RingAsk) → AloneIf s (gathering_ticks (views_at_work s.views) o (own_parts s)).install

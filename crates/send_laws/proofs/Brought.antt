@@ -22,7 +22,7 @@ use Rattle.view_exchange.proofs.Longest.{longest_are_carried}
 use Rattle.view_state.specs.declared.packet.ViewPacket.{ViewPacket}
 use Rattle.view_state.specs.declared.packet.ViewPacket.TheVariants as view
 use Rattle.view_state.specs.declared.views.ViewWork.{ViewWork}
-use Rattle.view_state.specs.Views.{views_at_work, view_sent, gathering_set, promised, begin_install, gathered, gather_on, answered, prepare, prepare_row, answer_to, answer_row, refused_by, refuse_to, refuse_row, installed, install_row, taken_row}
+use Rattle.view_state.specs.Views.{views_at_work, view_sent, gathering_set, promised, begin_install, gathered, gather_on, answered, prepare, prepare_rule, answer_to, answer_rule, refused_by, refuse_to, refuse_rule, installed, install_rule, taken_rule}
 use Rattle.node_state.specs.declared.packet.Body.{Body}
 use Rattle.node_state.specs.declared.packet.Body.TheVariants as body
 use Rattle.node_state.specs.declared.packet.Packet.{Packet}
@@ -160,8 +160,8 @@ nothing_fine v o e = subst (FineIf v) (sym e) tt
 
 module _ (w : Scene) (n : ℕ) (s : Core) (all : (g : List ℕ) → Tied g w n s) (gathering : GatheredIf s.views.gathering) where
   -- ANSWER
-  answers_fine : (v old : ViewId) (parts : List Part) (p : Packet) → p.body ≡ body.View (view.Answer v old parts) → Has p w.sent → FineIf s.views.view (answer_row (views_at_work s.views) v (record { node = p.from; inc = p.inc; view = old; parts = parts })).install
-  unfolding answer_row answer_to gather_on gathered gathering_set begin_install
+  answers_fine : (v old : ViewId) (parts : List Part) (p : Packet) → p.body ≡ body.View (view.Answer v old parts) → Has p w.sent → FineIf s.views.view (answer_rule (views_at_work s.views) v (record { node = p.from; inc = p.inc; view = old; parts = parts })).install
+  unfolding answer_rule answer_to gather_on gathered gathering_set begin_install
   answers_fine v old parts p is delivered = by s.views.gathering refl gathering
     where
       a : Answer
@@ -189,8 +189,8 @@ module _ (w : Scene) (n : ℕ) (s : Core) (all : (g : List ℕ) → Tied g w n s
       by (Some e) q k = at e q k.counted (same_view e.view v && may_answer e p.from) refl
 
   -- INSTALL
-  installs_fine : (i : Install) (p : Packet) → p.body ≡ body.View (view.Install i) → Has p w.sent → length i.members ≤ 32 → FineIf s.views.view (install_row (views_at_work s.views) i).install
-  unfolding install_row installed view_sent
+  installs_fine : (i : Install) (p : Packet) → p.body ≡ body.View (view.Install i) → Has p w.sent → length i.members ≤ 32 → FineIf s.views.view (install_rule (views_at_work s.views) i).install
+  unfolding install_rule installed view_sent
   installs_fine i p is delivered few =
       by (same_view s.views.view i.view) (same_view s.views.promise i.view && is_member i.members s.views.me s.views.inc)
     where
@@ -199,8 +199,8 @@ module _ (w : Scene) (n : ℕ) (s : Core) (all : (g : List ℕ) → Tied g w n s
       by false true = sent_fine w n s all p i is delivered few
       by false false = tt
 
-  takes_none : (from : ℕ) (v : ViewId) → (taken_row (views_at_work s.views) from v).install ≡ None
-  unfolding taken_row
+  takes_none : (from : ℕ) (v : ViewId) → (taken_rule (views_at_work s.views) from v).install ≡ None
+  unfolding taken_rule
   takes_none from v = by (same_view s.views.view v)
     where
       by : (b : Bool) → (elim b as (λ _. ViewWork) [ true ↦ record (views_at_work s.views) { views = record (s.views) { taken = with_node s.views.taken from } } | false ↦ views_at_work s.views ]).install ≡ None
@@ -208,16 +208,16 @@ module _ (w : Scene) (n : ℕ) (s : Core) (all : (g : List ℕ) → Tied g w n s
       by false = refl
 
   view_fine : (x : ViewPacket) (p : Packet) → p.body ≡ body.View x → Has p w.sent → FewBody (body.View x) → FineIf s.views.view (brought_by s p.from p.inc x)
-  unfolding brought_by prepare_row refuse_row
+  unfolding brought_by prepare_rule refuse_rule
   view_fine (view.Prepare v mask) p is delivered few =
       let asked : Bool = v.coord == p.from && v.inc == p.inc && has_node mask s.views.me in
-      nothing_fine s.views.view (prepare_row (views_at_work s.views) p.from p.inc v mask (own_parts s)).install (prepare_none (views_at_work s.views) p.from p.inc v (own_parts s) (asked && view_lt s.views.promise v) (asked && same_view v s.views.promise && not (same_view v s.views.view)) (view_lt v s.views.promise))
+      nothing_fine s.views.view (prepare_rule (views_at_work s.views) p.from p.inc v mask (own_parts s)).install (prepare_none (views_at_work s.views) p.from p.inc v (own_parts s) (asked && view_lt s.views.promise v) (asked && same_view v s.views.promise && not (same_view v s.views.view)) (view_lt v s.views.promise))
   view_fine (view.Answer v old parts) p is delivered few = answers_fine v old parts p is delivered
   view_fine (view.Refuse v k) p is delivered few =
-      nothing_fine s.views.view (refuse_row (views_at_work s.views) v k).install (refuse_none (views_at_work s.views) v k s.views.gathering)
+      nothing_fine s.views.view (refuse_rule (views_at_work s.views) v k).install (refuse_none (views_at_work s.views) v k s.views.gathering)
   view_fine (view.Install i) p is delivered few = installs_fine i p is delivered few
   view_fine (view.Taken v) p is delivered few =
-      nothing_fine s.views.view (taken_row (views_at_work s.views) p.from v).install (takes_none p.from v)
+      nothing_fine s.views.view (taken_rule (views_at_work s.views) p.from v).install (takes_none p.from v)
 
   pub body_fine : (b : Body) (p : Packet) → p.body ≡ b → Has p w.sent → FewBody b → FineIf s.views.view (brought_in s p b)
   unfolding brought_in

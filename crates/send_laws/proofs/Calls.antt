@@ -20,7 +20,7 @@ use Rattle.node_state.specs.Calls.{caller, subscriber, refuse_call, changed, ask
 use Rattle.send_laws.specs.Bound.{Stands}
 use Rattle.send_laws.proofs.Counts.{kept_few}
 use Rattle.send_laws.proofs.Parts.{Goes, goes_same, goes_more, free_then, fold_each, goes_sent_if, goes_recorded, goes_sessions}
-use Rattle.send_laws.proofs.Rows.{nothing_of, goes_request_sent}
+use Rattle.send_laws.proofs.Rules.{nothing_of, goes_request_sent}
 
 -- a ballot, if it is filled
 pub goes_kept_sent : (s : Core) (x : KeptBallot) → Stands s → Goes 1 s (send_kept s x)

@@ -26,7 +26,7 @@ use Rattle.send_laws.specs.Bound.{puts_of, waits_of, Stands}
 use Rattle.send_laws.proofs.Counts.{kept_few, waits_with}
 use Rattle.send_laws.proofs.Parts.{Goes, goes_same, then_free, fold_each}
 use Rattle.send_laws.proofs.Leads.{goes_waits, goes_begins}
-use Rattle.send_laws.proofs.Rows.{goes_refused}
+use Rattle.send_laws.proofs.Rules.{goes_refused}
 
 goes_failures : (n : ℕ) (f : Answering) (s : Core) (g : List ℕ) → Stands s → Goes 0 s (failures_begin n f s g).core
 unfolding failures_begin

@@ -268,7 +268,7 @@ unfolding Sends row_of
 lasts_sends s t a h few =
     subst Lasting (sym a.1) (record { rings = h.rings; waits = h.waits; views = h.views; sent = subst FewSent (ap (λ (z : Core). z.sends) a.1) few })
 
--- ---- what a row of views sends
+-- ---- what a rule of views sends
 
 -- packets of views are sent one after another
 record SentViews (ws : List ViewSend) (s t : Core) : Type 0 where
@@ -292,7 +292,7 @@ sent_views (x ∷ ws) s =
       few = λ a b. r.few (λ y i. a y (inr i)) (sent_few s.sends p (a x (inl refl)) b);
     }
 
--- a row of views, up to the install that it applies
+-- a rule of views, up to the install that it applies
 pub record Viewed (c : ℕ) (s t : Core) (v : Views) : Type 0 where
   pub within : Within c s t
   pub stands : Stands t
@@ -317,7 +317,7 @@ row_viewed c s w works few k =
         let r : puts_of t.records ≡ puts_of s.records = ap puts_of (records_same (record s { views = w.views }) t e) in
         omega (arith, long, few, g, r)
 
--- a row of views, with the install that it applies
+-- a rule of views, with the install that it applies
 pub moves_taken : (c : ℕ) (f : Answering) (s : Core) (w : ViewWork) → Works c (views_at_work s.views) w → (FewWork (views_at_work s.views) → FewWork w) → FineIf s.views.view w.install → Stands s → Moves (c + 1 + length s.sessions.requests + length s.sessions.kept) s (views_taken f s w)
 unfolding views_taken
 moves_taken c f s w works few fine k =

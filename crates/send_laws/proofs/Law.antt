@@ -7,7 +7,7 @@ use Rattle.node_state.specs.declared.state.Core.{Core}
 use Rattle.node_state.specs.Step.{NodeEvent, at_work, stepped}
 use Rattle.node_state.specs.Step.NodeEvent.{Ticks, Asks, Given, Calls, Garbage}
 use Rattle.step_refinement.specs.Tied.{Scene, Tied}
-use Rattle.step_refinement.specs.Rows.{Arises, starts_too, nothing_yet}
+use Rattle.step_refinement.specs.Rules.{Arises, starts_too, nothing_yet}
 use Rattle.step_refinement.specs.Runs.{Reached, Nothing, AllStart, Starts, Stops, Steps, Notes}
 use Rattle.step_refinement.proofs.Begins.{begin_tied}
 use Rattle.step_refinement.proofs.RunLaw.{reached_rests}

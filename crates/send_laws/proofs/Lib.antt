@@ -3,7 +3,7 @@ pub mod Rooms
 pub mod Parts
 pub mod Hands
 pub mod Leads
-pub mod Rows
+pub mod Rules
 pub mod Ends
 pub mod Calls
 pub mod RingSends
@@ -21,7 +21,7 @@ pub mod Purse
 pub mod Alone
 pub mod TickMoves
 pub mod Steps
-pub mod RowLaws
+pub mod RuleLaws
 pub mod Bases
 pub mod Nodes
 pub mod Brought

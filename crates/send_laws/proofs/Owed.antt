@@ -21,7 +21,7 @@ use Rattle.send_laws.specs.Bound.{is_own, owned_of, owed_count, Stands}
 use Rattle.send_laws.proofs.Counts.{own_in}
 use Rattle.send_laws.proofs.Rooms.{both}
 use Rattle.send_laws.proofs.Parts.{Goes, goes_same, goes_then, goes_more, fold_each, goes_sent_if}
-use Rattle.send_laws.proofs.Rows.{nothing_of}
+use Rattle.send_laws.proofs.Rules.{nothing_of}
 use Rattle.send_laws.proofs.Ticks.{goes_requests_sent, goes_votes_again}
 
 -- ---- packets alone

@@ -16,7 +16,7 @@ use Rattle.adapter_ring.specs.declared.ring.RingSettings.{RingSettings}
 use Rattle.adapter_ring.specs.declared.ring.Gathering.{Gathering}
 use Rattle.adapter_ring.specs.declared.work.RingWork.{RingWork}
 use Rattle.adapter_ring.specs.Addresses.{has_addr, outside}
-use Rattle.adapter_ring.specs.Rings.{neighbour, upstream, ring_leads, is_shared, patience, ring_send, ring_send_all, ring_set, ring_close, ring_gathering, next_ring, ring_numbered, ring_gather_on, ring_gather, ring_alone, send_heartbeat, ring_proclaim, ring_beat, buries, death_counts, death_row, death_told_to, tell_death, ring_wait_on, ring_wait, ring_ages_of, ring_age, ring_tick, heartbeat_row, answers_proclaim, proclaim_row, takes_join, join_row, may_promise, ptc_row, ack_row_of, ack_row, is_promised, commit_row, all_lower, packet_row, ring_row, at_work, ring_step}
+use Rattle.adapter_ring.specs.Rings.{neighbour, upstream, ring_leads, is_shared, patience, ring_send, ring_send_all, ring_set, ring_close, ring_gathering, next_ring, ring_numbered, ring_gather_on, ring_gather, ring_alone, send_heartbeat, ring_proclaim, ring_beat, buries, death_counts, death_rule, death_told_to, tell_death, ring_wait_on, ring_wait, ring_ages_of, ring_age, ring_tick, heartbeat_rule, answers_proclaim, proclaim_rule, takes_join, join_rule, may_promise, ptc_rule, ack_rule_of, ack_rule, is_promised, commit_rule, all_lower, packet_rule, ring_rule, at_work, ring_step}
 use Rattle.send_laws.proofs.Counts.{kept_few, mapped_long}
 use Rattle.send_laws.proofs.Rooms.{both}
 
@@ -167,8 +167,8 @@ false_true : (b : Bool) → b ≡ true → b ≡ false → ⊥
 false_true true e f = cc
 false_true false e f = cc
 
-buried : (w : RingWork) (id : RingId) (d : ℕ) → Buries w (death_row w id d)
-unfolding death_row
+buried : (w : RingWork) (id : RingId) (d : ℕ) → Buries w (death_rule w id d)
+unfolding death_rule
 buried w id d = by (death_counts w.ring id d) refl
   where
     by : (b : Bool) → death_counts w.ring id d ≡ b → Buries w (elim b [ true ↦ ring_gather w (without_node w.ring.members d) | false ↦ w ])
@@ -188,7 +188,7 @@ told w d to = by (to == w.ring.me)
     same : (ring_send w to (Death w.ring.id d)).ring.gathering ≡ w.ring.gathering
     same = sent_same w to (Death w.ring.id d)
 
-    by : (b : Bool) → Buries w (elim b [ true ↦ death_row w w.ring.id d | false ↦ ring_send w to (Death w.ring.id d) ])
+    by : (b : Bool) → Buries w (elim b [ true ↦ death_rule w w.ring.id d | false ↦ ring_send w to (Death w.ring.id d) ])
     by true = buried w w.ring.id d
     by false = (omega (arith, one), (λ e. subst Young (sym same) (none_young w.ring.gathering e)), λ e. one)
 
@@ -272,8 +272,8 @@ tick_few w = by (is_none w.ring.gathering) refl
 
 -- ---- packets
 
-row_few : (w : RingWork) (from inc : ℕ) (p : RingPacket) → Adds 64 w (packet_row w from inc p)
-unfolding packet_row heartbeat_row proclaim_row join_row ptc_row ack_row ack_row_of commit_row ring_set
+row_few : (w : RingWork) (from inc : ℕ) (p : RingPacket) → Adds 64 w (packet_rule w from inc p)
+unfolding packet_rule heartbeat_rule proclaim_rule join_rule ptc_rule ack_rule ack_rule_of commit_rule ring_set
 row_few w from inc (Heartbeat id) = by (same_ring id w.ring.id && is_shared w.ring && from == upstream w.ring)
   where
     by : (b : Bool) → Adds 64 w (elim b [ true ↦ record w { ring = record (w.ring) { silent = 0 } } | false ↦ w ])
@@ -303,7 +303,7 @@ row_few w from inc (PtcAck id) = of w.ring.gathering
     at g true = omega (arith, goes_on w (record g { gather = gather_acked g.gather from }))
     at g false = omega arith
 
-    of : (o : Option Gathering) → Adds 64 w (ack_row_of w from id o)
+    of : (o : Option Gathering) → Adds 64 w (ack_rule_of w from id o)
     of None = omega arith
     of (Some g) = at g (same_ring g.gather.id id)
 row_few w from inc (Commit id ms) = by (is_promised w.ring.promised id && has_node ms w.ring.me && from == id.leader)
@@ -315,10 +315,10 @@ row_few w from inc (Death id d) = (buried w id d).0
 
 -- a ring's tick
 pub ring_tick_few : (r : Ring) → length (ring_step r Tick).sends ≤ 97
-unfolding ring_step ring_row at_work
+unfolding ring_step ring_rule at_work
 ring_tick_few r = let k = tick_few (at_work r) in omega (arith, k)
 
 -- a packet of a ring
 pub ring_packet_few : (r : Ring) (from inc : ℕ) (p : RingPacket) → length (ring_step r (Packet from inc p)).sends ≤ 64
-unfolding ring_step ring_row at_work
+unfolding ring_step ring_rule at_work
 ring_packet_few r from inc p = let k = row_few (at_work r) from inc p in omega (arith, k)

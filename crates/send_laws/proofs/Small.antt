@@ -14,7 +14,7 @@ use Rattle.node_state.specs.Settings.{networks, has_adapter, networks_of}
 use Rattle.node_state.specs.State.{row_of, with_sessions}
 use Rattle.node_state.specs.Applying.{level_set}
 use Rattle.node_state.specs.Step.{at_work, own_ring, own_rings, first_members, started}
-use Rattle.step_refinement.specs.Rows.{at_node}
+use Rattle.step_refinement.specs.Rules.{at_node}
 use Rattle.step_refinement.proofs.Changed.{each_set}
 use Rattle.send_laws.specs.Lasting.{FewSent, Lasting}
 use Rattle.send_laws.proofs.Counts.{kept_few, mapped_long}

@@ -29,7 +29,7 @@ use Rattle.node_state.specs.State.{leader_by, is_this, leader_in, leads_in, led_
 use Rattle.node_state.specs.Sending.{sent, send_on, send_all, send_requests, send_votes_again}
 use Rattle.node_state.specs.HandOn.{Answering}
 use Rattle.node_state.specs.Applying.{Lacking, lacking, own_parts, entered, entered_if, apply_install, views_taken}
-use Rattle.node_state.specs.Ticks.{ring_put, ring_taken, rings_union, report_of, send_report, rings_tick, tick_rings, ring_ask, tick_views, lost_told, tick_owed, tick_led, tick_row}
+use Rattle.node_state.specs.Ticks.{ring_put, ring_taken, rings_union, report_of, send_report, rings_tick, tick_rings, ring_ask, tick_views, lost_told, tick_owed, tick_led, tick_rule}
 use Rattle.node_state.specs.Ending.{end_step}
 use Rattle.send_laws.specs.Bound.{Stands, Fine, EndsAt, ListsEnd, owned_of, owed_count, led_count}
 use Rattle.send_laws.proofs.Parts.{Goes}
@@ -233,8 +233,8 @@ alone_same t a e v mask =
     let parts : own_parts t ≡ own_parts a = ap (λ rows. map part_in (filter (λ (row : GroupRow). is_some row.list) rows)) (sym e.groups) in
     λ j. install_of (with_answer (opened v mask) (record { node = sym e.me j; inc = sym e.inc j; view = sym e.view j; parts = parts j }))
 
-pub moves_tick : (f : Answering) (s : Core) → length s.rings ≤ 4 → ListsEnd s → Stands s → Moves (486 + 2 * owed_count s + 512 * led_count s) s (tick_row f s)
-unfolding tick_row tick_views views_taken apply_install entered_if
+pub moves_tick : (f : Answering) (s : Core) → length s.rings ≤ 4 → ListsEnd s → Stands s → Moves (486 + 2 * owed_count s + 512 * led_count s) s (tick_rule f s)
+unfolding tick_rule tick_views views_taken apply_install entered_if
 moves_tick f s four ends k = by w.install (ticks_alone t (ring_ask t))
   where
     t : Core

@@ -28,12 +28,12 @@ use Rattle.node_state.specs.State.{row_of, led_of, list_of, state_of, frozen, le
 use Rattle.node_state.specs.Sending.{sent, send_on, send_all, send_request, send_requests, kept_sent_if, kept_sent_again, send_votes_again}
 use Rattle.node_state.specs.HandOn.{Answering}
 use Rattle.node_state.specs.Leading.{with_tally, closes}
-use Rattle.node_state.specs.Ticks.{ring_put, set_records, ring_taken, ring_row_of, ring_row, row_reported, take_report, rings_union, report_of, send_report, rings_tick, tick_rings, late_appended, announced, ticked_in, tally_ticks, entries_sent, list_sent_again, sent_again, tick_group, tick_led}
+use Rattle.node_state.specs.Ticks.{ring_put, set_records, ring_taken, ring_rule_of, ring_rule, row_reported, take_report, rings_union, report_of, send_report, rings_tick, tick_rings, late_appended, announced, ticked_in, tally_ticks, entries_sent, list_sent_again, sent_again, tick_group, tick_led}
 use Rattle.send_laws.specs.Bound.{puts_of, Stands}
 use Rattle.send_laws.proofs.Counts.{kept_few}
 use Rattle.send_laws.proofs.Parts.{Goes, times, goes_same, goes_then, goes_more, then_free, free_then, goes_fold, fold_each, goes_sent, goes_sent_on, goes_sent_all, goes_recorded_all}
 use Rattle.send_laws.proofs.Leads.{others_few, goes_appended_if, goes_with_tally, goes_closes}
-use Rattle.send_laws.proofs.Rows.{nothing_of, goes_request_sent}
+use Rattle.send_laws.proofs.Rules.{nothing_of, goes_request_sent}
 use Rattle.send_laws.proofs.Calls.{goes_kept_sent}
 use Rattle.send_laws.proofs.RingSends.{nodes_few, ring_tick_few, ring_packet_few}
 
@@ -88,11 +88,11 @@ goes_ring_taken c s w few k =
     goes_more (length w.sends) c s z few (free_then (length w.sends) s r z gr (then_free (length w.sends) r t z gt gz))
 
 -- a packet of a ring
-pub goes_ring_row : (s : Core) (network from inc : ℕ) (p : RingPacket) → Stands s → Goes 64 s (ring_row s network from inc p)
-unfolding ring_row ring_row_of
-goes_ring_row s network from inc p k = by (find (λ (r : Ring). r.net == network) s.rings)
+pub goes_ring_rule : (s : Core) (network from inc : ℕ) (p : RingPacket) → Stands s → Goes 64 s (ring_rule s network from inc p)
+unfolding ring_rule ring_rule_of
+goes_ring_rule s network from inc p k = by (find (λ (r : Ring). r.net == network) s.rings)
   where
-    by : (o : Option Ring) → Goes 64 s (ring_row_of s from inc p o)
+    by : (o : Option Ring) → Goes 64 s (ring_rule_of s from inc p o)
     by None = nothing_of 64 s k
     by (Some r) = goes_ring_taken 64 s (ring_step r (ring_event.Packet from inc p)) (ring_packet_few r from inc p) k
 

@@ -1,4 +1,4 @@
--- What the rows of views leave few: the members of what is gathered, of the install that is kept, and of each install that
+-- What the rules of views leave few: the members of what is gathered, of the install that is kept, and of each install that
 -- is sent.
 use Rattle.std.proofs.Common.{◌≡◌, ◌≤◌, ◌⊎◌, ℕ, ◌+◌, List, [], ◌∷◌, ◌++◌, length, map, filter, Some, None, Option, Bool, true, false, cond, refl, sym, ap, subst, inl, inr, arith}
 use Rattle.std.specs.Prelude.{not, ◌&&◌, ◌||◌, ◌==◌, nat_le, nat_lt, max}
@@ -22,7 +22,7 @@ use Rattle.view_state.specs.declared.packet.ViewPacket.TheVariants as packet
 use Rattle.view_state.specs.declared.packet.ViewSend.{ViewSend}
 use Rattle.view_state.specs.declared.views.RingAsk.{RingAsk}
 use Rattle.view_state.specs.declared.views.ViewWork.{ViewWork}
-use Rattle.view_state.specs.Views.{is_frozen, is_coordinator, others_of, view_sent, view_sent_all, gathering_set, promised, begin_install, gathered, gather_on, own_answer, ask_others, next_view, may_ask, ask_if, ask_row, answered, prepare, prepare_row, answer_to, answer_row, refused_by, refuse_to, refuse_row, installed, install_row, taken_row, aged, prepare_again, tick_asks, note_stuck, asks_or_ages, gathering_ticks, install_again_of, install_again}
+use Rattle.view_state.specs.Views.{is_frozen, is_coordinator, others_of, view_sent, view_sent_all, gathering_set, promised, begin_install, gathered, gather_on, own_answer, ask_others, next_view, may_ask, ask_if, ask_rule, answered, prepare, prepare_rule, answer_to, answer_rule, refused_by, refuse_to, refuse_rule, installed, install_rule, taken_rule, aged, prepare_again, tick_asks, note_stuck, asks_or_ages, gathering_ticks, install_again_of, install_again}
 use Rattle.send_laws.specs.Bound.{FewAnswers}
 use Rattle.send_laws.specs.Lasting.{Counted, GatheredIf, FewIn, FewIf, FewView, FewViews}
 use Rattle.send_laws.proofs.Counts.{kept_few}
@@ -208,8 +208,8 @@ few_asks w v mask parts true there h =
     few_gathers y (with_answer (opened v mask) (own_answer w.views parts)) (counted_more (opened v mask) (own_answer w.views parts) (may_first v mask w.views.me there) (nobody_counted v mask)) (few_all (promised w v) ns (packet.Prepare v mask) tt (few_promised w v h))
 
 -- an order to ask
-pub few_ask : (w : ViewWork) (mask : Mask) (parts : List Part) → FewWork w → FewWork (ask_row w mask parts)
-unfolding ask_row ask_if may_ask
+pub few_ask : (w : ViewWork) (mask : Mask) (parts : List Part) → FewWork w → FewWork (ask_rule w mask parts)
+unfolding ask_rule ask_if may_ask
 few_ask w mask parts h = by (may_ask w.views mask) refl
   where
     by : (b : Bool) → may_ask w.views mask ≡ b → FewWork (ask_if w mask parts b)
@@ -232,14 +232,14 @@ few_prepared w v parts false true below h = few_answered w v parts h
 few_prepared w v parts false false true h = few_sent w v.coord (packet.Refuse v w.views.promise.number) tt h
 few_prepared w v parts false false false h = h
 
-pub few_prepare : (w : ViewWork) (from inc : ℕ) (v : ViewId) (mask : Mask) (parts : List Part) → FewWork w → FewWork (prepare_row w from inc v mask parts)
-unfolding prepare_row
+pub few_prepare : (w : ViewWork) (from inc : ℕ) (v : ViewId) (mask : Mask) (parts : List Part) → FewWork w → FewWork (prepare_rule w from inc v mask parts)
+unfolding prepare_rule
 few_prepare w from inc v mask parts h =
     let asked : Bool = v.coord == from && v.inc == inc && has_node mask w.views.me in
     few_prepared w v parts (asked && view_lt w.views.promise v) (asked && same_view v w.views.promise && not (same_view v w.views.view)) (view_lt v w.views.promise) h
 
-pub few_answer : (w : ViewWork) (v : ViewId) (a : Answer) → FewWork w → FewWork (answer_row w v a)
-unfolding answer_row answer_to
+pub few_answer : (w : ViewWork) (v : ViewId) (a : Answer) → FewWork w → FewWork (answer_rule w v a)
+unfolding answer_rule answer_to
 few_answer w v a h = by w.views.gathering h.views.gathering
   where
     at : (g : Exchange) (b : Bool) → (same_view g.view v && may_answer g a.node) ≡ b → Counted g → FewWork (elim b [ true ↦ gather_on w (with_answer g a) | false ↦ w ])
@@ -250,8 +250,8 @@ few_answer w v a h = by w.views.gathering h.views.gathering
     by None k = h
     by (Some g) k = at g (same_view g.view v && may_answer g a.node) refl k.counted
 
-pub few_refuse : (w : ViewWork) (v : ViewId) (n : ℕ) → FewWork w → FewWork (refuse_row w v n)
-unfolding refuse_row refuse_to refused_by
+pub few_refuse : (w : ViewWork) (v : ViewId) (n : ℕ) → FewWork w → FewWork (refuse_rule w v n)
+unfolding refuse_rule refuse_to refused_by
 few_refuse w v n h = by w.views.gathering
   where
     at : (b : Bool) → FewWork (elim b [ true ↦ refused_by w n | false ↦ w ])
@@ -262,8 +262,8 @@ few_refuse w v n h = by w.views.gathering
     by None = h
     by (Some g) = at (same_view g.view v)
 
-pub few_install : (w : ViewWork) (i : Install) → FewWork w → FewWork (install_row w i)
-unfolding install_row installed
+pub few_install : (w : ViewWork) (i : Install) → FewWork w → FewWork (install_rule w i)
+unfolding install_rule installed
 few_install w i h = by (same_view w.views.view i.view) (same_view w.views.promise i.view && is_member i.members w.views.me w.views.inc)
   where
     by : (b c : Bool) → FewWork (installed w i b c)
@@ -271,8 +271,8 @@ few_install w i h = by (same_view w.views.view i.view) (same_view w.views.promis
     by false true = record { views = h.views; sends = h.sends }
     by false false = h
 
-pub few_taken : (w : ViewWork) (from : ℕ) (v : ViewId) → FewWork w → FewWork (taken_row w from v)
-unfolding taken_row
+pub few_taken : (w : ViewWork) (from : ℕ) (v : ViewId) → FewWork w → FewWork (taken_rule w from v)
+unfolding taken_rule
 few_taken w from v h = by (same_view w.views.view v)
   where
     by : (b : Bool) → FewWork (elim b [ true ↦ record w { views = record (w.views) { taken = with_node w.views.taken from } } | false ↦ w ])

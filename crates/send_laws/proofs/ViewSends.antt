@@ -1,4 +1,4 @@
--- How many packets the rows of views send, and that they leave the view as it is.
+-- How many packets the rules of views send, and that they leave the view as it is.
 use Rattle.std.proofs.Common.{◌≡◌, ◌≤◌, ℕ, ◌+◌, List, [], ◌∷◌, length, map, filter, Some, None, Option, Bool, true, false, cond, refl, ◌∙◌, arith, length-append}
 use Rattle.std.specs.Prelude.{not, ◌&&◌, ◌==◌, nat_le}
 use Rattle.rsct_packet.specs.declared.ids.ViewId.{ViewId}
@@ -17,7 +17,7 @@ use Rattle.view_state.specs.declared.packet.ViewPacket.TheVariants as packet
 use Rattle.view_state.specs.declared.packet.ViewSend.{ViewSend}
 use Rattle.view_state.specs.declared.views.RingAsk.{RingAsk}
 use Rattle.view_state.specs.declared.views.ViewWork.{ViewWork}
-use Rattle.view_state.specs.Views.{is_frozen, is_coordinator, others_of, view_sent, view_sent_all, gathering_set, promised, begin_install, gathered, gather_on, own_answer, ask_others, next_view, may_ask, ask_if, ask_row, answered, prepare, prepare_row, answer_to, answer_row, refused_by, refuse_to, refuse_row, installed, install_row, taken_row, aged, prepare_again, tick_asks, note_stuck, asks_or_ages, gathering_ticks, install_again_of, install_again}
+use Rattle.view_state.specs.Views.{is_frozen, is_coordinator, others_of, view_sent, view_sent_all, gathering_set, promised, begin_install, gathered, gather_on, own_answer, ask_others, next_view, may_ask, ask_if, ask_rule, answered, prepare, prepare_rule, answer_to, answer_rule, refused_by, refuse_to, refuse_rule, installed, install_rule, taken_rule, aged, prepare_again, tick_asks, note_stuck, asks_or_ages, gathering_ticks, install_again_of, install_again}
 use Rattle.send_laws.specs.Bound.{FewAnswers}
 use Rattle.send_laws.proofs.Counts.{kept_few, mapped_long}
 use Rattle.send_laws.proofs.RingSends.{nodes_few}
@@ -102,8 +102,8 @@ works_asks w v mask parts true =
     works_more (length ns + length g.members) 33 w (gather_on y g) (omega (arith, one, others_nodes w.views.me mask)) (works_then (length ns) (length g.members) w y (gather_on y g) b (works_gathers y g))
 
 -- an order to ask
-pub works_ask : (w : ViewWork) (mask : Mask) (parts : List Part) → Works 33 w (ask_row w mask parts)
-unfolding ask_row ask_if
+pub works_ask : (w : ViewWork) (mask : Mask) (parts : List Part) → Works 33 w (ask_rule w mask parts)
+unfolding ask_rule ask_if
 works_ask w mask parts = by (may_ask w.views mask)
   where
     by : (b : Bool) → Works 33 w (ask_if w mask parts b)
@@ -128,8 +128,8 @@ prepared_few w v parts false false true =
     works_more 1 33 w (view_sent w v.coord (packet.Refuse v w.views.promise.number)) (omega arith) (works_sent w v.coord (packet.Refuse v w.views.promise.number))
 prepared_few w v parts false false false = works_none 33 w
 
-pub works_prepare : (w : ViewWork) (from inc : ℕ) (v : ViewId) (mask : Mask) (parts : List Part) → Works 33 w (prepare_row w from inc v mask parts)
-unfolding prepare_row
+pub works_prepare : (w : ViewWork) (from inc : ℕ) (v : ViewId) (mask : Mask) (parts : List Part) → Works 33 w (prepare_rule w from inc v mask parts)
+unfolding prepare_rule
 works_prepare w from inc v mask parts =
     let asked : Bool = v.coord == from && v.inc == inc && has_node mask w.views.me in
     prepared_few w v parts (asked && view_lt w.views.promise v) (asked && same_view v w.views.promise && not (same_view v w.views.view)) (view_lt v w.views.promise)
@@ -147,8 +147,8 @@ unfolding with_answer
 answers_long g a = inserted_long (is_member_above (member_of a).node) (member_of a) g.members
 
 -- ANSWER, of a gathering that waits for another one
-pub works_answer : (w : ViewWork) (v : ViewId) (a : Answer) → FewAnswers w.views.gathering → Works 33 w (answer_row w v a)
-unfolding answer_row answer_to
+pub works_answer : (w : ViewWork) (v : ViewId) (a : Answer) → FewAnswers w.views.gathering → Works 33 w (answer_rule w v a)
+unfolding answer_rule answer_to
 works_answer w v a few = by w.views.gathering few
   where
     at : (g : Exchange) (b : Bool) → length g.members ≤ 31 → Works 33 w (elim b [ true ↦ gather_on w (with_answer g a) | false ↦ w ])
@@ -159,8 +159,8 @@ works_answer w v a few = by w.views.gathering few
     by None h = works_none 33 w
     by (Some g) h = at g (same_view g.view v && may_answer g a.node) h
 
-pub works_refuse : (w : ViewWork) (v : ViewId) (n : ℕ) → Works 33 w (refuse_row w v n)
-unfolding refuse_row refuse_to refused_by
+pub works_refuse : (w : ViewWork) (v : ViewId) (n : ℕ) → Works 33 w (refuse_rule w v n)
+unfolding refuse_rule refuse_to refused_by
 works_refuse w v n = by w.views.gathering
   where
     at : (b : Bool) → Works 33 w (elim b [ true ↦ refused_by w n | false ↦ w ])
@@ -171,8 +171,8 @@ works_refuse w v n = by w.views.gathering
     by None = works_none 33 w
     by (Some g) = at (same_view g.view v)
 
-pub works_install : (w : ViewWork) (i : Install) → Works 33 w (install_row w i)
-unfolding install_row installed
+pub works_install : (w : ViewWork) (i : Install) → Works 33 w (install_rule w i)
+unfolding install_rule installed
 works_install w i = by (same_view w.views.view i.view) (same_view w.views.promise i.view && is_member i.members w.views.me w.views.inc)
   where
     by : (b c : Bool) → Works 33 w (installed w i b c)
@@ -180,8 +180,8 @@ works_install w i = by (same_view w.views.view i.view) (same_view w.views.promis
     by false true = record { sends = omega arith; members = refl; view = refl; me = refl; inc = refl }
     by false false = works_none 33 w
 
-pub works_taken : (w : ViewWork) (from : ℕ) (v : ViewId) → Works 33 w (taken_row w from v)
-unfolding taken_row
+pub works_taken : (w : ViewWork) (from : ℕ) (v : ViewId) → Works 33 w (taken_rule w from v)
+unfolding taken_rule
 works_taken w from v = by (same_view w.views.view v)
   where
     by : (b : Bool) → Works 33 w (elim b [ true ↦ record w { views = record (w.views) { taken = with_node w.views.taken from } } | false ↦ w ])
@@ -212,7 +212,7 @@ works_ticks w (Some a) parts = by (tick_asks w.views a)
     x = note_stuck w
 
     by : (b : Bool) → Works 33 w (asks_or_ages x a parts b)
-    by true = works_then 0 33 w x (ask_row x a.mask parts) (works_stuck w) (works_ask x a.mask parts)
+    by true = works_then 0 33 w x (ask_rule x a.mask parts) (works_stuck w) (works_ask x a.mask parts)
     by false = works_then 0 33 w x (prepare_again x x.views.gathering) (works_stuck w) (works_again x x.views.gathering)
 
 -- INSTALL again, which enters nothing

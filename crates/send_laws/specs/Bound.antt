@@ -25,7 +25,7 @@ use Rattle.node_state.specs.declared.packet.Body.TheVariants as body
 use Rattle.node_state.specs.declared.packet.Packet.{Packet}
 use Rattle.view_state.specs.declared.packet.ViewPacket.{ViewPacket}
 use Rattle.view_state.specs.declared.packet.ViewPacket.TheVariants as packet
-use Rattle.view_state.specs.Views.{views_at_work, prepare_row, answer_row, refuse_row, install_row, taken_row}
+use Rattle.view_state.specs.Views.{views_at_work, prepare_rule, answer_rule, refuse_rule, install_rule, taken_rule}
 
 -- ---- what is counted
 
@@ -91,11 +91,11 @@ FewAnswers (Some g) = length g.members ≤ 31
 
 -- the install that a packet of views lets the node enter
 unfoldable pub brought_by : Core → ℕ → ℕ → ViewPacket → Option Install
-brought_by s from inc (packet.Prepare v mask) = (prepare_row (views_at_work s.views) from inc v mask (own_parts s)).install
-brought_by s from inc (packet.Answer v old parts) = (answer_row (views_at_work s.views) v (record { node = from; inc = inc; view = old; parts = parts })).install
-brought_by s from inc (packet.Refuse v n) = (refuse_row (views_at_work s.views) v n).install
-brought_by s from inc (packet.Install i) = (install_row (views_at_work s.views) i).install
-brought_by s from inc (packet.Taken v) = (taken_row (views_at_work s.views) from v).install
+brought_by s from inc (packet.Prepare v mask) = (prepare_rule (views_at_work s.views) from inc v mask (own_parts s)).install
+brought_by s from inc (packet.Answer v old parts) = (answer_rule (views_at_work s.views) v (record { node = from; inc = inc; view = old; parts = parts })).install
+brought_by s from inc (packet.Refuse v n) = (refuse_rule (views_at_work s.views) v n).install
+brought_by s from inc (packet.Install i) = (install_rule (views_at_work s.views) i).install
+brought_by s from inc (packet.Taken v) = (taken_rule (views_at_work s.views) from v).install
 
 unfoldable pub brought_in : Core → Packet → Body → Option Install
 brought_in s p (body.View x) = brought_by s p.from p.inc x

@@ -1,4 +1,4 @@
--- How many packets the rows of a step send at most, from any state that stands: `Within c` allows c packets, one for
+-- How many packets the rules of a step send at most, from any state that stands: `Within c` allows c packets, one for
 -- each join that no longer waits, and a hundred for each put.
 use Rattle.std.specs.Prelude.{◌≡◌, Some, ℕ, ◌+◌, ◌*◌, ◌≤◌, List, length, Option}
 use Rattle.rsct_packet.specs.declared.ids.ProviderId.{ProviderId}
@@ -19,7 +19,7 @@ use Rattle.node_state.specs.State.{led_groups, fits_at_end}
 use Rattle.node_state.specs.HandOn.{Answering}
 use Rattle.node_state.specs.Leading.{tally_for, append_if_fits, closes, begins}
 use Rattle.node_state.specs.Following.{take_lookup, take_name, take_request, take_tell, take_entry, take_ack, take_vote, take_gone}
-use Rattle.node_state.specs.Ticks.{ring_row, take_report, tick_rings, tick_owed, tick_led}
+use Rattle.node_state.specs.Ticks.{ring_rule, take_report, tick_rings, tick_owed, tick_led}
 use Rattle.node_state.specs.Ending.{end_step}
 use Rattle.node_state.specs.Calls.{take_call}
 use Rattle.node_state.specs.Step.{NodeEvent, at_work, stepped}
@@ -69,7 +69,7 @@ CallSends = (s : Core) (c : CallLine) → Stands s → Within (1 + length s.sess
 
 -- a packet of a ring, and a report
 abbrev pub RingSends : Type 0
-RingSends = (s : Core) (network from inc : ℕ) (p : RingPacket) → Stands s → Within 64 s (ring_row s network from inc p)
+RingSends = (s : Core) (network from inc : ℕ) (p : RingPacket) → Stands s → Within 64 s (ring_rule s network from inc p)
 
 abbrev pub ReportSends : Type 0
 ReportSends = (s : Core) (rows : List ReportRow) → Stands s → Within 0 s (take_report s rows)

@@ -10,7 +10,7 @@ use Rattle.node_state.specs.declared.state.Core.{Core}
 use Rattle.node_state.specs.HandOn.{Answering}
 use Rattle.node_state.specs.Step.{NodeEvent, at_work, stepped}
 use Rattle.step_refinement.specs.Tied.{Scene}
-use Rattle.step_refinement.specs.Rows.{Arises}
+use Rattle.step_refinement.specs.Rules.{Arises}
 use Rattle.step_refinement.specs.Runs.{Reached}
 use Rattle.send_laws.specs.Bound.{puts_of, led_count, owed_count, Ready}
 

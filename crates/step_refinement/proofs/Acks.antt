@@ -43,7 +43,7 @@ use Rattle.step_refinement.proofs.Works.{tied_on}
 use Rattle.node_state.proofs.NameOrder.{cases_text}
 use Rattle.step_refinement.proofs.Leads.{leads_led, leads_known}
 use Rattle.step_refinement.proofs.Gone.{with_packet, packet_goes, packet_still, goes_then}
-use Rattle.step_refinement.proofs.ViewRows.{same_of}
+use Rattle.step_refinement.proofs.ViewRules.{same_of}
 use Rattle.step_refinement.proofs.RowWorks.{max_one, keeps_of, waits_of, tied_row, tied_forgets}
 use Rattle.step_refinement.proofs.Turns.{packet_turns}
 

@@ -53,7 +53,7 @@ use Rattle.run_safety.specs.Tallies.{IsTallied}
 use Rattle.run_safety.specs.Moves.{Due, Appends, grown}
 use Rattle.step_refinement.specs.Ghost.{Ghost, Lives}
 use Rattle.step_refinement.specs.Tied.{Decided, Shows, IsAcked, RowIs, LeaderKeeps, Scene, opening_of, Tied}
-use Rattle.step_refinement.specs.Rows.{at_node}
+use Rattle.step_refinement.specs.Rules.{at_node}
 use Rattle.step_refinement.proofs.Changed.{set_here, changes}
 use Rattle.node_state.proofs.NameOrder.{KeepsName, cases_text}
 use Rattle.step_refinement.proofs.Idle.{led_lightens}

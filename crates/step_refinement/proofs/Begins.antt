@@ -38,7 +38,7 @@ use Rattle.run_safety.proofs.PastIn.{start_unled}
 use Rattle.run_safety.proofs.Order.{lt_refl}
 use Rattle.step_refinement.specs.Ghost.{Ghost, Lives, Goes, Seen}
 use Rattle.step_refinement.specs.Tied.{Shows, NodeIsIf, Scene, opening_in, opening_of, Begun, Rests, Tied, InTurn}
-use Rattle.step_refinement.specs.Rows.{at_node, over, stopped, start_with, ended, nothing_yet}
+use Rattle.step_refinement.specs.Rules.{at_node, over, stopped, start_with, ended, nothing_yet}
 use Rattle.step_refinement.proofs.Goes.{Spares, Still, still_spares, sound_on, shows_on, node_if_on}
 use Rattle.step_refinement.proofs.Changed.{set_here, set_there, each_set, changes, incs_set}
 use Rattle.step_refinement.proofs.Works.{Unseen, Stays, lines_pushed, lines_none, now_still}

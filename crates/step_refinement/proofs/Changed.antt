@@ -9,7 +9,7 @@ use Rattle.run_safety.specs.ViewOrder.{is_same}
 use Rattle.run_safety.specs.Group.{Standing}
 use Rattle.run_safety.specs.Moves.{Changes}
 use Rattle.run_safety.proofs.Order.{eq_true, eq_same}
-use Rattle.step_refinement.specs.Rows.{at_node}
+use Rattle.step_refinement.specs.Rules.{at_node}
 
 pub set_here : {A : Type 0} (f : ℕ → A) (n : ℕ) (y : A) → at_node f n y n ≡ y
 unfolding at_node

@@ -318,9 +318,9 @@ module _ (g : List ℕ) (w : Scene) (n : ℕ) (s : Core) (f : Answering) (thawed
   abbrev taken : Core
   taken = keep_decision c h p r None
 
-  taken_row : (row_of (keep_decision c h p r None) h).led ≡ with_decision p r None (row_of c h).led
+  taken_rule : (row_of (keep_decision c h p r None) h).led ≡ with_decision p r None (row_of c h).led
   unfolding keep_decision with_led
-  taken_row = ap (λ (z : GroupRow). z.led) (row_here h (deciding_row g w n s p r None) (λ z. refl) c t.tied.own.0.order)
+  taken_rule = ap (λ (z : GroupRow). z.led) (row_here h (deciding_row g w n s p r None) (λ z. refl) c t.tied.own.0.order)
 
   taken_whole : row_of (keep_decision c h p r None) h ≡ deciding_row g w n s p r None (row_of c h)
   unfolding keep_decision with_led
@@ -361,11 +361,11 @@ module _ (g : List ℕ) (w : Scene) (n : ℕ) (s : Core) (f : Answering) (thawed
           let now : Led = (row_of taken h).led in
           let Q : Ghost → Type 0 = λ z. (z.leads c.views.view ≡ Some (member n c.views.inc)) × Has (group.Request c.views.view p p.join x) z.ps × Fresh z c.views.view (z.nodes n).list now p p.join in
           let old = fresh_now e in
-          let fresh : Fresh t.tied.ghost c.views.view (t.tied.ghost.nodes n).list now p p.join = subst (λ (z : ℕ × Led). Fresh t.tied.ghost c.views.view (t.tied.ghost.nodes n).list z.1 p z.0) (λ j. (number j, sym taken_row j)) (record { unrefused = old.unrefused; unbegun = old.unbegun; unwaiting = old.unwaiting }) in
+          let fresh : Fresh t.tied.ghost c.views.view (t.tied.ghost.nodes n).list now p p.join = subst (λ (z : ℕ × Led). Fresh t.tied.ghost c.views.view (t.tied.ghost.nodes n).list z.1 p z.0) (λ j. (number j, sym taken_rule j)) (record { unrefused = old.unrefused; unbegun = old.unbegun; unwaiting = old.unwaiting }) in
           let q : Q u.ghost = subst Q (sym same) (known e, subst (λ z. Has (group.Request c.views.view p z x) t.tied.ghost.ps) number (request e), fresh) in
-          let decided : Decided now p p.join = subst (λ (z : ℕ × Led). Decided z.1 p z.0) (λ j. (number j, sym taken_row j)) (decided_now (row_of c h).led p r None) in
-          let last : NoOlder now p p.join = subst (λ (z : ℕ × Led). NoOlder z.1 p z.0) (λ j. (number j, sym taken_row j)) (no_older_now (row_of c h).led p r None) in
-          let none : among now.waiting.joins p ≡ false = ap (λ (z : Led). among z.waiting.joins p) taken_row ∙ apart in (
+          let decided : Decided now p p.join = subst (λ (z : ℕ × Led). Decided z.1 p z.0) (λ j. (number j, sym taken_rule j)) (decided_now (row_of c h).led p r None) in
+          let last : NoOlder now p p.join = subst (λ (z : ℕ × Led). NoOlder z.1 p z.0) (λ j. (number j, sym taken_rule j)) (no_older_now (row_of c h).led p r None) in
+          let none : among now.waiting.joins p ≡ false = ap (λ (z : Led). among z.waiting.joins p) taken_rule ∙ apart in (
             record { list = k.0.list; stable = k.0.stable; leader = k.0.leader; acked = k.0.acked; covers = k.0.covers },
             waiting_leader u.ghost n c.views.inc c.views.view now (record now { waiting = waits_join p now.waiting; join_attrs = keep_attrs now.join_attrs p a idle }) p x refl refl q.0 q.1 (subst (IsJoin p) (sym is) inside) decided last q.2 none k.1,
           )
@@ -384,9 +384,9 @@ module _ (g : List ℕ) (w : Scene) (n : ℕ) (s : Core) (f : Answering) (thawed
             due = λ a k i. let z = same a k i in
                 subst (λ (y : ProviderId × ℕ). Due t.tied.ghost.ps c.views.view (t.tied.ghost.nodes n).list d y.0 y.1) (λ j. (sym z.0 j, sym z.1 j)) (record { sent = (x, request e, (x, q, inl refl)); open_still = old.unrefused; unbegun = old.unbegun });
             decided = λ a k i. let z = same a k i in
-                subst (λ (y : ProviderId × ℕ × Led). Decided y.2 y.0 y.1) (λ j. (sym z.0 j, sym z.1 j, sym taken_row j)) (decided_now (row_of c h).led p r None);
+                subst (λ (y : ProviderId × ℕ × Led). Decided y.2 y.0 y.1) (λ j. (sym z.0 j, sym z.1 j, sym taken_rule j)) (decided_now (row_of c h).led p r None);
             waits_not = λ a i k. let z = same a a.join k in
-                old.unwaiting (subst (λ (y : ProviderId × Led). among y.1.waiting.joins y.0 ≡ true) (λ j. (z.0 j, taken_row j)) i) (ap (λ (y : ProviderId). y.join) (sym z.0) ∙ z.1);
+                old.unwaiting (subst (λ (y : ProviderId × Led). among y.1.waiting.joins y.0 ≡ true) (λ j. (z.0 j, taken_rule j)) i) (ap (λ (y : ProviderId). y.join) (sym z.0) ∙ z.1);
             unshut = unshut e;
           }
         where

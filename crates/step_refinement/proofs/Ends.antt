@@ -48,7 +48,7 @@ use Rattle.step_refinement.specs.Tied.{RowIs, Decided, LeaderKeeps, Scene, Begun
 use Rattle.step_refinement.proofs.Leads.{leads_known, leads_row}
 use Rattle.node_state.proofs.NameOrder.{row_here}
 use Rattle.step_refinement.proofs.RowWorks.{waits_of, row_kept}
-use Rattle.step_refinement.proofs.ViewRows.{same_of, apart_of}
+use Rattle.step_refinement.proofs.ViewRules.{same_of, apart_of}
 use Rattle.step_refinement.proofs.Refusals.{refusing}
 use Rattle.step_refinement.proofs.Decisions.{NoOlder, Unbegun, Fresh, with_decision, with_here, with_there, decided_still}
 use Rattle.step_refinement.proofs.Deciding.{refused_goes}

@@ -55,12 +55,12 @@ use Rattle.run_safety.proofs.Whole.{Whole}
 use Rattle.run_safety.proofs.Lives.{whole, always_same_members}
 use Rattle.step_refinement.specs.Ghost.{Ghost, FitIn, Lives, Seen, Goes, Keeps, CarriesIf, part_of, origin_of, BaseIsOf, Installs, InstallsIf}
 use Rattle.step_refinement.specs.Tied.{Shows, RowIs, Owed, Owes, LeaderKeeps, Names, Closed, NodeOf, NodeIsIf, ShowsLeader, Scene, Sound, Placed, opening_of, lines_now, InTurn, Turns}
-use Rattle.step_refinement.specs.Rows.{at_node}
+use Rattle.step_refinement.specs.Rules.{at_node}
 use Rattle.step_refinement.proofs.Goes.{Spares, Still, Settled, still_spares, sound_on, node_if_on}
 use Rattle.step_refinement.proofs.Changed.{set_here, set_there, incs_set}
 use Rattle.step_refinement.proofs.Begins.{number_other}
 use Rattle.step_refinement.proofs.Works.{lines_pushed, now_pushed}
-use Rattle.step_refinement.proofs.ViewRows.{same_of}
+use Rattle.step_refinement.proofs.ViewRules.{same_of}
 use Rattle.step_refinement.proofs.RowWorks.{keeps_of}
 use Rattle.step_refinement.proofs.SessionLaws.{Later, later_same, owes_later, hearer_has}
 use Rattle.step_refinement.proofs.Arrived.{now_bases, Arrived}

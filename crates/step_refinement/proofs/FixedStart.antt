@@ -32,7 +32,7 @@ use Rattle.run_safety.specs.Group as group
 use Rattle.run_safety.specs.Moves.{Leads, MayLead, Together, Born, Quiet, Life, Dawn, NextEvent, Starts, Names, first}
 use Rattle.step_refinement.specs.Ghost.{Ghost, Goes}
 use Rattle.step_refinement.specs.Tied.{ShowsLeader, NodeIsIf, Scene, opening_in, opening_of, Begun, Rests}
-use Rattle.step_refinement.specs.Rows.{at_node, starts_too, all_started}
+use Rattle.step_refinement.specs.Rules.{at_node, starts_too, all_started}
 use Rattle.step_refinement.proofs.Goes.{Spares, node_if_on}
 use Rattle.step_refinement.proofs.Changed.{set_here, set_there, each_set, changes, set_view, view_here, view_there}
 use Rattle.step_refinement.proofs.Works.{Unseen, Stays, lines_unseen, now_still}

@@ -44,7 +44,7 @@ use Rattle.run_safety.proofs.Whole.{Whole}
 use Rattle.run_safety.proofs.Lives.{whole}
 use Rattle.step_refinement.specs.Ghost.{Ghost, Seen, CarriesIf, Gathers, BaseIsOf, Installs, origin_of, part_of}
 use Rattle.step_refinement.specs.Tied.{ShowsBody, Shows, Names, NodeOf, NodeIsIf, Scene, opening_of, Tied}
-use Rattle.step_refinement.specs.Rows.{at_node}
+use Rattle.step_refinement.specs.Rules.{at_node}
 use Rattle.step_refinement.proofs.Goes.{Settled, spares_same, seen_on, carries_on, shows_on, rest_on}
 use Rattle.step_refinement.proofs.Changed.{changes, set_view, view_here, view_there}
 use Rattle.node_state.proofs.NameOrder.{text_same, text_self}

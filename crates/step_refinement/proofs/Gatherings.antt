@@ -21,7 +21,7 @@ use Rattle.view_exchange.proofs.Edits.{inserted_has, has_inserted}
 use Rattle.view_state.specs.declared.packet.ViewPacket.TheVariants as view
 use Rattle.view_state.specs.declared.packet.ViewSend.{ViewSend}
 use Rattle.view_state.specs.declared.views.Views.{Views}
-use Rattle.view_state.specs.Views.{view_sent_all, gathering_set, promised, gathered, gather_on, own_answer, ask_others, next_view, may_ask, ask_if, ask_row, answer_to, answer_row, views_at_work}
+use Rattle.view_state.specs.Views.{view_sent_all, gathering_set, promised, gathered, gather_on, own_answer, ask_others, next_view, may_ask, ask_if, ask_rule, answer_to, answer_rule, views_at_work}
 use Rattle.node_state.specs.declared.packet.Body.TheVariants as body
 use Rattle.node_state.specs.declared.packet.Packet.{Packet}
 use Rattle.node_state.specs.declared.state.Core.{Core}
@@ -30,7 +30,7 @@ use Rattle.node_state.specs.State.{row_of, held_rows}
 use Rattle.node_state.specs.Sending.{send_on, sent}
 use Rattle.node_state.specs.HandOn.{Answering}
 use Rattle.node_state.specs.Applying.{own_parts, apply_install, views_taken}
-use Rattle.node_state.specs.Step.{take_order, view_row, take_body}
+use Rattle.node_state.specs.Step.{take_order, view_rule, take_body}
 use Rattle.run_safety.specs.ViewOrder.{is_before, Lt, Le}
 use Rattle.run_safety.specs.Group.{member, members_of, Reply}
 use Rattle.run_safety.specs.Group as group
@@ -44,7 +44,7 @@ use Rattle.step_refinement.proofs.Goes.{Spares, sound_on, spares_same, carries_o
 use Rattle.step_refinement.proofs.Works.{tied_on, tied_sent, tied_views}
 use Rattle.step_refinement.proofs.Gone.{with_packet, packet_goes, packet_still, packet_spares}
 use Rattle.step_refinement.proofs.Parts.{own_carries, own_differ}
-use Rattle.step_refinement.proofs.ViewRows.{same_of, tied_promised}
+use Rattle.step_refinement.proofs.ViewRules.{same_of, tied_promised}
 use Rattle.step_refinement.proofs.Turns.{packet_turns}
 
 -- ---- one more answer
@@ -161,7 +161,7 @@ counted_tied v old parts g w n s p is delivered e q r t =
         record { node = refl; inc = refl; view = refl; sent = subst (λ z. Has (group.Answer z reply) t.ghost.ps) asked shown.1; seen = shown.2; part = shown.3; names = shown.4 }
 
 pub answer_is_tied : (v old : ViewId) (parts : List Part) (g : List ℕ) (w : Scene) (n : ℕ) (f : Answering) (s : Core) (p : Packet) → p.body ≡ body.View (view.Answer v old parts) → Has p w.sent → ((e : Exchange) → s.views.gathering ≡ Some e → all_answered (with_answer e (record { node = p.from; inc = p.inc; view = old; parts = parts })) ≡ false) → Tied g w n s → Tied g w n (take_body f s p (body.View (view.Answer v old parts)))
-unfolding take_body view_row views_taken apply_install answer_row answer_to gather_on gathered gathering_set
+unfolding take_body view_rule views_taken apply_install answer_rule answer_to gather_on gathered gathering_set
 answer_is_tied v old parts g w n f s p is delivered more t = at s.views.gathering refl
   where
     by : (e : Exchange) → s.views.gathering ≡ Some e → (b : Bool) → (same_view e.view v && may_answer e p.from) ≡ b → Tied g w n (views_taken f s (elim b [ true ↦ gather_on (views_at_work s.views) (with_answer e (record { node = p.from; inc = p.inc; view = old; parts = parts })) | false ↦ views_at_work s.views ]))
@@ -269,8 +269,8 @@ module _ (mask : Mask) (g : List ℕ) (w : Scene) (n : ℕ) (s : Core) (t : Tied
       opens_tied g w n (record s { views = record (s.views) { promise = next_view s.views; gathering = None } }) (next_promised free) mask free there (coord_is ∙ t.own.0.stands.me) inc_is later (le_lt_trans s.views.view s.views.promise (next_view s.views) below (next_later s.views))
 
 -- asking for the next view, where others are asked too
-pub asks_tied : (mask : Mask) (g : List ℕ) (w : Scene) (n : ℕ) (f : Answering) (s : Core) → is_fixed s.config.mode ≡ false → all_answered (with_answer (opened (next_view s.views) mask) (own_answer s.views (own_parts s))) ≡ false → Tied g w n s → Tied g w n (views_taken f s (ask_row (views_at_work s.views) mask (own_parts s)))
-unfolding ask_row ask_if may_ask ask_others gather_on gathered gathering_set view_sent_all promised views_taken apply_install
+pub asks_tied : (mask : Mask) (g : List ℕ) (w : Scene) (n : ℕ) (f : Answering) (s : Core) → is_fixed s.config.mode ≡ false → all_answered (with_answer (opened (next_view s.views) mask) (own_answer s.views (own_parts s))) ≡ false → Tied g w n s → Tied g w n (views_taken f s (ask_rule (views_at_work s.views) mask (own_parts s)))
+unfolding ask_rule ask_if may_ask ask_others gather_on gathered gathering_set view_sent_all promised views_taken apply_install
 asks_tied mask g w n f s free more t = by (may_ask s.views mask) refl
   where
     asks : (b : Bool) → has_node mask s.views.me ≡ true → Tied g w n (views_taken f s (ask_others (views_at_work s.views) (next_view s.views) mask (own_parts s) b))
@@ -289,6 +289,6 @@ pub ask_is_tied : (mask : Mask) (g : List ℕ) (w : Scene) (n : ℕ) (f : Answer
 unfolding take_order
 ask_is_tied mask g w n f s more t = by (is_fixed s.config.mode) refl
   where
-    by : (a : Bool) → is_fixed s.config.mode ≡ a → Tied g w n (elim a [ true ↦ s | false ↦ views_taken f s (ask_row (views_at_work s.views) mask (own_parts s)) ])
+    by : (a : Bool) → is_fixed s.config.mode ≡ a → Tied g w n (elim a [ true ↦ s | false ↦ views_taken f s (ask_rule (views_at_work s.views) mask (own_parts s)) ])
     by true q = t
     by false q = asks_tied mask g w n f s q more t

@@ -28,7 +28,7 @@ use Rattle.step_refinement.specs.Ghost.{Ghost, FitIn, Keeps, Carries, CarriesIf,
 use Rattle.step_refinement.specs.Tied.{Scene, opening_of, Tied}
 use Rattle.step_refinement.proofs.Acks.{member_self}
 use Rattle.step_refinement.proofs.RowWorks.{keeps_of}
-use Rattle.step_refinement.proofs.ViewRows.{same_of}
+use Rattle.step_refinement.proofs.ViewRules.{same_of}
 use Rattle.step_refinement.proofs.Fits.{fits_rest}
 use Rattle.step_refinement.proofs.Fills.{dropped}
 use Rattle.step_refinement.proofs.Replies.{part_is, carries_len}

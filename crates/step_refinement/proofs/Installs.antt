@@ -11,7 +11,7 @@ use Rattle.view_state.specs.declared.install.Install.{Install}
 use Rattle.view_state.specs.declared.install.Base.{Base}
 use Rattle.view_state.specs.Bases.{bases_of, base_named}
 use Rattle.view_state.specs.declared.packet.ViewPacket.TheVariants as view
-use Rattle.view_state.specs.Views.{view_sent, installed, install_row, views_at_work}
+use Rattle.view_state.specs.Views.{view_sent, installed, install_rule, views_at_work}
 use Rattle.node_state.specs.declared.packet.Body.TheVariants as body
 use Rattle.node_state.specs.declared.packet.Packet.{Packet}
 use Rattle.node_state.specs.declared.state.Core.{Core}
@@ -19,7 +19,7 @@ use Rattle.node_state.specs.Settings.{is_fixed}
 use Rattle.node_state.specs.State.{held_rows}
 use Rattle.node_state.specs.HandOn.{Answering}
 use Rattle.node_state.specs.Applying.{Lacking, lacking, fill_lists, view_entered, sides_dissolved, entering_noted, taken_sent, owed_sent, entered, entered_if, apply_install, views_taken}
-use Rattle.node_state.specs.Step.{view_row, take_body}
+use Rattle.node_state.specs.Step.{view_rule, take_body}
 use Rattle.run_safety.specs.ViewOrder.{Lt, Le}
 use Rattle.run_safety.specs.Sight.{lines_with, lines_of}
 use Rattle.run_safety.specs.Group.{member, Standing, Origin, Record, In, Put, Note, Based, Heard, Asked, Told, Line, Kept, Noted, kept, lines_from, puts_from}
@@ -30,11 +30,11 @@ use Rattle.run_safety.proofs.Whole.{Whole}
 use Rattle.run_safety.proofs.Lives.{whole}
 use Rattle.step_refinement.specs.Ghost.{BaseIsOf, Installs}
 use Rattle.step_refinement.specs.Tied.{ShowsBody, Scene, opening_of, lines_now, Tied}
-use Rattle.step_refinement.specs.Rows.{at_node}
+use Rattle.step_refinement.specs.Rules.{at_node}
 use Rattle.step_refinement.proofs.Goes.{shows_on, installs_on}
 use Rattle.step_refinement.proofs.Changed.{changes}
 use Rattle.step_refinement.proofs.Works.{tied_sent, asked_free}
-use Rattle.step_refinement.proofs.ViewRows.{same_of, before_of}
+use Rattle.step_refinement.proofs.ViewRules.{same_of, before_of}
 use Rattle.step_refinement.proofs.Acks.{has_member}
 use Rattle.step_refinement.proofs.Arrived.{arrived_tied}
 use Rattle.step_refinement.proofs.LedGroups.{groups_led_tied}
@@ -135,9 +135,9 @@ enters_row i xs g w n f s p is delivered none other may lacks t =
     among = subst (λ m. Has (member m s.views.inc) i.members) t.own.0.stands.me (has_member i.members s.views.me s.views.inc parts.1)
 
 -- INSTALL
-pub install_row_tied : (i : Install) (g : List ℕ) (w : Scene) (n : ℕ) (f : Answering) (s : Core) (p : Packet) → p.body ≡ body.View (view.Install i) → Has p w.sent → s.records ≡ [] → Tied g w n s → Tied g w n (take_body f s p (body.View (view.Install i)))
-unfolding take_body view_row views_taken apply_install entered_if install_row installed view_sent
-install_row_tied i g w n f s p is delivered none t =
+pub install_rule_tied : (i : Install) (g : List ℕ) (w : Scene) (n : ℕ) (f : Answering) (s : Core) (p : Packet) → p.body ≡ body.View (view.Install i) → Has p w.sent → s.records ≡ [] → Tied g w n s → Tied g w n (take_body f s p (body.View (view.Install i)))
+unfolding take_body view_rule views_taken apply_install entered_if install_rule installed view_sent
+install_rule_tied i g w n f s p is delivered none t =
     by (same_view s.views.view i.view) (same_view s.views.promise i.view && is_member i.members s.views.me s.views.inc) refl refl
   where
     lists : (o : Option (List Lacking)) → same_view s.views.view i.view ≡ false → (same_view s.views.promise i.view && is_member i.members s.views.me s.views.inc) ≡ true → lacking s i ≡ o → Tied g w n (entered_if f s i o)

@@ -27,7 +27,7 @@ use Rattle.step_refinement.specs.Ghost.{Ghost, KeepsIf, IsStable}
 use Rattle.step_refinement.specs.Tied.{RowIs, Scene, Tied}
 use Rattle.step_refinement.proofs.Works.{sent_kept, tied_sent}
 use Rattle.node_state.proofs.NameOrder.{cases_text}
-use Rattle.step_refinement.proofs.ViewRows.{same_of}
+use Rattle.step_refinement.proofs.ViewRules.{same_of}
 use Rattle.step_refinement.proofs.Leads.{leads_same, leads_known}
 use Rattle.step_refinement.proofs.Acks.{settled, fold_least}
 use Rattle.step_refinement.proofs.Fills.{dropped}

@@ -6,7 +6,7 @@ pub mod Works
 pub mod Begins
 pub mod Parts
 pub mod Gone
-pub mod ViewRows
+pub mod ViewRules
 pub mod RowWorks
 pub mod Leads
 pub mod Acks
@@ -45,7 +45,7 @@ pub mod Sides
 pub mod Replies
 pub mod Founding
 pub mod GoingOn
-pub mod FoundingRows
+pub mod FoundingRules
 pub mod Steps
 pub mod Noting
 pub mod RunLaw

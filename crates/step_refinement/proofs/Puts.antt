@@ -33,7 +33,7 @@ use Rattle.run_safety.proofs.Whole.{Whole}
 use Rattle.run_safety.proofs.Lives.{whole}
 use Rattle.step_refinement.specs.Ghost.{Ghost, Lives, Goes, Keeps, FitIn}
 use Rattle.step_refinement.specs.Tied.{RowIs, Owed, Owes, LeaderKeeps, Closed, NodeOf, Scene, opening_of, lines_now, Tied}
-use Rattle.step_refinement.specs.Rows.{at_node}
+use Rattle.step_refinement.specs.Rules.{at_node}
 use Rattle.step_refinement.proofs.Goes.{Spares, Still, still_spares, sound_on, node_if_on, stable_on, knows_on, acked_on, gathers_on, install_on, shows_on}
 use Rattle.step_refinement.proofs.Idle.{idles_with}
 use Rattle.step_refinement.proofs.Changed.{set_here, set_there, changes, incs_set}

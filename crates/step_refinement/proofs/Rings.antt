@@ -24,7 +24,7 @@ use Rattle.node_state.specs.Settings.{is_rings}
 use Rattle.node_state.specs.State.{row_of, recorded, recorded_all}
 use Rattle.node_state.specs.Sending.{sent, send_on, send_all}
 use Rattle.node_state.specs.HandOn.{Answering}
-use Rattle.node_state.specs.Ticks.{ring_put, set_records, ring_taken, ring_row_of, ring_row, take_report, rings_union, report_of, send_report, rings_tick, tick_rings}
+use Rattle.node_state.specs.Ticks.{ring_put, set_records, ring_taken, ring_rule_of, ring_rule, take_report, rings_union, report_of, send_report, rings_tick, tick_rings}
 use Rattle.node_state.specs.Status.{status_text}
 use Rattle.node_state.specs.Step.{take_body}
 use Rattle.step_refinement.specs.Ghost.{Ghost}
@@ -90,10 +90,10 @@ rings_part_tied g w n s t = by (is_rings s.config.mode)
     by false = t
 
 pub ring_is_tied : (x : RingPacket) (g : List ℕ) (w : Scene) (n : ℕ) (f : Answering) (s : Core) (p : Packet) → Tied g w n s → Tied g w n (take_body f s p (body.Ring x))
-unfolding take_body ring_row ring_row_of
+unfolding take_body ring_rule ring_rule_of
 ring_is_tied x g w n f s p t = by (find (λ (r : Ring). r.net == p.network) s.rings)
   where
-    by : (o : Option Ring) → Tied g w n (ring_row_of s p.from p.inc x o)
+    by : (o : Option Ring) → Tied g w n (ring_rule_of s p.from p.inc x o)
     by None = t
     by (Some r) = ring_tied g w n s (ring_step r (ring_event.Packet p.from p.inc x)) t
 

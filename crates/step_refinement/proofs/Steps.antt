@@ -28,18 +28,18 @@ use Rattle.node_state.specs.Settings.{is_rings}
 use Rattle.node_state.specs.State.{row_of, leader_in, leads_in, leads, recorded_all}
 use Rattle.node_state.specs.Sending.{send_on}
 use Rattle.node_state.specs.HandOn.{Answering}
-use Rattle.node_state.specs.Ticks.{set_records, ring_put, ring_taken, rings_union, report_of, send_report, rings_tick, tick_rings, tick_views, tick_owed, tick_row}
+use Rattle.node_state.specs.Ticks.{set_records, ring_put, ring_taken, rings_union, report_of, send_report, rings_tick, tick_rings, tick_views, tick_owed, tick_rule}
 use Rattle.node_state.specs.Ending.{end_step}
-use Rattle.node_state.specs.Step.{NodeEvent, Ticks, Asks, Given, Calls, Garbage, take_body, packet_row, event_row, stepped, at_work}
+use Rattle.node_state.specs.Step.{NodeEvent, Ticks, Asks, Given, Calls, Garbage, take_body, packet_rule, event_rule, stepped, at_work}
 use Rattle.world_model.specs.declared.event.Event.{Event}
 use Rattle.run_safety.specs.Sight.{lines_of}
 use Rattle.run_safety.specs.Group.{kept}
 use Rattle.run_safety.specs.Moves.{Quiet}
 use Rattle.step_refinement.specs.Tied.{Scene, Begun, Rests, lines_now, Tied}
-use Rattle.step_refinement.specs.Rows.{ended, acted, Arises}
+use Rattle.step_refinement.specs.Rules.{ended, acted, Arises}
 use Rattle.step_refinement.proofs.Works.{Unseen, lines_none}
 use Rattle.step_refinement.proofs.Begins.{begin_tied, end_tied}
-use Rattle.step_refinement.proofs.ViewRows.{taken_is_tied, refuse_is_tied, prepare_is_tied}
+use Rattle.step_refinement.proofs.ViewRules.{taken_is_tied, refuse_is_tied, prepare_is_tied}
 use Rattle.step_refinement.proofs.Acks.{ack_is_tied}
 use Rattle.step_refinement.proofs.Entries.{entry_is_tied}
 use Rattle.step_refinement.proofs.Tellings.{tell_is_tied}
@@ -47,8 +47,8 @@ use Rattle.step_refinement.proofs.Named.{lookup_is_tied, name_is_tied}
 use Rattle.step_refinement.proofs.Requests.{request_is_tied}
 use Rattle.step_refinement.proofs.Votes.{vote_is_tied, gone_is_tied}
 use Rattle.step_refinement.proofs.Rings.{rings_part_tied, ring_is_tied, report_is_tied, query_is_tied, reply_is_tied}
-use Rattle.step_refinement.proofs.Installs.{install_row_tied}
-use Rattle.step_refinement.proofs.FoundingRows.{founding_answer_tied, founding_ask_tied, founding_tick_tied}
+use Rattle.step_refinement.proofs.Installs.{install_rule_tied}
+use Rattle.step_refinement.proofs.FoundingRules.{founding_answer_tied, founding_ask_tied, founding_tick_tied}
 use Rattle.step_refinement.proofs.Owed.{owed_part_tied}
 use Rattle.step_refinement.proofs.LedTicks.{led_part_tied}
 use Rattle.step_refinement.proofs.Calls.{call_is_tied}
@@ -118,7 +118,7 @@ module _ (w : Scene) (n : ℕ) (f : Answering) (s : Core) (none : s.records ≡ 
   view_tied p (view.Prepare v mask) is sent g = prepare_is_tied v mask g w n f s p is sent (all g)
   view_tied p (view.Answer v old parts) is sent g = founding_answer_tied v old parts w n f s p is sent none all g
   view_tied p (view.Refuse v k) is sent g = refuse_is_tied v k g w n f s p.from p.inc (all g)
-  view_tied p (view.Install i) is sent g = install_row_tied i g w n f s p is sent none (all g)
+  view_tied p (view.Install i) is sent g = install_rule_tied i g w n f s p is sent none (all g)
   view_tied p (view.Taken v) is sent g = taken_is_tied v g w n f s p.from p.inc (all g)
 
   body_tied : (p : Packet) (b : Body) → p.body ≡ b → p.to ≡ n → Has p w.sent → (g : List ℕ) → Tied g w n (take_body f s p b)
@@ -137,7 +137,7 @@ module _ (w : Scene) (n : ℕ) (f : Answering) (s : Core) (none : s.records ≡ 
   body_tied p (body.Reply question text) is to sent g = reply_is_tied question text g w n f s p (all g)
 
   acted_tied : (e : NodeEvent) → Arises w e → (g : List ℕ) → Tied g w n (acted f s e)
-  unfolding packet_row
+  unfolding packet_rule
   acted_tied Ticks arises g =
       let rings : (h : List ℕ) → Tied h w n (tick_rings s) = λ h. rings_part_tied h w n s (all h) in
       let viewed = founding_tick_tied w n f (tick_rings s) rings g (rings_quiet g w s none) in
@@ -152,7 +152,7 @@ module _ (w : Scene) (n : ℕ) (f : Answering) (s : Core) (none : s.records ≡ 
       by true e = body_tied p p.body refl (eqb-true p.to s.views.me e ∙ (all g).own.0.stands.me) arises g
 
 stepped_is : (f : Answering) (s : Core) (e : NodeEvent) → stepped f s e ≡ end_step f (acted f (at_work s) e)
-unfolding stepped event_row tick_row
+unfolding stepped event_rule tick_rule
 stepped_is f s Ticks = refl
 stepped_is f s (Asks mask) = refl
 stepped_is f s (Given p) = refl

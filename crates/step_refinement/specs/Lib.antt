@@ -1,4 +1,4 @@
 pub mod Ghost
 pub mod Tied
-pub mod Rows
+pub mod Rules
 pub mod Runs

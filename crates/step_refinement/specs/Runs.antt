@@ -12,7 +12,7 @@ use Rattle.world_model.specs.declared.event.Event.{Event}
 use Rattle.run_safety.specs.SafeLists.{OneEntry}
 use Rattle.run_safety.specs.SafeGroups.{SafeGroups}
 use Rattle.step_refinement.specs.Tied.{Scene, Rests, opening_of}
-use Rattle.step_refinement.specs.Rows.{nothing_yet, all_started, start_with, stopped, ended, Arises}
+use Rattle.step_refinement.specs.Rules.{nothing_yet, all_started, start_with, stopped, ended, Arises}
 
 -- a record of what no node does: a call that is refused since the node is down, or a line of a status
 abbrev pub IsNote : Happened → Type 0

@@ -1,7 +1,7 @@
 //! The step of a node, tied to the lives of groups.
 #![tactic(auto)]
 
-ghost use Rattle.step_refinement.specs.Rows.{NothingTied, StartTied, StopTied, BeginTied, EndTied, TakenTied, RefuseTied, PrepareTied, AckTied, EntryTied, LookupTied, NameTied, TellTied, RequestTied, AnswerTied, AskTied, ViewsPartTied, InstallTied, FixedStartTied, OwedPartTied, VoteTied, GoneTied, CallTied, LedPartTied, StepEndTied, StepTied, RingsPartTied, RingTied, ReportTied, QueryTied, ReplyTied, FoundingAnswerTied, FoundingAskTied, FoundingTickTied};
+ghost use Rattle.step_refinement.specs.Rules.{NothingTied, StartTied, StopTied, BeginTied, EndTied, TakenTied, RefuseTied, PrepareTied, AckTied, EntryTied, LookupTied, NameTied, TellTied, RequestTied, AnswerTied, AskTied, ViewsPartTied, InstallTied, FixedStartTied, OwedPartTied, VoteTied, GoneTied, CallTied, LedPartTied, StepEndTied, StepTied, RingsPartTied, RingTied, ReportTied, QueryTied, ReplyTied, FoundingAnswerTied, FoundingAskTied, FoundingTickTied};
 ghost use Rattle.step_refinement.specs.Runs.{NoteTied, RunsAreSafe};
 
 /// Before anything happened, nothing stands for the dawn of each group's life.
@@ -35,19 +35,19 @@ pub fn start_is_tied()
 {}
 
 /// TAKEN.
-#[tactic(auto, using(crate::proofs::ViewRows::taken_is_tied))]
+#[tactic(auto, using(crate::proofs::ViewRules::taken_is_tied))]
 pub fn taken_is_tied()
     ensures { TakenTied }
 {}
 
 /// REFUSE.
-#[tactic(auto, using(crate::proofs::ViewRows::refuse_is_tied))]
+#[tactic(auto, using(crate::proofs::ViewRules::refuse_is_tied))]
 pub fn refuse_is_tied()
     ensures { RefuseTied }
 {}
 
 /// PREPARE.
-#[tactic(auto, using(crate::proofs::ViewRows::prepare_is_tied))]
+#[tactic(auto, using(crate::proofs::ViewRules::prepare_is_tied))]
 pub fn prepare_is_tied()
     ensures { PrepareTied }
 {}
@@ -107,7 +107,7 @@ pub fn views_part_is_tied()
 {}
 
 /// INSTALL.
-#[tactic(auto, using(crate::proofs::Installs::install_row_tied))]
+#[tactic(auto, using(crate::proofs::Installs::install_rule_tied))]
 pub fn install_is_tied()
     ensures { InstallTied }
 {}
@@ -191,19 +191,19 @@ pub fn step_is_tied()
 {}
 
 /// ANSWER, also the last one: the coordinator founds the view. The relation is of all groups at once.
-#[tactic(auto, using(crate::proofs::FoundingRows::founding_answer_tied))]
+#[tactic(auto, using(crate::proofs::FoundingRules::founding_answer_tied))]
 pub fn founding_answer_is_tied()
     ensures { FoundingAnswerTied }
 {}
 
 /// An order to ask, also oneself alone. The relation is of all groups at once.
-#[tactic(auto, using(crate::proofs::FoundingRows::founding_ask_tied))]
+#[tactic(auto, using(crate::proofs::FoundingRules::founding_ask_tied))]
 pub fn founding_ask_is_tied()
     ensures { FoundingAskTied }
 {}
 
 /// The tick of views, parts (2) and (3), also where it asks oneself alone. The relation is of all groups at once.
-#[tactic(auto, using(crate::proofs::FoundingRows::founding_tick_tied))]
+#[tactic(auto, using(crate::proofs::FoundingRules::founding_tick_tied))]
 pub fn founding_tick_is_tied()
     ensures { FoundingTickTied }
 {}

@@ -204,7 +204,7 @@ fn run(alloc: Global) -> Result<(Daemon, Daemon), NoMemory> {
     for _ in 0..TURNS {
         first.turn(&mut second)?;
     }
-    first.node.status(alloc, What::Hagsgr, &mut first.log)?;
+    first.node.status(alloc, &mut first.log, What::Hagsgr)?;
     Ok((first, second))
 }
 

@@ -21,8 +21,8 @@ use Rattle.view_state.specs.declared.views.RingAsk.{RingAsk}
 use Rattle.view_state.specs.declared.views.ViewWork.{ViewWork}
 use Rattle.view_core.specs.declared.step.ViewEvent.{ViewEvent}
 use Rattle.view_core.specs.declared.step.ViewEvent.TheVariants as event
-use Rattle.view_state.specs.Views.{view_sent, view_sent_all, gathering_set, promised, begin_install, gathered, gather_on, own_answer, ask_others, next_view, may_ask, ask_if, ask_row, answered, prepare, prepare_row, answer_to, answer_row, refused_by, refuse_to, refuse_row, installed, install_row, taken_row, aged, prepare_again, note_stuck, tick_asks, asks_or_ages, gathering_ticks, install_again_of, install_again, is_coordinator, is_frozen, is_stuck, others_of, views_at_work, views_new, views_entered}
-use Rattle.view_core.specs.Steps.{view_row, view_stepped}
+use Rattle.view_state.specs.Views.{view_sent, view_sent_all, gathering_set, promised, begin_install, gathered, gather_on, own_answer, ask_others, next_view, may_ask, ask_if, ask_rule, answered, prepare, prepare_rule, answer_to, answer_rule, refused_by, refuse_to, refuse_rule, installed, install_rule, taken_rule, aged, prepare_again, note_stuck, tick_asks, asks_or_ages, gathering_ticks, install_again_of, install_again, is_coordinator, is_frozen, is_stuck, others_of, views_at_work, views_new, views_entered}
+use Rattle.view_core.specs.Steps.{view_rule, view_stepped}
 use Rattle.view_core.specs.Laws.{NotBefore, IsNext, GathersNext, AppliesNext, AreViews, ViewsBegin, Goes, PromisesStand, Enters, ViewsRise}
 
 or_left : (a b : Bool) → a ≡ true → (a || b) ≡ true
@@ -184,8 +184,8 @@ unfolding ask_if
 ask_if_goes s w mask parts false h g = goes s w h g
 ask_if_goes s w mask parts true h g = asks_goes s w (next_view w.views) mask parts (nat_le (length parts) 255) h (next_is_higher w.views)
 
-ask_goes : (s : Views) (w : ViewWork) (mask : Mask) (parts : List Part) → Since s w → GathersNext w.views w.views.gathering → Goes s (ask_row w mask parts)
-unfolding ask_row
+ask_goes : (s : Views) (w : ViewWork) (mask : Mask) (parts : List Part) → Since s w → GathersNext w.views w.views.gathering → Goes s (ask_rule w mask parts)
+unfolding ask_rule
 ask_goes s w mask parts h g = ask_if_goes s w mask parts (may_ask w.views mask) h g
 
 prepared_goes : (s : Views) (w : ViewWork) (v : ViewId) (parts : List Part) (a b c : Bool) → Since s w → GathersNext w.views w.views.gathering → (a ≡ true → view_lt w.views.promise v ≡ true) → Goes s (prepare w v parts a b c)
@@ -195,8 +195,8 @@ prepared_goes s w v parts false true c h g k = answered_goes s w v parts h g
 prepared_goes s w v parts false false true h g k = sent_goes s w v.coord (packet.Refuse v w.views.promise.number) h g
 prepared_goes s w v parts false false false h g k = goes s w h g
 
-prepare_goes : (s : Views) (w : ViewWork) (from inc : ℕ) (v : ViewId) (mask : Mask) (parts : List Part) → Since s w → GathersNext w.views w.views.gathering → Goes s (prepare_row w from inc v mask parts)
-unfolding prepare_row
+prepare_goes : (s : Views) (w : ViewWork) (from inc : ℕ) (v : ViewId) (mask : Mask) (parts : List Part) → Since s w → GathersNext w.views w.views.gathering → Goes s (prepare_rule w from inc v mask parts)
+unfolding prepare_rule
 prepare_goes s w from inc v mask parts h g =
     let asked : Bool = v.coord == from && v.inc == inc && has_node mask w.views.me in
     prepared_goes s w v parts (asked && view_lt w.views.promise v) (asked && same_view v w.views.promise && not (same_view v w.views.view)) (view_lt v w.views.promise) h g
@@ -211,8 +211,8 @@ answer_to_goes s w v a (Some x) h g k = by (same_view x.view v && may_answer x a
     by true = gathers_goes s w (with_answer x a) h (is_next_along w.views x.view (with_answer x a).view (answer_view x a) k)
     by false = goes s w h g
 
-answer_goes : (s : Views) (w : ViewWork) (v : ViewId) (a : Answer) → Since s w → GathersNext w.views w.views.gathering → Goes s (answer_row w v a)
-unfolding answer_row
+answer_goes : (s : Views) (w : ViewWork) (v : ViewId) (a : Answer) → Since s w → GathersNext w.views w.views.gathering → Goes s (answer_rule w v a)
+unfolding answer_rule
 answer_goes s w v a h g = answer_to_goes s w v a w.views.gathering h g g
 
 refused_goes : (s : Views) (w : ViewWork) (n : ℕ) → Since s w → Goes s (refused_by w n)
@@ -233,8 +233,8 @@ refuse_to_goes s w v n (Some x) h g = by (same_view x.view v)
     by true = refused_goes s w n h
     by false = goes s w h g
 
-refuse_goes : (s : Views) (w : ViewWork) (v : ViewId) (n : ℕ) → Since s w → GathersNext w.views w.views.gathering → Goes s (refuse_row w v n)
-unfolding refuse_row
+refuse_goes : (s : Views) (w : ViewWork) (v : ViewId) (n : ℕ) → Since s w → GathersNext w.views w.views.gathering → Goes s (refuse_rule w v n)
+unfolding refuse_rule
 refuse_goes s w v n h g = refuse_to_goes s w v n w.views.gathering h g
 
 installed_goes : (s : Views) (w : ViewWork) (i : Install) (a b : Bool) → same_view w.views.view i.view ≡ a → (b ≡ true → same_view w.views.promise i.view ≡ true) → Since s w → GathersNext w.views w.views.gathering → Goes s (installed w i a b)
@@ -251,14 +251,14 @@ installed_goes s w i false true p q h g =
       applies = record { promised = e; above = rw e (other_above w.views.view w.views.promise h.covers other) };
     }
 
-install_goes : (s : Views) (w : ViewWork) (i : Install) → Since s w → GathersNext w.views w.views.gathering → Goes s (install_row w i)
-unfolding install_row
+install_goes : (s : Views) (w : ViewWork) (i : Install) → Since s w → GathersNext w.views w.views.gathering → Goes s (install_rule w i)
+unfolding install_rule
 install_goes s w i h g =
     installed_goes s w i (same_view w.views.view i.view) (same_view w.views.promise i.view && is_member i.members w.views.me w.views.inc) refl
     (λ e. (and_parts (same_view w.views.promise i.view) (is_member i.members w.views.me w.views.inc) e).0) h g
 
-taken_goes : (s : Views) (w : ViewWork) (from : ℕ) (v : ViewId) → Since s w → GathersNext w.views w.views.gathering → Goes s (taken_row w from v)
-unfolding taken_row
+taken_goes : (s : Views) (w : ViewWork) (from : ℕ) (v : ViewId) → Since s w → GathersNext w.views w.views.gathering → Goes s (taken_rule w from v)
+unfolding taken_rule
 taken_goes s w from v h g = by (same_view w.views.view v)
   where
     by : (t : Bool) → Goes s (elim t [ true ↦ record w { views = record (w.views) { taken = with_node w.views.taken from } } | false ↦ w ])
@@ -310,8 +310,8 @@ remind_goes s w h g = by (is_coordinator w.views && not (is_frozen w.views))
 
 -- ---- every event
 
-row_goes : (s : Views) (w : ViewWork) (e : ViewEvent) (parts : List Part) → Since s w → GathersNext w.views w.views.gathering → Goes s (view_row w e parts)
-unfolding view_row
+row_goes : (s : Views) (w : ViewWork) (e : ViewEvent) (parts : List Part) → Since s w → GathersNext w.views w.views.gathering → Goes s (view_rule w e parts)
+unfolding view_rule
 row_goes s w (event.Ask mask) parts h g = ask_goes s w mask parts h g
 row_goes s w (event.Tick ring_ask) parts h g = tick_goes s w ring_ask parts h g
 row_goes s w event.Remind parts h g = remind_goes s w h g

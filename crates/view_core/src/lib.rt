@@ -3,7 +3,7 @@
 
 mod laws;
 mod lists;
-mod rows;
+mod rules;
 mod step;
 mod tick;
 mod work;

@@ -1,9 +1,9 @@
 //! A node's views, event by event.
 ghost use Rattle.std.specs.Prelude.{◌≡◌, ◌++◌, [], None, IfOk, OnOk};
-ghost use Rattle.view_core.specs.Steps.{view_row, view_stepped};
+ghost use Rattle.view_core.specs.Steps.{view_rule, view_stepped};
 
 use crate::lists::OwnLists;
-use crate::rows::{answer_row, ask_row, install_row, prepare_row, refuse_row, taken_row};
+use crate::rules::{answer_rule, ask_rule, install_rule, prepare_rule, refuse_rule, taken_rule};
 use crate::tick::gathering_ticks;
 use crate::work::install_again;
 use rsct_packet::{List, Mask, NoMemory, ViewId};
@@ -67,18 +67,18 @@ impl ViewOut {
     }
 }
 
-/// One event. One that no row uses is Ok, and leaves all as it was.
-#[tactic(auto, unfolding(crate::specs::Steps::view_row))]
-fn row<L: OwnLists>(
+/// One event. One that no rule uses is Ok, and leaves all as it was.
+#[tactic(auto, unfolding(crate::specs::Steps::view_rule))]
+fn take_event<L: OwnLists>(
     work: &mut ViewWork,
     alloc: Global,
     event: ViewEvent,
     lists: &L,
 ) -> Result<(), NoMemory>
-    ensures { OnOk result (work.new ≡ view_row work.old event.entry (L.parts_of lists.now)) }
+    ensures { OnOk result (work.new ≡ view_rule work.old event.entry (L.parts_of lists.now)) }
 {
     match event {
-        ViewEvent::Ask { mask } => ask_row(work, alloc, mask, lists),
+        ViewEvent::Ask { mask } => ask_rule(work, alloc, mask, lists),
         ViewEvent::Tick { ring_ask } => gathering_ticks(work, alloc, ring_ask, lists),
         ViewEvent::Remind => install_again(work, alloc),
         ViewEvent::Prepare {
@@ -86,20 +86,20 @@ fn row<L: OwnLists>(
             inc,
             view,
             mask,
-        } => prepare_row(work, alloc, from, inc, view, mask, lists),
+        } => prepare_rule(work, alloc, from, inc, view, mask, lists),
         ViewEvent::Answer {
             from,
             inc,
             view,
             answer,
-        } => answer_row(work, alloc, from, inc, view, &answer),
+        } => answer_rule(work, alloc, from, inc, view, &answer),
         ViewEvent::Refuse { view, number } => {
-            refuse_row(work, view, number);
+            refuse_rule(work, view, number);
             Ok(())
         }
-        ViewEvent::Install { install } => install_row(work, install),
+        ViewEvent::Install { install } => install_rule(work, install),
         ViewEvent::Taken { from, view } => {
-            taken_row(work, from, view);
+            taken_rule(work, from, view);
             Ok(())
         }
     }
@@ -120,7 +120,7 @@ fn after_event<L: OwnLists>(
         sends: List::new(alloc),
         install: None,
     };
-    row(&mut work, alloc, event, lists)?;
+    take_event(&mut work, alloc, event, lists)?;
     Ok(work)
 }
 

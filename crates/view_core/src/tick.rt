@@ -3,7 +3,7 @@ ghost use Rattle.std.specs.Prelude.{◌≡◌, OnOk};
 ghost use Rattle.view_state.specs.Views.{prepare_again, may_ask_anew, was_stuck, tick_asks, note_stuck, gathering_ticks};
 
 use crate::lists::OwnLists;
-use crate::rows::ask_row;
+use crate::rules::ask_rule;
 use crate::work::send_prepare;
 use rsct_packet::{Mask, NoMemory, risen};
 use std::alloc::Global;
@@ -77,7 +77,7 @@ pub(crate) fn gathering_ticks<L: OwnLists>(
     let asks = tick_asks(&work.views, ask);
     note_stuck(work);
     if asks {
-        return ask_row(work, alloc, ask.mask, lists);
+        return ask_rule(work, alloc, ask.mask, lists);
     }
     prepare_again(work, alloc)
 }

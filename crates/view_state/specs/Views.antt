@@ -1,4 +1,4 @@
--- The rows of views: asking, answering, installing.
+-- The rules of views: asking, answering, installing.
 use Rattle.std.specs.Prelude.{ℕ, Bool, true, false, not, ◌==◌, ◌&&◌, ◌||◌, ◌+◌, ◌++◌, List, [], ◌∷◌, map, filter, drop, length, max, Option, Some, None, nat_le, nat_lt, is_none}
 use Rattle.std.specs.List.{list_all}
 use Rattle.rsct_packet.specs.declared.ids.ViewId.{ViewId}
@@ -91,8 +91,8 @@ ask_if w mask parts false = w
 ask_if w mask parts true = ask_others w (next_view w.views) mask parts (nat_le (length parts) max_parts)
 
 -- an order to ask for a view of these nodes, with the node's own lists
-unfoldable pub ask_row : ViewWork → Mask → List Part → ViewWork
-ask_row w mask parts = ask_if w mask parts (may_ask w.views mask)
+unfoldable pub ask_rule : ViewWork → Mask → List Part → ViewWork
+ask_rule w mask parts = ask_if w mask parts (may_ask w.views mask)
 
 -- an answer without a spelling is not sent
 unfoldable pub answered : ViewWork → ViewId → List Part → ViewWork
@@ -107,8 +107,8 @@ prepare w v parts false false true = view_sent w v.coord (packet.Refuse v w.view
 prepare w v parts false false false = w
 
 -- PREPARE, from a node in an incarnation
-unfoldable pub prepare_row : ViewWork → ℕ → ℕ → ViewId → Mask → List Part → ViewWork
-prepare_row w from inc v mask parts =
+unfoldable pub prepare_rule : ViewWork → ℕ → ℕ → ViewId → Mask → List Part → ViewWork
+prepare_rule w from inc v mask parts =
     let asked : Bool = v.coord == from && v.inc == inc && has_node mask w.views.me in
     prepare w v parts (asked && view_lt w.views.promise v) (asked && same_view v w.views.promise && not (same_view v w.views.view)) (view_lt v w.views.promise)
 
@@ -117,8 +117,8 @@ answer_to w v a None = w
 answer_to w v a (Some g) = elim (same_view g.view v && may_answer g a.node) [ true ↦ gather_on w (with_answer g a) | false ↦ w ]
 
 -- ANSWER
-unfoldable pub answer_row : ViewWork → ViewId → Answer → ViewWork
-answer_row w v a = answer_to w v a w.views.gathering
+unfoldable pub answer_rule : ViewWork → ViewId → Answer → ViewWork
+answer_rule w v a = answer_to w v a w.views.gathering
 
 unfoldable pub refused_by : ViewWork → ℕ → ViewWork
 refused_by w n = record w { views = record (w.views) { floor = max w.views.floor n; gathering = None } }
@@ -128,8 +128,8 @@ refuse_to w v n None = w
 refuse_to w v n (Some g) = elim (same_view g.view v) [ true ↦ refused_by w n | false ↦ w ]
 
 -- REFUSE
-unfoldable pub refuse_row : ViewWork → ViewId → ℕ → ViewWork
-refuse_row w v n = refuse_to w v n w.views.gathering
+unfoldable pub refuse_rule : ViewWork → ViewId → ℕ → ViewWork
+refuse_rule w v n = refuse_to w v n w.views.gathering
 
 -- INSTALL of the view, of the promise, or of neither; whether the lists go on to it is the node's to see
 unfoldable pub installed : ViewWork → Install → Bool → Bool → ViewWork
@@ -137,12 +137,12 @@ installed w i true ok = view_sent w i.view.coord (packet.Taken i.view)
 installed w i false true = record w { install = Some i }
 installed w i false false = w
 
-unfoldable pub install_row : ViewWork → Install → ViewWork
-install_row w i = installed w i (same_view w.views.view i.view) (same_view w.views.promise i.view && is_member i.members w.views.me w.views.inc)
+unfoldable pub install_rule : ViewWork → Install → ViewWork
+install_rule w i = installed w i (same_view w.views.view i.view) (same_view w.views.promise i.view && is_member i.members w.views.me w.views.inc)
 
 -- TAKEN, also while frozen
-unfoldable pub taken_row : ViewWork → ℕ → ViewId → ViewWork
-taken_row w from v =
+unfoldable pub taken_rule : ViewWork → ℕ → ViewId → ViewWork
+taken_rule w from v =
     elim (same_view w.views.view v) [ true ↦ record w { views = record (w.views) { taken = with_node w.views.taken from } } | false ↦ w ]
 
 -- ---- a tick
@@ -176,7 +176,7 @@ unfoldable pub note_stuck : ViewWork → ViewWork
 note_stuck w = record w { views = record (w.views) { stuck = drop 1 w.views.stuck ++ is_stuck w.views ∷ [] } }
 
 unfoldable pub asks_or_ages : ViewWork → RingAsk → List Part → Bool → ViewWork
-asks_or_ages w a parts true = ask_row w a.mask parts
+asks_or_ages w a parts true = ask_rule w a.mask parts
 asks_or_ages w a parts false = prepare_again w w.views.gathering
 
 -- without rings, nobody is asked anew
@@ -199,5 +199,5 @@ views_at_work s = record { views = s; sends = []; install = None }
 
 -- opens each word of this file, for a computation
 unfoldable pub views_open : Unit {0}
-unfolding is_frozen is_coordinator others_of views_new own_install views_entered view_sent view_sent_all gathering_set promised begin_install gathered gather_on ask_others next_view may_ask ask_if ask_row answered prepare prepare_row answer_to answer_row refused_by refuse_to refuse_row installed install_row taken_row aged prepare_again is_stuck may_ask_anew was_stuck tick_asks note_stuck asks_or_ages gathering_ticks install_again_of install_again
+unfolding is_frozen is_coordinator others_of views_new own_install views_entered view_sent view_sent_all gathering_set promised begin_install gathered gather_on ask_others next_view may_ask ask_if ask_rule answered prepare prepare_rule answer_to answer_rule refused_by refuse_to refuse_rule installed install_rule taken_rule aged prepare_again is_stuck may_ask_anew was_stuck tick_asks note_stuck asks_or_ages gathering_ticks install_again_of install_again
 views_open = tt

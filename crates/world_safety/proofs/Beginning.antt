@@ -14,7 +14,7 @@ use Rattle.node_state.specs.Step.{started}
 use Rattle.world_model.specs.World.{Node, World, is_node, node_at, traced, started_at, starts_if, node_starts, empty_world, world_of, world_new}
 use Rattle.run_safety.specs.Past.{History, history_of}
 use Rattle.step_refinement.specs.Tied.{Scene}
-use Rattle.step_refinement.specs.Rows.{at_node, nothing_yet, with_records, starts_too, all_started}
+use Rattle.step_refinement.specs.Rules.{at_node, nothing_yet, with_records, starts_too, all_started}
 use Rattle.entry_laws.specs.late_rows.Runs.{TicksAreNoted}
 use Rattle.entry_laws.specs.source_order.Meant.{DeliveriesAreNoted}
 use Rattle.row_laws.specs.failed_rows.Scenes.{Played}

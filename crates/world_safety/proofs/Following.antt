@@ -26,7 +26,7 @@ use Rattle.world_model.specs.World.{Script, Node, World, is_node, node_at, kth_b
 use Rattle.world_laws.proofs.world_runs.Traces.{after_records}
 use Rattle.run_safety.specs.Past.{records_of}
 use Rattle.step_refinement.specs.Tied.{Scene, NodeIsIf, Rests}
-use Rattle.step_refinement.specs.Rows.{over, stopped, start_with, ended, Arises}
+use Rattle.step_refinement.specs.Rules.{over, stopped, start_with, ended, Arises}
 use Rattle.entry_laws.specs.late_rows.Runs.{NotedAs, TicksAreNoted}
 use Rattle.entry_laws.specs.source_order.Meant.{IsDelivery, DeliveryNoted, DeliveriesAreNoted}
 use Rattle.row_laws.specs.failed_rows.Scenes.{Names, Played}

@@ -15,7 +15,7 @@ use Rattle.view_state.specs.Views.{views_new}
 use Rattle.world_model.specs.World.{Script, Node, World, is_node, nodes_with, handled, traced, after_step, starts_with, started_at}
 use Rattle.run_safety.specs.Past.{History}
 use Rattle.step_refinement.specs.Tied.{Scene}
-use Rattle.step_refinement.specs.Rows.{at_node}
+use Rattle.step_refinement.specs.Rules.{at_node}
 use Rattle.step_refinement.proofs.Changed.{each_set}
 use Rattle.world_safety.specs.Mirrors.{core_in, core_at, inc_at, Once, Mirrors}
 use Rattle.world_safety.proofs.Finding.{is_me, not_me, with_here, with_there, once_with, put_here, put_there, once_put, out_here, out_there, once_out, starts_here, starts_there}

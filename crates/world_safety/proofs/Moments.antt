@@ -4,7 +4,7 @@ use Rattle.node_state.specs.declared.config.Config.{Config}
 use Rattle.node_state.specs.Step.{NodeEvent, Ticks, Asks, Given, Calls, Garbage}
 use Rattle.world_model.specs.World.{World}
 use Rattle.step_refinement.specs.Tied.{Scene}
-use Rattle.step_refinement.specs.Rows.{Arises}
+use Rattle.step_refinement.specs.Rules.{Arises}
 use Rattle.run_laws.specs.tails.Tails.{TailsHeld}
 use Rattle.run_laws.proofs.tails.Law.{tails_held}
 use Rattle.send_laws.proofs.Law.{runs_send}

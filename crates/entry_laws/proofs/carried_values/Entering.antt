@@ -1,4 +1,4 @@
--- Entering a view, and what a row of views leaves.
+-- Entering a view, and what a rule of views leaves.
 use Rattle.std.proofs.Common.{◌≡◌, ℕ, List, [], ◌∷◌, ◌++◌, Option, Some, None, Bool, true, false, refl, sym, ap, ◌∙◌, subst, inl, inr, ⊎_elim, append_assoc, append-nil}
 use Rattle.std.specs.Prelude.{◌==◌, ◌&&◌, not, map, filter, fold, find, flat_map, reverse, is_some}
 use Rattle.std.specs.Option.{option_map}
@@ -225,7 +225,7 @@ module _ (h : Course) where
       by None = a
       by (Some xs) = at_entered f s i xs a
 
-  -- ---- a row of views
+  -- ---- a rule of views
 
   pub at_views_taken : (f : Answering) (s : Core) (w : ViewWork) → Stays s.views w → Full s → Full (views_taken f s w)
   unfolding views_taken

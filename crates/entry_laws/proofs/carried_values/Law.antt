@@ -21,7 +21,7 @@ use Rattle.world_model.specs.declared.event.Event.{Event}
 use Rattle.run_safety.specs.Past.{History, records_of, earlier, Within, EachRecord}
 use Rattle.run_safety.specs.Bases.{Bases}
 use Rattle.step_refinement.specs.Tied.{Scene, NodeIsIf, Rests}
-use Rattle.step_refinement.specs.Rows.{ended, start_with, stopped, nothing_yet, with_records, starts_too, Arises}
+use Rattle.step_refinement.specs.Rules.{ended, start_with, stopped, nothing_yet, with_records, starts_too, Arises}
 use Rattle.step_refinement.specs.Runs.{IsNote, noted, Reached, Nothing, AllStart, Starts, Stops, Steps, Notes}
 use Rattle.step_refinement.proofs.Changed.{each_set}
 use Rattle.step_refinement.proofs.Begins.{begin_tied}

@@ -11,7 +11,7 @@ use Rattle.proposal_core.specs.Lists.{len_in}
 use Rattle.view_state.specs.declared.packet.ViewPacket.{ViewPacket}
 use Rattle.view_state.specs.declared.packet.ViewPacket.TheVariants as view
 use Rattle.view_state.specs.declared.views.ViewWork.{ViewWork}
-use Rattle.view_state.specs.Views.{views_at_work, ask_row, prepare_row, answer_row, refuse_row, install_row, taken_row}
+use Rattle.view_state.specs.Views.{views_at_work, ask_rule, prepare_rule, answer_rule, refuse_rule, install_rule, taken_rule}
 use Rattle.node_state.specs.declared.packet.Body.{Body}
 use Rattle.node_state.specs.declared.packet.Body.TheVariants as body
 use Rattle.node_state.specs.declared.packet.Packet.{Packet}
@@ -23,9 +23,9 @@ use Rattle.node_state.specs.Following.{take_lookup, take_name, take_request, tak
 use Rattle.node_state.specs.Applying.{own_parts, views_taken}
 use Rattle.node_state.specs.Status.{status_text}
 use Rattle.node_state.specs.Ticks.{tick_rings, tick_views, tick_owed}
-use Rattle.node_state.specs.Step.{NodeEvent, Ticks, Asks, Given, Calls, Garbage, is_used, used_if, take_order, view_row, take_body, packet_row, stepped, at_work}
+use Rattle.node_state.specs.Step.{NodeEvent, Ticks, Asks, Given, Calls, Garbage, is_used, used_if, take_order, view_rule, take_body, packet_rule, stepped, at_work}
 use Rattle.step_refinement.specs.Tied.{Scene, Tied}
-use Rattle.step_refinement.specs.Rows.{acted, Arises}
+use Rattle.step_refinement.specs.Rules.{acted, Arises}
 use Rattle.entry_laws.proofs.closing_rows.At.{found}
 use Rattle.entry_laws.proofs.closing_rows.Steps.{entry_follows, entry_had_put, request_leads, stepped_is}
 use Rattle.entry_laws.specs.carried_values.Carried.{BodyTold}
@@ -35,7 +35,7 @@ use Rattle.entry_laws.proofs.carried_values.Calling.{at_call}
 use Rattle.entry_laws.proofs.carried_values.Ending.{Every, NoGroup, at_step_ended}
 use Rattle.entry_laws.proofs.closing_rows.Works.{Stays, begun_stays, ask_stays, prepare_stays, answer_stays, refuse_stays, install_stays, taken_stays}
 use Rattle.entry_laws.proofs.carried_values.Entering.{at_views_taken}
-use Rattle.entry_laws.proofs.carried_values.Ticking.{at_ring_row, at_report, at_rings_part, at_views_part, at_owed_part, at_led_part}
+use Rattle.entry_laws.proofs.carried_values.Ticking.{at_ring_rule, at_report, at_rings_part, at_views_part, at_owed_part, at_led_part}
 use Rattle.entry_laws.proofs.carried_values.Following.{at_lookup, at_name, at_request, at_tell, at_entry, at_ack, at_vote, at_gone}
 
 -- the events before the step
@@ -58,17 +58,17 @@ module _ (w : Scene) (n : ℕ) (f : Answering) (s : Core) (were : (p : Packet) �
   taken : (x : ViewWork) → Stays s.views x → Full (views_taken f s x)
   taken x k = at_views_taken (course w) f s x k a
 
-  view_at : (from inc : ℕ) (y : ViewPacket) → Full (view_row f s from inc y)
-  unfolding view_row
-  view_at from inc (view.Prepare v mask) = taken (prepare_row (views_at_work s.views) from inc v mask (own_parts s)) (prepare_stays s.views (views_at_work s.views) from inc v mask (own_parts s) (begun_stays s.views))
-  view_at from inc (view.Answer v old parts) = taken (answer_row (views_at_work s.views) v (record { node = from; inc = inc; view = old; parts = parts })) (answer_stays s.views (views_at_work s.views) v (record { node = from; inc = inc; view = old; parts = parts }) (begun_stays s.views))
-  view_at from inc (view.Refuse v k) = taken (refuse_row (views_at_work s.views) v k) (refuse_stays s.views (views_at_work s.views) v k (begun_stays s.views))
-  view_at from inc (view.Install i) = taken (install_row (views_at_work s.views) i) (install_stays s.views (views_at_work s.views) i (begun_stays s.views))
-  view_at from inc (view.Taken v) = taken (taken_row (views_at_work s.views) from v) (taken_stays s.views (views_at_work s.views) from v (begun_stays s.views))
+  view_at : (from inc : ℕ) (y : ViewPacket) → Full (view_rule f s from inc y)
+  unfolding view_rule
+  view_at from inc (view.Prepare v mask) = taken (prepare_rule (views_at_work s.views) from inc v mask (own_parts s)) (prepare_stays s.views (views_at_work s.views) from inc v mask (own_parts s) (begun_stays s.views))
+  view_at from inc (view.Answer v old parts) = taken (answer_rule (views_at_work s.views) v (record { node = from; inc = inc; view = old; parts = parts })) (answer_stays s.views (views_at_work s.views) v (record { node = from; inc = inc; view = old; parts = parts }) (begun_stays s.views))
+  view_at from inc (view.Refuse v k) = taken (refuse_rule (views_at_work s.views) v k) (refuse_stays s.views (views_at_work s.views) v k (begun_stays s.views))
+  view_at from inc (view.Install i) = taken (install_rule (views_at_work s.views) i) (install_stays s.views (views_at_work s.views) i (begun_stays s.views))
+  view_at from inc (view.Taken v) = taken (taken_rule (views_at_work s.views) from v) (taken_stays s.views (views_at_work s.views) from v (begun_stays s.views))
 
   body_at : (p : Packet) (b : Body) → p.body ≡ b → p.to ≡ n → Has p w.sent → BodyTold (s.records ++ records_of w.before) b → Full (take_body f s p b)
   unfolding take_body
-  body_at p (body.Ring x) is to sent ok = at_ring_row (course w) s p.network p.from p.inc x a
+  body_at p (body.Ring x) is to sent ok = at_ring_rule (course w) s p.network p.from p.inc x a
   body_at p (body.Report rows) is to sent ok = at_report (course w) s rows a
   body_at p (body.View y) is to sent ok = view_at p.from p.inc y
   body_at p (body.Lookup v g) is to sent ok = used (take_lookup s p.from g) (is_used s p v) (λ u. at_lookup (course w) s p.from g a)
@@ -89,12 +89,12 @@ module _ (w : Scene) (n : ℕ) (f : Answering) (s : Core) (were : (p : Packet) �
   unfolding take_order
   order_at mask = by (is_fixed s.config.mode)
     where
-      by : (b : Bool) → Full (elim b as (λ _. Core) [ true ↦ s | false ↦ views_taken f s (ask_row (views_at_work s.views) mask (own_parts s)) ])
+      by : (b : Bool) → Full (elim b as (λ _. Core) [ true ↦ s | false ↦ views_taken f s (ask_rule (views_at_work s.views) mask (own_parts s)) ])
       by true = a
-      by false = taken (ask_row (views_at_work s.views) mask (own_parts s)) (ask_stays s.views (views_at_work s.views) mask (own_parts s) (begun_stays s.views))
+      by false = taken (ask_rule (views_at_work s.views) mask (own_parts s)) (ask_stays s.views (views_at_work s.views) mask (own_parts s) (begun_stays s.views))
 
   acted_at : (e : NodeEvent) → Arises w e → Full (acted f s e)
-  unfolding packet_row
+  unfolding packet_rule
   acted_at Ticks arises =
       let t : Core = tick_views f (tick_rings s) in
       at_led_part (course w) f (tick_owed t) (at_owed_part (course w) t (at_views_part (course w) f (tick_rings s) (at_rings_part (course w) s a)))

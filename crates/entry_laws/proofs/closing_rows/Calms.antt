@@ -49,7 +49,7 @@ use Rattle.node_state.specs.State.{row_of, state_of, held_rows, frozen, leader_o
 use Rattle.node_state.specs.Sending.{packet_on, send_on, sent, send_all, send_if_known, send_request_to, send_request, send_requests, send_kept_to, send_kept, kept_sent_if, kept_sent_again, send_votes_again}
 use Rattle.node_state.specs.HandOn.{Answering, fills, cast_record, cast_records, heard, note_of, notes, noted, ballot_sent, cast_sent_of, casts_sent, hand_on}
 use Rattle.node_state.specs.Following.{told_if, take_tell}
-use Rattle.node_state.specs.Ticks.{ring_put, set_records, ring_taken, ring_row_of, ring_row, take_report, rings_union, report_of, send_report, rings_tick, tick_rings, is_lost, lost_told, tick_owed, entries_sent, list_sent_again, sent_again}
+use Rattle.node_state.specs.Ticks.{ring_put, set_records, ring_taken, ring_rule_of, ring_rule, take_report, rings_union, report_of, send_report, rings_tick, tick_rings, is_lost, lost_told, tick_owed, entries_sent, list_sent_again, sent_again}
 use Rattle.node_state.specs.Calls.{refuse_call, changed, ask_last, proposed, record_ballot, ballot_sent_if, cast_last, give_ballot, send_gone, send_all_gone, goodbye_said, take_call}
 use Rattle.run_safety.specs.Past.{History}
 use Rattle.entry_laws.proofs.closing_rows.At.{Silent, Calm, calm_self, calm_then, calm_fold, At, at_fold, at_calm, at_recorded, at_recorded_all}
@@ -256,11 +256,11 @@ module _ (h : History) (T G : List ℕ → Type 0) where
       let e : Core = fold (λ u (y : RingSend). send_on u y.network y.to (body.Ring y.packet)) d x.sends in
       at_recorded_all h T G (set_records s.views.me x.ring.net x.set) e (set_silent s.views.me x.ring.net x.set) (at_calm h T G s e (calm_then s d e (record { groups = refl; views = refl; config = refl; names = refl; records = refl; sends = λ p i. i }) (calm_fold (λ u (y : RingSend). send_on u y.network y.to (body.Ring y.packet)) (λ u y. calm_on u _ _ _) x.sends d)) a)
 
-  pub at_ring : (s : Core) (network from inc : ℕ) (p : RingPacket) → At h T G s → At h T G (ring_row s network from inc p)
-  unfolding ring_row ring_row_of
+  pub at_ring : (s : Core) (network from inc : ℕ) (p : RingPacket) → At h T G s → At h T G (ring_rule s network from inc p)
+  unfolding ring_rule ring_rule_of
   at_ring s network from inc p a = by (find (λ (r : Ring). r.net == network) s.rings)
     where
-      by : (o : Option Ring) → At h T G (ring_row_of s from inc p o)
+      by : (o : Option Ring) → At h T G (ring_rule_of s from inc p o)
       by None = a
       by (Some r) = at_ring_taken s (ring_step r (ring_event.Packet from inc p)) a
 

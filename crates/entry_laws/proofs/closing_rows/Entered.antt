@@ -13,7 +13,7 @@ use Rattle.node_state.specs.declared.happened.Happened.TheVariants as happened
 use Rattle.node_state.specs.State.{with_sessions}
 use Rattle.node_state.specs.Step.{started, first_view, first_members, own_rings, ring_record}
 use Rattle.run_safety.specs.Past.{History, Within, EachRecord}
-use Rattle.step_refinement.specs.Rows.{with_records}
+use Rattle.step_refinement.specs.Rules.{with_records}
 use Rattle.step_refinement.specs.Runs.{IsNote}
 
 abbrev pub SinceOf : (List Happened → History → Happened → Type 0) → List Happened → History → Happened → Type 0 → Type 0

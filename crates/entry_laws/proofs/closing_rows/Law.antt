@@ -26,7 +26,7 @@ use Rattle.run_safety.proofs.Whole.{Whole}
 use Rattle.run_safety.proofs.Lives.{whole}
 use Rattle.step_refinement.specs.Ghost.{Ghost, Keeps}
 use Rattle.step_refinement.specs.Tied.{Scene, opening_of, NodeIs, NodeIsIf, Rests}
-use Rattle.step_refinement.specs.Rows.{ended, start_with, stopped, nothing_yet, starts_too, Arises}
+use Rattle.step_refinement.specs.Rules.{ended, start_with, stopped, nothing_yet, starts_too, Arises}
 use Rattle.step_refinement.specs.Runs.{IsNote, noted, Reached, Nothing, AllStart, Starts, Stops, Steps, Notes}
 use Rattle.step_refinement.proofs.Changed.{each_set}
 use Rattle.step_refinement.proofs.Begins.{begin_tied}

@@ -14,7 +14,7 @@ use Rattle.proposal_core.specs.Lists.{len_in}
 use Rattle.view_state.specs.declared.packet.ViewPacket.{ViewPacket}
 use Rattle.view_state.specs.declared.packet.ViewPacket.TheVariants as view
 use Rattle.view_state.specs.declared.views.ViewWork.{ViewWork}
-use Rattle.view_state.specs.Views.{views_at_work, ask_row, prepare_row, answer_row, refuse_row, install_row, taken_row}
+use Rattle.view_state.specs.Views.{views_at_work, ask_rule, prepare_rule, answer_rule, refuse_rule, install_rule, taken_rule}
 use Rattle.node_state.specs.declared.config.Mode.{Mode}
 use Rattle.node_state.specs.declared.config.Mode.TheVariants.{Fixed, Asked, Rings}
 use Rattle.node_state.specs.declared.group.GroupRow.{GroupRow}
@@ -29,9 +29,9 @@ use Rattle.node_state.specs.HandOn.{Answering}
 use Rattle.node_state.specs.Following.{take_lookup, take_name, take_request, take_tell, take_entry, take_ack, take_vote, take_gone}
 use Rattle.node_state.specs.Applying.{own_parts, views_taken}
 use Rattle.node_state.specs.Status.{status_text}
-use Rattle.node_state.specs.Ticks.{tick_rings, tick_views, tick_owed, tick_row}
+use Rattle.node_state.specs.Ticks.{tick_rings, tick_views, tick_owed, tick_rule}
 use Rattle.node_state.specs.Ending.{end_step}
-use Rattle.node_state.specs.Step.{NodeEvent, Ticks, Asks, Given, Calls, Garbage, is_used, used_if, take_order, view_row, take_body, packet_row, event_row, stepped, at_work}
+use Rattle.node_state.specs.Step.{NodeEvent, Ticks, Asks, Given, Calls, Garbage, is_used, used_if, take_order, view_rule, take_body, packet_rule, event_rule, stepped, at_work}
 use Rattle.run_safety.specs.Past.{earlier}
 use Rattle.run_safety.specs.Group.{member, Put, kept}
 use Rattle.run_safety.specs.Group as group
@@ -40,7 +40,7 @@ use Rattle.run_safety.proofs.Lives.{whole}
 use Rattle.run_safety.proofs.Parts.{member_parts}
 use Rattle.node_state.proofs.NameOrder.{row_here}
 use Rattle.step_refinement.specs.Tied.{ShowsBody, ShowsEntry, ShowsLeader, ShowsRequest, Scene, opening_of, Tied}
-use Rattle.step_refinement.specs.Rows.{acted, Arises}
+use Rattle.step_refinement.specs.Rules.{acted, Arises}
 use Rattle.step_refinement.proofs.Acks.{used_is}
 use Rattle.step_refinement.proofs.Leads.{leader_inc, leads_known}
 use Rattle.step_refinement.proofs.RowWorks.{len_is}
@@ -133,13 +133,13 @@ module _ (w : Scene) (n : ℕ) (f : Answering) (s : Core) (all : (h : List ℕ) 
   taken : (x : ViewWork) → Stays s.views x → Full (views_taken f s x)
   taken x k = at_views_taken w.before f s x k a
 
-  view_at : (from inc : ℕ) (y : ViewPacket) → Full (view_row f s from inc y)
-  unfolding view_row
-  view_at from inc (view.Prepare v mask) = taken (prepare_row (views_at_work s.views) from inc v mask (own_parts s)) (prepare_stays s.views (views_at_work s.views) from inc v mask (own_parts s) (begun_stays s.views))
-  view_at from inc (view.Answer v old parts) = taken (answer_row (views_at_work s.views) v (record { node = from; inc = inc; view = old; parts = parts })) (answer_stays s.views (views_at_work s.views) v (record { node = from; inc = inc; view = old; parts = parts }) (begun_stays s.views))
-  view_at from inc (view.Refuse v k) = taken (refuse_row (views_at_work s.views) v k) (refuse_stays s.views (views_at_work s.views) v k (begun_stays s.views))
-  view_at from inc (view.Install i) = taken (install_row (views_at_work s.views) i) (install_stays s.views (views_at_work s.views) i (begun_stays s.views))
-  view_at from inc (view.Taken v) = taken (taken_row (views_at_work s.views) from v) (taken_stays s.views (views_at_work s.views) from v (begun_stays s.views))
+  view_at : (from inc : ℕ) (y : ViewPacket) → Full (view_rule f s from inc y)
+  unfolding view_rule
+  view_at from inc (view.Prepare v mask) = taken (prepare_rule (views_at_work s.views) from inc v mask (own_parts s)) (prepare_stays s.views (views_at_work s.views) from inc v mask (own_parts s) (begun_stays s.views))
+  view_at from inc (view.Answer v old parts) = taken (answer_rule (views_at_work s.views) v (record { node = from; inc = inc; view = old; parts = parts })) (answer_stays s.views (views_at_work s.views) v (record { node = from; inc = inc; view = old; parts = parts }) (begun_stays s.views))
+  view_at from inc (view.Refuse v k) = taken (refuse_rule (views_at_work s.views) v k) (refuse_stays s.views (views_at_work s.views) v k (begun_stays s.views))
+  view_at from inc (view.Install i) = taken (install_rule (views_at_work s.views) i) (install_stays s.views (views_at_work s.views) i (begun_stays s.views))
+  view_at from inc (view.Taken v) = taken (taken_rule (views_at_work s.views) from v) (taken_stays s.views (views_at_work s.views) from v (begun_stays s.views))
 
   body_at : (p : Packet) (b : Body) → p.body ≡ b → p.to ≡ n → Has p w.sent → Full (take_body f s p b)
   unfolding take_body
@@ -164,12 +164,12 @@ module _ (w : Scene) (n : ℕ) (f : Answering) (s : Core) (all : (h : List ℕ) 
   unfolding take_order
   order_at mask = by (is_fixed s.config.mode)
     where
-      by : (b : Bool) → Full (elim b as (λ _. Core) [ true ↦ s | false ↦ views_taken f s (ask_row (views_at_work s.views) mask (own_parts s)) ])
+      by : (b : Bool) → Full (elim b as (λ _. Core) [ true ↦ s | false ↦ views_taken f s (ask_rule (views_at_work s.views) mask (own_parts s)) ])
       by true = a
-      by false = taken (ask_row (views_at_work s.views) mask (own_parts s)) (ask_stays s.views (views_at_work s.views) mask (own_parts s) (begun_stays s.views))
+      by false = taken (ask_rule (views_at_work s.views) mask (own_parts s)) (ask_stays s.views (views_at_work s.views) mask (own_parts s) (begun_stays s.views))
 
   acted_at : (e : NodeEvent) → Arises w e → Full (acted f s e)
-  unfolding packet_row
+  unfolding packet_rule
   acted_at Ticks arises =
       let t : Core = tick_views f (tick_rings s) in
       at_led_part w.before f (tick_owed t) (at_calm w.before Every NoGroup t (tick_owed t) (owed_part_calm t) (at_views_part w.before f (tick_rings s) (at_rings_part w.before Every NoGroup s a)))
@@ -183,7 +183,7 @@ module _ (w : Scene) (n : ℕ) (f : Answering) (s : Core) (all : (h : List ℕ) 
       by true e = body_at p p.body refl (eqb-true p.to s.views.me e ∙ (all []).own.0.stands.me) arises
 
 pub stepped_is : (f : Answering) (s : Core) (e : NodeEvent) → stepped f s e ≡ end_step f (acted f (at_work s) e)
-unfolding stepped event_row tick_row
+unfolding stepped event_rule tick_rule
 stepped_is f s Ticks = refl
 stepped_is f s (Asks mask) = refl
 stepped_is f s (Given p) = refl

@@ -1,4 +1,4 @@
--- The rows of views leave a node where it is; it enters a view only as an install is applied.
+-- The rules of views leave a node where it is; it enters a view only as an install is applied.
 use Rattle.std.proofs.Common.{◌≡◌, ℕ, List, length, Option, Some, None, Bool, true, false, refl}
 use Rattle.std.specs.Prelude.{◌==◌, ◌&&◌, not, filter, nat_le}
 use Rattle.rsct_packet.specs.declared.ids.ViewId.{ViewId}
@@ -15,7 +15,7 @@ use Rattle.view_state.specs.declared.packet.ViewPacket.TheVariants as packet
 use Rattle.view_state.specs.declared.views.Views.{Views}
 use Rattle.view_state.specs.declared.views.RingAsk.{RingAsk}
 use Rattle.view_state.specs.declared.views.ViewWork.{ViewWork}
-use Rattle.view_state.specs.Views.{is_frozen, is_coordinator, others_of, view_sent, view_sent_all, gathering_set, promised, begin_install, gathered, gather_on, own_answer, ask_others, next_view, may_ask, ask_if, ask_row, answered, prepare, prepare_row, answer_to, answer_row, refused_by, refuse_to, refuse_row, installed, install_row, taken_row, aged, prepare_again, tick_asks, note_stuck, asks_or_ages, gathering_ticks, install_again_of, install_again, views_at_work}
+use Rattle.view_state.specs.Views.{is_frozen, is_coordinator, others_of, view_sent, view_sent_all, gathering_set, promised, begin_install, gathered, gather_on, own_answer, ask_others, next_view, may_ask, ask_if, ask_rule, answered, prepare, prepare_rule, answer_to, answer_rule, refused_by, refuse_to, refuse_rule, installed, install_rule, taken_rule, aged, prepare_again, tick_asks, note_stuck, asks_or_ages, gathering_ticks, install_again_of, install_again, views_at_work}
 
 -- the same node in the same view
 pub record Stays (v : Views) (w : ViewWork) : Type 0 where
@@ -61,8 +61,8 @@ module _ (v : Views) where
   asks_stay w u mask parts true k =
       gathers_stay (view_sent_all (promised w u) (filter (λ n. not (n == w.views.me)) (nodes_of mask)) (packet.Prepare u mask)) (with_answer (opened u mask) (own_answer w.views parts)) (sent_all_stays (promised w u) (filter (λ n. not (n == w.views.me)) (nodes_of mask)) (packet.Prepare u mask) (promised_stays w u k))
 
-  pub ask_stays : (w : ViewWork) (mask : Mask) (parts : List Part) → Stays v w → Stays v (ask_row w mask parts)
-  unfolding ask_row ask_if
+  pub ask_stays : (w : ViewWork) (mask : Mask) (parts : List Part) → Stays v w → Stays v (ask_rule w mask parts)
+  unfolding ask_rule ask_if
   ask_stays w mask parts k = by (may_ask w.views mask)
     where
       by : (b : Bool) → Stays v (ask_if w mask parts b)
@@ -84,12 +84,12 @@ module _ (v : Views) where
   prepared_stays w u parts false false true k = sent_stays w u.coord (packet.Refuse u w.views.promise.number) k
   prepared_stays w u parts false false false k = k
 
-  pub prepare_stays : (w : ViewWork) (from inc : ℕ) (u : ViewId) (mask : Mask) (parts : List Part) → Stays v w → Stays v (prepare_row w from inc u mask parts)
-  unfolding prepare_row
+  pub prepare_stays : (w : ViewWork) (from inc : ℕ) (u : ViewId) (mask : Mask) (parts : List Part) → Stays v w → Stays v (prepare_rule w from inc u mask parts)
+  unfolding prepare_rule
   prepare_stays w from inc u mask parts k = prepared_stays w u parts _ _ _ k
 
-  pub answer_stays : (w : ViewWork) (u : ViewId) (a : Answer) → Stays v w → Stays v (answer_row w u a)
-  unfolding answer_row answer_to
+  pub answer_stays : (w : ViewWork) (u : ViewId) (a : Answer) → Stays v w → Stays v (answer_rule w u a)
+  unfolding answer_rule answer_to
   answer_stays w u a k = by w.views.gathering
     where
       at : (g : Exchange) (b : Bool) → Stays v (elim b as (λ _. ViewWork) [ true ↦ gather_on w (with_answer g a) | false ↦ w ])
@@ -100,8 +100,8 @@ module _ (v : Views) where
       by None = k
       by (Some g) = at g (same_view g.view u && may_answer g a.node)
 
-  pub refuse_stays : (w : ViewWork) (u : ViewId) (n : ℕ) → Stays v w → Stays v (refuse_row w u n)
-  unfolding refuse_row refuse_to refused_by
+  pub refuse_stays : (w : ViewWork) (u : ViewId) (n : ℕ) → Stays v w → Stays v (refuse_rule w u n)
+  unfolding refuse_rule refuse_to refused_by
   refuse_stays w u n k = by w.views.gathering
     where
       at : (b : Bool) → Stays v (elim b as (λ _. ViewWork) [ true ↦ refused_by w n | false ↦ w ])
@@ -112,8 +112,8 @@ module _ (v : Views) where
       by None = k
       by (Some g) = at (same_view g.view u)
 
-  pub install_stays : (w : ViewWork) (i : Install) → Stays v w → Stays v (install_row w i)
-  unfolding install_row installed
+  pub install_stays : (w : ViewWork) (i : Install) → Stays v w → Stays v (install_rule w i)
+  unfolding install_rule installed
   install_stays w i k = by (same_view w.views.view i.view) (same_view w.views.promise i.view && is_member i.members w.views.me w.views.inc)
     where
       by : (a b : Bool) → Stays v (installed w i a b)
@@ -121,8 +121,8 @@ module _ (v : Views) where
       by false true = record { me = k.me; view = k.view }
       by false false = k
 
-  pub taken_stays : (w : ViewWork) (from : ℕ) (u : ViewId) → Stays v w → Stays v (taken_row w from u)
-  unfolding taken_row
+  pub taken_stays : (w : ViewWork) (from : ℕ) (u : ViewId) → Stays v w → Stays v (taken_rule w from u)
+  unfolding taken_rule
   taken_stays w from u k = by (same_view w.views.view u)
     where
       by : (b : Bool) → Stays v (elim b as (λ _. ViewWork) [ true ↦ record w { views = record (w.views) { taken = with_node w.views.taken from } } | false ↦ w ])

@@ -31,7 +31,7 @@ use Rattle.run_safety.proofs.Lives.{whole}
 use Rattle.node_state.proofs.NameOrder.{text_same}
 use Rattle.step_refinement.specs.Ghost.{Keeps, CarriesIf, part_of, GathersIf, Gathers, Installs}
 use Rattle.step_refinement.specs.Tied.{Scene, opening_of, Tied}
-use Rattle.step_refinement.proofs.ViewRows.{same_of}
+use Rattle.step_refinement.proofs.ViewRules.{same_of}
 use Rattle.step_refinement.proofs.RowWorks.{keeps_of, len_is}
 use Rattle.step_refinement.proofs.Fills.{collected, lacking_is}
 use Rattle.step_refinement.proofs.Replies as replies

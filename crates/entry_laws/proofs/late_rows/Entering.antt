@@ -1,4 +1,4 @@
--- Entering a view, and what a row of views leaves.
+-- Entering a view, and what a rule of views leaves.
 use Rattle.std.proofs.Common.{◌≡◌, ◌≤◌, ◌<◌, ◌⊎◌, ℕ, ◌+◌, List, [], ◌∷◌, ◌++◌, length, Option, Some, None, Bool, true, false, refl, sym, ap, ◌∙◌, subst, inl, inr, ⊎_elim, arith, append_assoc}
 use Rattle.std.specs.Prelude.{◌==◌, ◌&&◌, ◌||◌, not, map, filter, fold, find, flat_map, reverse, is_some, if◌then◌else◌}
 use Rattle.std.specs.List.{list_any}
@@ -375,7 +375,7 @@ module _ (h : Turn) where
             let e : Full d = at_sides v (held_rows t) t.views.view bs b in
             at_groups_led f (owed_sent (taken_sent (entering_noted d bs))) (at_owed_sent (taken_sent (entering_noted d bs)) (at_taken_sent (entering_noted d bs) (at_entering_noted d bs e)))
 
-  -- ---- a row of views
+  -- ---- a rule of views
 
   -- what is claimed of a group may be claimed of a view that is entered in this event
   abbrev pub Fresh : (List ℕ → ℕ → Type 0) → Type 0

@@ -28,7 +28,7 @@ use Rattle.run_safety.specs.Stays.{Stay, stays_after, stays}
 use Rattle.run_safety.specs.Stays as stay
 use Rattle.run_safety.specs.SafeHeard.{enters}
 use Rattle.step_refinement.specs.Tied.{Scene, Rests}
-use Rattle.step_refinement.specs.Rows.{ended, start_with, stopped, nothing_yet, with_records, starts_too, Arises}
+use Rattle.step_refinement.specs.Rules.{ended, start_with, stopped, nothing_yet, with_records, starts_too, Arises}
 use Rattle.step_refinement.specs.Runs.{IsNote, noted, Reached, Nothing, AllStart, Starts, Stops, Steps, Notes}
 use Rattle.step_refinement.proofs.Changed.{each_set}
 use Rattle.step_refinement.proofs.Begins.{begin_tied}

@@ -16,7 +16,7 @@ use Rattle.view_state.specs.Answers.{opened, with_answer, install_of}
 use Rattle.view_state.specs.declared.packet.ViewPacket.{ViewPacket}
 use Rattle.view_state.specs.declared.packet.ViewPacket.TheVariants as view
 use Rattle.view_state.specs.declared.views.ViewWork.{ViewWork}
-use Rattle.view_state.specs.Views.{views_at_work, own_answer, next_view, gathering_ticks, install_again, ask_row, prepare_row, answer_row, refuse_row, install_row, taken_row}
+use Rattle.view_state.specs.Views.{views_at_work, own_answer, next_view, gathering_ticks, install_again, ask_rule, prepare_rule, answer_rule, refuse_rule, install_rule, taken_rule}
 use Rattle.node_state.specs.declared.config.Mode.{Mode}
 use Rattle.node_state.specs.declared.config.Mode.TheVariants.{Fixed, Asked, Rings}
 use Rattle.node_state.specs.declared.group.GroupRow.{GroupRow}
@@ -30,9 +30,9 @@ use Rattle.node_state.specs.HandOn.{Answering}
 use Rattle.node_state.specs.Following.{take_lookup, take_name, take_request, take_tell, take_entry, take_ack, take_vote, take_gone}
 use Rattle.node_state.specs.Applying.{own_parts, views_taken}
 use Rattle.node_state.specs.Status.{status_text}
-use Rattle.node_state.specs.Ticks.{ring_ask, tick_rings, tick_views, tick_owed, tick_row}
+use Rattle.node_state.specs.Ticks.{ring_ask, tick_rings, tick_views, tick_owed, tick_rule}
 use Rattle.node_state.specs.Ending.{end_step}
-use Rattle.node_state.specs.Step.{NodeEvent, Ticks, Asks, Given, Calls, Garbage, is_used, used_if, take_order, view_row, take_body, packet_row, event_row, stepped, at_work}
+use Rattle.node_state.specs.Step.{NodeEvent, Ticks, Asks, Given, Calls, Garbage, is_used, used_if, take_order, view_rule, take_body, packet_rule, event_rule, stepped, at_work}
 use Rattle.world_model.specs.declared.event.Event.{Event}
 use Rattle.run_safety.specs.Past.{records_of}
 use Rattle.run_safety.specs.Group.{member}
@@ -42,7 +42,7 @@ use Rattle.run_safety.proofs.Lives.{whole}
 use Rattle.run_safety.proofs.Parts.{member_parts}
 use Rattle.node_state.proofs.NameOrder.{row_here}
 use Rattle.step_refinement.specs.Tied.{ShowsBody, ShowsEntry, ShowsLeader, ShowsRequest, Scene, opening_of, Tied}
-use Rattle.step_refinement.specs.Rows.{acted, Arises}
+use Rattle.step_refinement.specs.Rules.{acted, Arises}
 use Rattle.step_refinement.proofs.Acks.{used_is}
 use Rattle.step_refinement.proofs.Leads.{leader_inc, leads_known}
 use Rattle.step_refinement.proofs.RowWorks.{len_is}
@@ -57,7 +57,7 @@ use Rattle.entry_laws.proofs.late_rows.Ending.{Every, NoGroup, at_step_ended}
 use Rattle.entry_laws.proofs.late_rows.Brought.{Brings, sent_before, sent_brings, made_brings}
 use Rattle.entry_laws.proofs.late_rows.ViewWorks.{Work, Alone, begun_work, ask_work, prepare_work, answer_work, refuse_work, install_work, taken_work, ticks_work, install_again_work}
 use Rattle.entry_laws.proofs.late_rows.Entering.{Brought, Fresh, at_views_taken}
-use Rattle.entry_laws.proofs.late_rows.Ticking.{Unticked, at_ring_row, at_report, at_rings_part, at_owed_part, at_led_part}
+use Rattle.entry_laws.proofs.late_rows.Ticking.{Unticked, at_ring_rule, at_report, at_rings_part, at_owed_part, at_led_part}
 use Rattle.entry_laws.proofs.late_rows.Following.{at_lookup, at_name, at_request, at_tell, at_entry, at_ack, at_vote, at_gone}
 use Rattle.entry_laws.proofs.late_rows.Calling.{at_call}
 
@@ -159,19 +159,19 @@ module _ (own : Option Event) (w : Scene) (n : ℕ) (f : Answering) (s : Core) (
     begun : Work (Brought w.before s) s.views (views_at_work s.views)
     begun = begun_work (Brought w.before s) s.views
 
-    view_at : (p : Packet) (y : ViewPacket) → p.body ≡ body.View y → Has p w.sent → Full (view_row f s p.from p.inc y)
-    unfolding view_row
-    view_at p (view.Prepare v mask) is sent = taken (prepare_row (views_at_work s.views) p.from p.inc v mask (own_parts s)) (prepare_work (Brought w.before s) s.views (views_at_work s.views) p.from p.inc v mask (own_parts s) begun)
+    view_at : (p : Packet) (y : ViewPacket) → p.body ≡ body.View y → Has p w.sent → Full (view_rule f s p.from p.inc y)
+    unfolding view_rule
+    view_at p (view.Prepare v mask) is sent = taken (prepare_rule (views_at_work s.views) p.from p.inc v mask (own_parts s)) (prepare_work (Brought w.before s) s.views (views_at_work s.views) p.from p.inc v mask (own_parts s) begun)
     view_at p (view.Answer v old parts) is sent =
-        taken (answer_row (views_at_work s.views) v (record { node = p.from; inc = p.inc; view = old; parts = parts })) (answer_work (Brought w.before s) s.views (views_at_work s.views) v (record { node = p.from; inc = p.inc; view = old; parts = parts }) (λ e q r z. gathered_brings s.views.promise (with_answer e (record { node = p.from; inc = p.inc; view = old; parts = parts })) (λ g. counted_tied v old parts g w n s p is sent e q r (all g))) begun)
-    view_at p (view.Refuse v k) is sent = taken (refuse_row (views_at_work s.views) v k) (refuse_work (Brought w.before s) s.views (views_at_work s.views) v k begun)
+        taken (answer_rule (views_at_work s.views) v (record { node = p.from; inc = p.inc; view = old; parts = parts })) (answer_work (Brought w.before s) s.views (views_at_work s.views) v (record { node = p.from; inc = p.inc; view = old; parts = parts }) (λ e q r z. gathered_brings s.views.promise (with_answer e (record { node = p.from; inc = p.inc; view = old; parts = parts })) (λ g. counted_tied v old parts g w n s p is sent e q r (all g))) begun)
+    view_at p (view.Refuse v k) is sent = taken (refuse_rule (views_at_work s.views) v k) (refuse_work (Brought w.before s) s.views (views_at_work s.views) v k begun)
     view_at p (view.Install i) is sent =
-        taken (install_row (views_at_work s.views) i) (install_work (Brought w.before s) s.views (views_at_work s.views) i (brought_of i (λ g. sent_brings g w n s (all g) i (subst (ShowsBody (all g).ghost g p.from p.inc p.to) is ((all g).packets p (append_has_right p s.sends w.sent sent))))) begun)
-    view_at p (view.Taken v) is sent = taken (taken_row (views_at_work s.views) p.from v) (taken_work (Brought w.before s) s.views (views_at_work s.views) p.from v begun)
+        taken (install_rule (views_at_work s.views) i) (install_work (Brought w.before s) s.views (views_at_work s.views) i (brought_of i (λ g. sent_brings g w n s (all g) i (subst (ShowsBody (all g).ghost g p.from p.inc p.to) is ((all g).packets p (append_has_right p s.sends w.sent sent))))) begun)
+    view_at p (view.Taken v) is sent = taken (taken_rule (views_at_work s.views) p.from v) (taken_work (Brought w.before s) s.views (views_at_work s.views) p.from v begun)
 
     body_at : (p : Packet) (b : Body) → p.body ≡ b → p.to ≡ n → Has p w.sent → Full (take_body f s p b)
     unfolding take_body
-    body_at p (body.Ring y) is to sent = at_ring_row x Every s p.network p.from p.inc y a
+    body_at p (body.Ring y) is to sent = at_ring_rule x Every s p.network p.from p.inc y a
     body_at p (body.Report rows) is to sent = at_report x Every s rows a
     body_at p (body.View y) is to sent = view_at p y is sent
     body_at p (body.Lookup v g) is to sent = used (take_lookup s p.from g) (is_used s p v) (λ u. at_lookup x s p.from g a)
@@ -192,12 +192,12 @@ module _ (own : Option Event) (w : Scene) (n : ℕ) (f : Answering) (s : Core) (
     unfolding take_order
     order_at mask = by (is_fixed s.config.mode) refl
       where
-        by : (b : Bool) → is_fixed s.config.mode ≡ b → Full (elim b as (λ _. Core) [ true ↦ s | false ↦ views_taken f s (ask_row (views_at_work s.views) mask (own_parts s)) ])
+        by : (b : Bool) → is_fixed s.config.mode ≡ b → Full (elim b as (λ _. Core) [ true ↦ s | false ↦ views_taken f s (ask_rule (views_at_work s.views) mask (own_parts s)) ])
         by true e = a
-        by false e = taken (ask_row (views_at_work s.views) mask (own_parts s)) (ask_work (Brought w.before s) s.views (views_at_work s.views) mask (own_parts s) (asked_alone e mask) begun)
+        by false e = taken (ask_rule (views_at_work s.views) mask (own_parts s)) (ask_work (Brought w.before s) s.views (views_at_work s.views) mask (own_parts s) (asked_alone e mask) begun)
 
-    given_at : (p : Packet) → Has p w.sent → Full (packet_row f s p)
-    unfolding packet_row
+    given_at : (p : Packet) → Has p w.sent → Full (packet_rule f s p)
+    unfolding packet_rule
     given_at p sent = by (p.to == s.views.me) refl
       where
         by : (b : Bool) → (p.to == s.views.me) ≡ b → Full (elim b as (λ _. Core) [ true ↦ take_body f s p p.body | false ↦ s ])
@@ -205,7 +205,7 @@ module _ (own : Option Event) (w : Scene) (n : ℕ) (f : Answering) (s : Core) (
         by true e = body_at p p.body refl (eqb-true p.to s.views.me e ∙ (all []).own.0.stands.me) sent
 
 stepped_is : (f : Answering) (s : Core) (e : NodeEvent) → stepped f s e ≡ end_step f (acted f (at_work s) e)
-unfolding stepped event_row tick_row
+unfolding stepped event_rule tick_rule
 stepped_is f s Ticks = refl
 stepped_is f s (Asks mask) = refl
 stepped_is f s (Given p) = refl

@@ -38,7 +38,7 @@ use Rattle.node_state.specs.State.{AllAfter, InNameOrder, row_of, led_of, list_o
 use Rattle.node_state.specs.Sending.{sent, send_on, send_if_known, send_requests, send_votes_again}
 use Rattle.node_state.specs.HandOn.{Answering}
 use Rattle.node_state.specs.Leading.{appended, append_if_fits, with_tally, closing_entry, closes}
-use Rattle.node_state.specs.Ticks.{ring_put, set_records, ring_taken, ring_row_of, ring_row, take_report, rings_union, report_of, send_report, rings_tick, tick_rings, is_lost, lost_told, tick_owed, late_appended, announced, ticked_in, tally_ticks, entries_sent, list_sent_again, sent_again, tick_group, tick_led}
+use Rattle.node_state.specs.Ticks.{ring_put, set_records, ring_taken, ring_rule_of, ring_rule, take_report, rings_union, report_of, send_report, rings_tick, tick_rings, is_lost, lost_told, tick_owed, late_appended, announced, ticked_in, tally_ticks, entries_sent, list_sent_again, sent_again, tick_group, tick_led}
 use Rattle.run_safety.specs.Past.{records_of}
 use Rattle.run_safety.specs.Stays.{stays}
 use Rattle.run_safety.specs.Stays as stay
@@ -117,11 +117,11 @@ module _ (h : Turn) where
         let t : Core = fold (λ u (x : RingSend). send_on u x.network x.to (body.Ring x.packet)) (record s { rings = ring_put s.rings w.ring }) w.sends in
         at_recorded_all h T NoGroup ⊥ (set_records s.views.me w.ring.net w.set) t (set_plain s.views.me w.ring.net w.set) (at_fold h T NoGroup ⊥ (λ u (x : RingSend). send_on u x.network x.to (body.Ring x.packet)) w.sends (λ u x i k. at_sent_on h T NoGroup ⊥ u x.network x.to (body.Ring x.packet) k) (record s { rings = ring_put s.rings w.ring }) a)
 
-    pub at_ring_row : (s : Core) (network from inc : ℕ) (x : RingPacket) → Full s → Full (ring_row s network from inc x)
-    unfolding ring_row ring_row_of
-    at_ring_row s network from inc x a = by (find (λ (r : Ring). r.net == network) s.rings)
+    pub at_ring_rule : (s : Core) (network from inc : ℕ) (x : RingPacket) → Full s → Full (ring_rule s network from inc x)
+    unfolding ring_rule ring_rule_of
+    at_ring_rule s network from inc x a = by (find (λ (r : Ring). r.net == network) s.rings)
       where
-        by : (o : Option Ring) → Full (ring_row_of s from inc x o)
+        by : (o : Option Ring) → Full (ring_rule_of s from inc x o)
         by None = a
         by (Some r) = at_ring_taken s (ring_step r (ring_event.Packet from inc x)) a
 

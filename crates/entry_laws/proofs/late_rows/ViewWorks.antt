@@ -1,4 +1,4 @@
--- What a row of views leaves: the node stays where it is, and what is to be applied was sent, or is made of all answers.
+-- What a rule of views leaves: the node stays where it is, and what is to be applied was sent, or is made of all answers.
 use Rattle.std.proofs.Common.{◌≡◌, ℕ, List, Option, Some, None, Bool, true, false, refl, subst}
 use Rattle.std.specs.Prelude.{◌==◌, ◌&&◌, not, max, filter, length, nat_le, nat_lt}
 use Rattle.std.proofs.lemmas.Bool.{and_parts}
@@ -16,7 +16,7 @@ use Rattle.view_state.specs.declared.packet.ViewPacket.TheVariants as packet
 use Rattle.view_state.specs.declared.views.RingAsk.{RingAsk}
 use Rattle.view_state.specs.declared.views.Views.{Views}
 use Rattle.view_state.specs.declared.views.ViewWork.{ViewWork}
-use Rattle.view_state.specs.Views.{is_frozen, is_coordinator, others_of, view_sent, view_sent_all, gathering_set, promised, begin_install, gathered, gather_on, own_answer, ask_others, next_view, may_ask, ask_if, ask_row, answered, prepare, prepare_row, answer_to, answer_row, refused_by, refuse_to, refuse_row, installed, install_row, taken_row, aged, prepare_again, tick_asks, note_stuck, asks_or_ages, gathering_ticks, install_again_of, install_again, views_at_work}
+use Rattle.view_state.specs.Views.{is_frozen, is_coordinator, others_of, view_sent, view_sent_all, gathering_set, promised, begin_install, gathered, gather_on, own_answer, ask_others, next_view, may_ask, ask_if, ask_rule, answered, prepare, prepare_rule, answer_to, answer_rule, refused_by, refuse_to, refuse_rule, installed, install_rule, taken_rule, aged, prepare_again, tick_asks, note_stuck, asks_or_ages, gathering_ticks, install_again_of, install_again, views_at_work}
 
 module _ (P : Install → Type 0) (v : Views) where
   pub record Work (w : ViewWork) : Type 0 where
@@ -60,8 +60,8 @@ module _ (P : Install → Type 0) (v : Views) where
   abbrev pub Alone : Views → Mask → List Part → Type 0
   Alone s mask parts = has_node mask s.me ≡ true → all_answered (with_answer (opened (next_view s) mask) (own_answer s parts)) ≡ true → P (install_of (with_answer (opened (next_view s) mask) (own_answer s parts)))
 
-  pub ask_work : (w : ViewWork) (mask : Mask) (parts : List Part) → Alone w.views mask parts → Work w → Work (ask_row w mask parts)
-  unfolding ask_row ask_if ask_others may_ask
+  pub ask_work : (w : ViewWork) (mask : Mask) (parts : List Part) → Alone w.views mask parts → Work w → Work (ask_rule w mask parts)
+  unfolding ask_rule ask_if ask_others may_ask
   ask_work w mask parts ok k = by (may_ask w.views mask) refl
     where
       asks : has_node mask w.views.me ≡ true → (b : Bool) → Work (ask_others w (next_view w.views) mask parts b)
@@ -88,12 +88,12 @@ module _ (P : Install → Type 0) (v : Views) where
   prepared_work w u parts false false true k = sent_work w u.coord (packet.Refuse u w.views.promise.number) k
   prepared_work w u parts false false false k = k
 
-  pub prepare_work : (w : ViewWork) (from inc : ℕ) (u : ViewId) (mask : Mask) (parts : List Part) → Work w → Work (prepare_row w from inc u mask parts)
-  unfolding prepare_row
+  pub prepare_work : (w : ViewWork) (from inc : ℕ) (u : ViewId) (mask : Mask) (parts : List Part) → Work w → Work (prepare_rule w from inc u mask parts)
+  unfolding prepare_rule
   prepare_work w from inc u mask parts k = prepared_work w u parts _ _ _ k
 
-  pub answer_work : (w : ViewWork) (u : ViewId) (a : Answer) → ((g : Exchange) → w.views.gathering ≡ Some g → (same_view g.view u && may_answer g a.node) ≡ true → all_answered (with_answer g a) ≡ true → P (install_of (with_answer g a))) → Work w → Work (answer_row w u a)
-  unfolding answer_row answer_to
+  pub answer_work : (w : ViewWork) (u : ViewId) (a : Answer) → ((g : Exchange) → w.views.gathering ≡ Some g → (same_view g.view u && may_answer g a.node) ≡ true → all_answered (with_answer g a) ≡ true → P (install_of (with_answer g a))) → Work w → Work (answer_rule w u a)
+  unfolding answer_rule answer_to
   answer_work w u a ok k = by w.views.gathering refl
     where
       at : (g : Exchange) → w.views.gathering ≡ Some g → (b : Bool) → (same_view g.view u && may_answer g a.node) ≡ b → Work (elim b as (λ _. ViewWork) [ true ↦ gather_on w (with_answer g a) | false ↦ w ])
@@ -104,8 +104,8 @@ module _ (P : Install → Type 0) (v : Views) where
       by None q = k
       by (Some g) q = at g q (same_view g.view u && may_answer g a.node) refl
 
-  pub refuse_work : (w : ViewWork) (u : ViewId) (n : ℕ) → Work w → Work (refuse_row w u n)
-  unfolding refuse_row refuse_to refused_by
+  pub refuse_work : (w : ViewWork) (u : ViewId) (n : ℕ) → Work w → Work (refuse_rule w u n)
+  unfolding refuse_rule refuse_to refused_by
   refuse_work w u n k = by w.views.gathering
     where
       at : (b : Bool) → Work (elim b as (λ _. ViewWork) [ true ↦ refused_by w n | false ↦ w ])
@@ -116,8 +116,8 @@ module _ (P : Install → Type 0) (v : Views) where
       by None = k
       by (Some g) = at (same_view g.view u)
 
-  pub install_work : (w : ViewWork) (i : Install) → P i → Work w → Work (install_row w i)
-  unfolding install_row installed
+  pub install_work : (w : ViewWork) (i : Install) → P i → Work w → Work (install_rule w i)
+  unfolding install_rule installed
   install_work w i ok k = by (same_view w.views.view i.view) (same_view w.views.promise i.view && is_member i.members w.views.me w.views.inc)
     where
       by : (a b : Bool) → Work (installed w i a b)
@@ -125,8 +125,8 @@ module _ (P : Install → Type 0) (v : Views) where
       by false true = record { me = k.me; view = k.view; install = λ j e. (let q : i ≡ j = cc in subst P q ok) }
       by false false = k
 
-  pub taken_work : (w : ViewWork) (from : ℕ) (u : ViewId) → Work w → Work (taken_row w from u)
-  unfolding taken_row
+  pub taken_work : (w : ViewWork) (from : ℕ) (u : ViewId) → Work w → Work (taken_rule w from u)
+  unfolding taken_rule
   taken_work w from u k = by (same_view w.views.view u)
     where
       by : (b : Bool) → Work (elim b as (λ _. ViewWork) [ true ↦ record w { views = record (w.views) { taken = with_node w.views.taken from } } | false ↦ w ])

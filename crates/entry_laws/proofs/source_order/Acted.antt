@@ -1,4 +1,4 @@
--- The relation of each group to its life, at the end of a step: the row of the step keeps it.
+-- The relation of each group to its life, at the end of a step: the rule of the step keeps it.
 use Rattle.std.proofs.Common.{◌≡◌, ℕ, List, [], ◌∷◌, Option, Some, None, Bool, true, false, refl, sym, ap, ◌∙◌, subst, inl, inr, ⊎_elim}
 use Rattle.std.specs.Prelude.{◌==◌, not, filter, fold}
 use Rattle.std.proofs.lemmas.Bool.{eqb-true}
@@ -29,14 +29,14 @@ use Rattle.node_state.specs.State.{row_of, leader_in, leads_in, leads, recorded_
 use Rattle.node_state.specs.Sending.{send_on}
 use Rattle.node_state.specs.HandOn.{Answering}
 use Rattle.node_state.specs.Ticks.{set_records, ring_put, ring_taken, rings_union, report_of, send_report, rings_tick, tick_rings, tick_views, tick_owed}
-use Rattle.node_state.specs.Step.{NodeEvent, Ticks, Asks, Given, Calls, Garbage, take_body, packet_row, at_work}
+use Rattle.node_state.specs.Step.{NodeEvent, Ticks, Asks, Given, Calls, Garbage, take_body, packet_rule, at_work}
 use Rattle.run_safety.specs.Sight.{lines_of}
 use Rattle.run_safety.specs.Group.{kept}
 use Rattle.run_safety.specs.Moves.{Quiet}
 use Rattle.step_refinement.specs.Tied.{Scene, Begun, lines_now, Tied}
-use Rattle.step_refinement.specs.Rows.{acted, Arises}
+use Rattle.step_refinement.specs.Rules.{acted, Arises}
 use Rattle.step_refinement.proofs.Works.{Unseen, lines_none}
-use Rattle.step_refinement.proofs.ViewRows.{taken_is_tied, refuse_is_tied, prepare_is_tied}
+use Rattle.step_refinement.proofs.ViewRules.{taken_is_tied, refuse_is_tied, prepare_is_tied}
 use Rattle.step_refinement.proofs.Acks.{ack_is_tied}
 use Rattle.step_refinement.proofs.Entries.{entry_is_tied}
 use Rattle.step_refinement.proofs.Tellings.{tell_is_tied}
@@ -44,8 +44,8 @@ use Rattle.step_refinement.proofs.Named.{lookup_is_tied, name_is_tied}
 use Rattle.step_refinement.proofs.Requests.{request_is_tied}
 use Rattle.step_refinement.proofs.Votes.{vote_is_tied, gone_is_tied}
 use Rattle.step_refinement.proofs.Rings.{rings_part_tied, ring_is_tied, report_is_tied, query_is_tied, reply_is_tied}
-use Rattle.step_refinement.proofs.Installs.{install_row_tied}
-use Rattle.step_refinement.proofs.FoundingRows.{founding_answer_tied, founding_ask_tied, founding_tick_tied}
+use Rattle.step_refinement.proofs.Installs.{install_rule_tied}
+use Rattle.step_refinement.proofs.FoundingRules.{founding_answer_tied, founding_ask_tied, founding_tick_tied}
 use Rattle.step_refinement.proofs.Owed.{owed_part_tied}
 use Rattle.step_refinement.proofs.LedTicks.{led_part_tied}
 use Rattle.step_refinement.proofs.Calls.{call_is_tied}
@@ -114,7 +114,7 @@ module _ (w : Scene) (n : ℕ) (f : Answering) (s : Core) (none : s.records ≡ 
   view_tied p (view.Prepare v mask) is sent g = prepare_is_tied v mask g w n f s p is sent (all g)
   view_tied p (view.Answer v old parts) is sent g = founding_answer_tied v old parts w n f s p is sent none all g
   view_tied p (view.Refuse v k) is sent g = refuse_is_tied v k g w n f s p.from p.inc (all g)
-  view_tied p (view.Install i) is sent g = install_row_tied i g w n f s p is sent none (all g)
+  view_tied p (view.Install i) is sent g = install_rule_tied i g w n f s p is sent none (all g)
   view_tied p (view.Taken v) is sent g = taken_is_tied v g w n f s p.from p.inc (all g)
 
   body_tied : (p : Packet) (b : Body) → p.body ≡ b → p.to ≡ n → Has p w.sent → (g : List ℕ) → Tied g w n (take_body f s p b)
@@ -133,7 +133,7 @@ module _ (w : Scene) (n : ℕ) (f : Answering) (s : Core) (none : s.records ≡ 
   body_tied p (body.Reply question text) is to sent g = reply_is_tied question text g w n f s p (all g)
 
   pub acted_tied : (e : NodeEvent) → Arises w e → (g : List ℕ) → Tied g w n (acted f s e)
-  unfolding packet_row
+  unfolding packet_rule
   acted_tied Ticks arises g =
       let rings : (h : List ℕ) → Tied h w n (tick_rings s) = λ h. rings_part_tied h w n s (all h) in
       let viewed = founding_tick_tied w n f (tick_rings s) rings g (rings_quiet g w s none) in

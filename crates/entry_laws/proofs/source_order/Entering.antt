@@ -1,4 +1,4 @@
--- Entering a view, and what a row of views leaves.
+-- Entering a view, and what a rule of views leaves.
 use Rattle.std.proofs.Common.{◌≡◌, ℕ, List, [], ◌∷◌, ◌++◌, Option, Some, None, Bool, true, false, refl, sym, ap, subst, inl, inr, ⊎_elim, append_assoc, append-nil}
 use Rattle.std.specs.Prelude.{◌==◌, ◌&&◌, not, map, filter, fold, flat_map, reverse, is_some, if◌then◌else◌}
 use Rattle.std.specs.Str.{bytes_eq}
@@ -201,7 +201,7 @@ module _ (h : Turn) (none_sent : h.sent ≡ []) where
       by None = a
       by (Some xs) = at_entered f s i xs
 
-  -- ---- a row of views
+  -- ---- a rule of views
 
   pub at_views_taken : (f : Answering) (s : Core) (w : ViewWork) → Stays s.views w → Full s → Full (views_taken f s w)
   unfolding views_taken

@@ -23,7 +23,7 @@ use Rattle.name_server.specs.Names.{node_of, looked_up, lookup}
 use Rattle.node_state.specs.State.{frozen, coordinates, with_sessions}
 use Rattle.node_state.specs.Sending.{network_to, packet_on, send_on, sent}
 use Rattle.node_state.specs.Following.{take_lookup}
-use Rattle.node_state.specs.Step.{NodeEvent, Given, is_used, used_if, take_body, packet_row, at_work, started, stepped}
+use Rattle.node_state.specs.Step.{NodeEvent, Given, is_used, used_if, take_body, packet_rule, at_work, started, stepped}
 use Rattle.world_model.specs.declared.event.Event.{Event}
 use Rattle.world_model.specs.Run.{Happening}
 use Rattle.proposal_core.specs.Fold.{fits}
@@ -33,7 +33,7 @@ use Rattle.run_safety.specs.Bases.{Bases, state_of_list}
 use Rattle.run_safety.specs.Group.{Put, kept}
 use Rattle.run_safety.proofs.Lives.{whole}
 use Rattle.step_refinement.specs.Tied.{Scene, NodeIsIf, opening_of, Rests}
-use Rattle.step_refinement.specs.Rows.{acted, over, ended, start_with, stopped, nothing_yet, with_records, starts_too, Arises}
+use Rattle.step_refinement.specs.Rules.{acted, over, ended, start_with, stopped, nothing_yet, with_records, starts_too, Arises}
 use Rattle.step_refinement.specs.Runs.{IsNote, noted, Reached, Nothing, AllStart, Starts, Stops, Steps, Notes}
 use Rattle.step_refinement.proofs.Changed.{each_set}
 use Rattle.step_refinement.proofs.RunLaw.{reached_rests}
@@ -282,7 +282,7 @@ names_come c w k noted n f s e v up arises delivered g m is =
 
 -- a coordinator that is given a LOOKUP sends NAME
 pub lookup_is_named : (c : Config) (w : Scene) (k : Reached c w) → DeliveriesAreNoted c w k → (n : ℕ) (f : Answering) (s : Core) (p : Packet) (v : Event) → w.cores n ≡ Some s → Has p w.sent → DeliveryNoted n (Given p) v → (u : ViewId) (g : List ℕ) → p.to ≡ n → p.body ≡ body.Lookup u g → is_used s p u ≡ true → coordinates s ≡ true → (q : Packet) × Has q (stepped f s (Given p)).sends × (q.body ≡ body.Name s.views.view g (unwrap_or (looked_up g p.from s.names) 0))
-unfolding packet_row take_body used_if take_lookup sent send_on packet_on is_used coordinates frozen
+unfolding packet_rule take_body used_if take_lookup sent send_on packet_on is_used coordinates frozen
 lookup_is_named c w k noted n f s p v up arises delivered u g to is used coord =
     (q, (at_stepped w n f s (Given p) v up (λ h. reached_rests c w k h) arises delivered (subst (KeepsIf w.before n) up ((reached_holds c w k noted).nodes n))).sends q there, refl)
   where

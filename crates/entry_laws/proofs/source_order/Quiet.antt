@@ -44,7 +44,7 @@ use Rattle.node_state.specs.State.{frozen, leader_of, recorded, recorded_all, wi
 use Rattle.node_state.specs.Sending.{send_on, send_all, send_request, send_kept_to, send_kept}
 use Rattle.node_state.specs.HandOn.{Answering, fills, cast_record, cast_records, heard, note_of, notes, noted, ballot_sent, cast_sent_of, casts_sent, hand_on}
 use Rattle.node_state.specs.Following.{told_if, take_tell}
-use Rattle.node_state.specs.Ticks.{ring_put, set_records, ring_taken, ring_row_of, ring_row, take_report, rings_union, report_of, send_report, rings_tick, tick_rings}
+use Rattle.node_state.specs.Ticks.{ring_put, set_records, ring_taken, ring_rule_of, ring_rule, take_report, rings_union, report_of, send_report, rings_tick, tick_rings}
 use Rattle.node_state.specs.Calls.{refuse_call, changed, ask_last, proposed, record_ballot, ballot_sent_if, cast_last, give_ballot, send_gone, send_all_gone, goodbye_said, take_call}
 use Rattle.entry_laws.proofs.closing_rows.At.{Silent, Calm, calm_self, calm_then, calm_fold}
 use Rattle.entry_laws.proofs.closing_rows.Calms.{calm_on, calm_all, calm_known, calm_sessions, request_calm}
@@ -164,11 +164,11 @@ module _ (h : Turn) (P : Type 0) where
       let e : Core = fold (λ u (y : RingSend). send_on u y.network y.to (body.Ring y.packet)) d x.sends in
       at_recorded_all h P (set_records s.views.me x.ring.net x.set) e (set_silent s.views.me x.ring.net x.set) (at_calm h P s e (calm_then s d e (record { groups = refl; views = refl; config = refl; names = refl; records = refl; sends = λ p i. i }) (calm_fold (λ u (y : RingSend). send_on u y.network y.to (body.Ring y.packet)) (λ u y. calm_on u _ _ _) x.sends d)) a)
 
-  pub at_ring : (s : Core) (network from inc : ℕ) (p : RingPacket) → At h P s → At h P (ring_row s network from inc p)
-  unfolding ring_row ring_row_of
+  pub at_ring : (s : Core) (network from inc : ℕ) (p : RingPacket) → At h P s → At h P (ring_rule s network from inc p)
+  unfolding ring_rule ring_rule_of
   at_ring s network from inc p a = by (find (λ (r : Ring). r.net == network) s.rings)
     where
-      by : (o : Option Ring) → At h P (ring_row_of s from inc p o)
+      by : (o : Option Ring) → At h P (ring_rule_of s from inc p o)
       by None = a
       by (Some r) = at_ring_taken s (ring_step r (ring_event.Packet from inc p)) a
 

@@ -12,7 +12,7 @@ use Rattle.world_model.specs.declared.event.Event.{Event}
 use Rattle.world_model.specs.declared.event.Event.TheVariants as event
 use Rattle.run_safety.specs.Past.{records_of, History, Within, EachRecord, state_at}
 use Rattle.step_refinement.specs.Tied.{Scene}
-use Rattle.step_refinement.specs.Rows.{over, all_started, Arises}
+use Rattle.step_refinement.specs.Rules.{over, all_started, Arises}
 use Rattle.step_refinement.specs.Runs.{Reached, Nothing, AllStart, Starts, Stops, Steps, Notes}
 use Rattle.entry_laws.specs.source_order.Meant.{DeliveryNoted, DeliveriesAreNoted}
 use Rattle.entry_laws.specs.source_order.Sources.{OfBegun, Rises, reflects, Climbs, RecordRises, RecordCarries, RecordClimbs}

@@ -7,7 +7,7 @@ use Rattle.rsct_packet.specs.Search.{Has}
 use Rattle.view_state.specs.declared.packet.ViewPacket.{ViewPacket}
 use Rattle.view_state.specs.declared.packet.ViewPacket.TheVariants as view
 use Rattle.view_state.specs.declared.views.ViewWork.{ViewWork}
-use Rattle.view_state.specs.Views.{views_at_work, ask_row, prepare_row, answer_row, refuse_row, install_row, taken_row}
+use Rattle.view_state.specs.Views.{views_at_work, ask_rule, prepare_rule, answer_rule, refuse_rule, install_rule, taken_rule}
 use Rattle.node_state.specs.declared.group.GroupRow.{GroupRow}
 use Rattle.node_state.specs.declared.packet.Body.{Body}
 use Rattle.node_state.specs.declared.packet.Body.TheVariants as body
@@ -19,12 +19,12 @@ use Rattle.node_state.specs.HandOn.{Answering}
 use Rattle.node_state.specs.Following.{take_lookup, take_name, take_request, take_tell, take_entry, take_ack, take_vote, take_gone}
 use Rattle.node_state.specs.Applying.{own_parts, views_taken}
 use Rattle.node_state.specs.Status.{status_text}
-use Rattle.node_state.specs.Ticks.{tick_rings, tick_views, tick_owed, tick_row}
+use Rattle.node_state.specs.Ticks.{tick_rings, tick_views, tick_owed, tick_rule}
 use Rattle.node_state.specs.Ending.{end_step}
-use Rattle.node_state.specs.Step.{NodeEvent, Ticks, Asks, Given, Calls, Garbage, is_used, used_if, take_order, view_row, take_body, packet_row, event_row, stepped, at_work}
+use Rattle.node_state.specs.Step.{NodeEvent, Ticks, Asks, Given, Calls, Garbage, is_used, used_if, take_order, view_rule, take_body, packet_rule, event_rule, stepped, at_work}
 use Rattle.world_model.specs.declared.event.Event.{Event}
 use Rattle.step_refinement.specs.Tied.{Scene, Begun, Rests, Tied}
-use Rattle.step_refinement.specs.Rows.{acted, Arises}
+use Rattle.step_refinement.specs.Rules.{acted, Arises}
 use Rattle.step_refinement.proofs.Begins.{begin_tied}
 use Rattle.entry_laws.proofs.closing_rows.Calms.{calm_on, owed_part_calm}
 use Rattle.entry_laws.proofs.closing_rows.Works.{Stays, begun_stays, ask_stays, prepare_stays, answer_stays, refuse_stays, install_stays, taken_stays}
@@ -64,13 +64,13 @@ module _ (w : Scene) (n : ℕ) (f : Answering) (s : Core) (v : Event) (e : NodeE
   taken : (y : ViewWork) → Stays s.views y → Full (views_taken f s y)
   taken y k = at_views_taken (turn_of v w n s e []) refl f s y k a
 
-  view_at : (from inc : ℕ) (y : ViewPacket) → Full (view_row f s from inc y)
-  unfolding view_row
-  view_at from inc (view.Prepare u mask) = taken (prepare_row (views_at_work s.views) from inc u mask (own_parts s)) (prepare_stays s.views (views_at_work s.views) from inc u mask (own_parts s) (begun_stays s.views))
-  view_at from inc (view.Answer u old parts) = taken (answer_row (views_at_work s.views) u (record { node = from; inc = inc; view = old; parts = parts })) (answer_stays s.views (views_at_work s.views) u (record { node = from; inc = inc; view = old; parts = parts }) (begun_stays s.views))
-  view_at from inc (view.Refuse u k) = taken (refuse_row (views_at_work s.views) u k) (refuse_stays s.views (views_at_work s.views) u k (begun_stays s.views))
-  view_at from inc (view.Install i) = taken (install_row (views_at_work s.views) i) (install_stays s.views (views_at_work s.views) i (begun_stays s.views))
-  view_at from inc (view.Taken u) = taken (taken_row (views_at_work s.views) from u) (taken_stays s.views (views_at_work s.views) from u (begun_stays s.views))
+  view_at : (from inc : ℕ) (y : ViewPacket) → Full (view_rule f s from inc y)
+  unfolding view_rule
+  view_at from inc (view.Prepare u mask) = taken (prepare_rule (views_at_work s.views) from inc u mask (own_parts s)) (prepare_stays s.views (views_at_work s.views) from inc u mask (own_parts s) (begun_stays s.views))
+  view_at from inc (view.Answer u old parts) = taken (answer_rule (views_at_work s.views) u (record { node = from; inc = inc; view = old; parts = parts })) (answer_stays s.views (views_at_work s.views) u (record { node = from; inc = inc; view = old; parts = parts }) (begun_stays s.views))
+  view_at from inc (view.Refuse u k) = taken (refuse_rule (views_at_work s.views) u k) (refuse_stays s.views (views_at_work s.views) u k (begun_stays s.views))
+  view_at from inc (view.Install i) = taken (install_rule (views_at_work s.views) i) (install_stays s.views (views_at_work s.views) i (begun_stays s.views))
+  view_at from inc (view.Taken u) = taken (taken_rule (views_at_work s.views) from u) (taken_stays s.views (views_at_work s.views) from u (begun_stays s.views))
 
   -- a packet that is given is noted as a delivery
   delivery : (p : Packet) → e ≡ Given p → IsDelivery n (Some v)
@@ -104,12 +104,12 @@ module _ (w : Scene) (n : ℕ) (f : Answering) (s : Core) (v : Event) (e : NodeE
   unfolding take_order
   order_at mask = by (is_fixed s.config.mode)
     where
-      by : (b : Bool) → Full (elim b as (λ _. Core) [ true ↦ s | false ↦ views_taken f s (ask_row (views_at_work s.views) mask (own_parts s)) ])
+      by : (b : Bool) → Full (elim b as (λ _. Core) [ true ↦ s | false ↦ views_taken f s (ask_rule (views_at_work s.views) mask (own_parts s)) ])
       by true = a
-      by false = taken (ask_row (views_at_work s.views) mask (own_parts s)) (ask_stays s.views (views_at_work s.views) mask (own_parts s) (begun_stays s.views))
+      by false = taken (ask_rule (views_at_work s.views) mask (own_parts s)) (ask_stays s.views (views_at_work s.views) mask (own_parts s) (begun_stays s.views))
 
   acted_at : (y : NodeEvent) → e ≡ y → Arises w y → Full (acted f s y)
-  unfolding packet_row
+  unfolding packet_rule
   acted_at Ticks is arises =
       let t : Core = tick_views f (tick_rings s) in
       at_led_part (turn_of v w n s e []) f (tick_owed t) (at_calm (turn_of v w n s e []) ⊥ t (tick_owed t) (owed_part_calm t) (at_views_part (turn_of v w n s e []) refl f (tick_rings s) (at_rings_part (turn_of v w n s e []) ⊥ s a)))
@@ -123,7 +123,7 @@ module _ (w : Scene) (n : ℕ) (f : Answering) (s : Core) (v : Event) (e : NodeE
       by true mine = body_at p p.body is refl mine arises
 
 stepped_is : (f : Answering) (s : Core) (e : NodeEvent) → stepped f s e ≡ end_step f (acted f (at_work s) e)
-unfolding stepped event_row tick_row
+unfolding stepped event_rule tick_rule
 stepped_is f s Ticks = refl
 stepped_is f s (Asks mask) = refl
 stepped_is f s (Given p) = refl

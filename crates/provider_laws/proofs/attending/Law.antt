@@ -15,7 +15,7 @@ use Rattle.node_state.specs.Step.{NodeEvent, at_work, started, stepped}
 use Rattle.world_model.specs.declared.event.Event.{Event}
 use Rattle.run_safety.specs.Past.{History, Within, records_of, inc_now}
 use Rattle.step_refinement.specs.Tied.{Scene}
-use Rattle.step_refinement.specs.Rows.{ended, nothing_yet, with_records, starts_too, Arises}
+use Rattle.step_refinement.specs.Rules.{ended, nothing_yet, with_records, starts_too, Arises}
 use Rattle.step_refinement.specs.Runs.{Reached, Nothing, AllStart, Starts, Stops, Steps, Notes}
 use Rattle.step_refinement.proofs.RunLaw.{reached_rests}
 use Rattle.step_refinement.proofs.Turns.{has_turned}

@@ -25,7 +25,7 @@ use Rattle.run_safety.specs.Past.{History, EachRecord, Within, records_of}
 use Rattle.run_safety.specs.SafeHeard.{heard_count}
 use Rattle.run_safety.specs.Stays.{Stay, stays, part}
 use Rattle.step_refinement.specs.Tied.{Scene}
-use Rattle.step_refinement.specs.Rows.{at_node, nothing_yet, with_records, starts_too, Arises}
+use Rattle.step_refinement.specs.Rules.{at_node, nothing_yet, with_records, starts_too, Arises}
 use Rattle.step_refinement.specs.Runs.{IsNote, Reached, Nothing, AllStart, Starts, Stops, Steps, Notes}
 use Rattle.step_refinement.proofs.Changed.{each_set}
 use Rattle.row_laws.specs.hearing.Changes.{Aside, Inner}

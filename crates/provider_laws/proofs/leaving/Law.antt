@@ -20,7 +20,7 @@ use Rattle.run_safety.specs.Past.{History, EachRecord, records_of, inc_now}
 use Rattle.run_safety.specs.SafeHeard.{NotLetGo}
 use Rattle.run_safety.specs.Stays.{asks_join, client_of, is_named, ends, was_let_go}
 use Rattle.step_refinement.specs.Tied.{Scene, NodeIsIf, Rests}
-use Rattle.step_refinement.specs.Rows.{at_node, over, nothing_yet, with_records, start_with, starts_too, stopped, all_started}
+use Rattle.step_refinement.specs.Rules.{at_node, over, nothing_yet, with_records, start_with, starts_too, stopped, all_started}
 use Rattle.step_refinement.specs.Runs.{IsNote, noted, Reached}
 use Rattle.step_refinement.specs.Runs as runs
 use Rattle.step_refinement.proofs.Changed.{each_set, set_here, set_there}

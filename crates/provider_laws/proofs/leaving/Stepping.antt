@@ -24,7 +24,7 @@ use Rattle.run_safety.specs.SafeHeard.{NotLetGo}
 use Rattle.run_safety.specs.Stays.{asks_join, joining_client, client_of, is_named, is_refused, ends, was_let_go}
 use Rattle.node_state.proofs.NameOrder.{text_same}
 use Rattle.step_refinement.specs.Tied.{Scene, NodeIsIf, Rests, Tied}
-use Rattle.step_refinement.specs.Rows.{at_node, over, ended}
+use Rattle.step_refinement.specs.Rules.{at_node, over, ended}
 use Rattle.step_refinement.specs.Runs.{Reached}
 use Rattle.step_refinement.proofs.Begins.{begin_tied}
 use Rattle.step_refinement.proofs.Calls.{call_is_tied}
@@ -32,7 +32,7 @@ use Rattle.step_refinement.proofs.Changed.{each_set, set_here}
 use Rattle.step_refinement.proofs.RunLaw.{reached_rests}
 use Rattle.step_refinement.proofs.SessionLaws.{provider_same}
 use Rattle.step_refinement.proofs.Turns.{has_turned}
-use Rattle.row_laws.proofs.hearing.Rows.{call_onward}
+use Rattle.row_laws.proofs.hearing.Rules.{call_onward}
 use Rattle.row_laws.proofs.hearing.Listening.{reverse_has}
 use Rattle.row_laws.specs.failed_rows.Scenes.{Names}
 use Rattle.row_laws.proofs.failed_rows.Joining.{call_now}

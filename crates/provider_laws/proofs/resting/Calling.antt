@@ -23,7 +23,7 @@ use Rattle.node_state.specs.Sending.{send_on, sent, send_if_known}
 use Rattle.node_state.specs.Calls.{refuse_call, changed, ask_last, proposed, record_ballot, ballot_sent_if, cast_last, give_ballot, send_gone, send_all_gone, goodbye_said, take_call}
 use Rattle.provider_laws.proofs.resting.Orderly.{Orderly}
 use Rattle.provider_laws.proofs.resting.Walk.{on_either, on_fold, on_known, on_record, on_sessions}
-use Rattle.provider_laws.proofs.resting.Rows.{on_request_sent, on_kept_sent}
+use Rattle.provider_laws.proofs.resting.Rules.{on_request_sent, on_kept_sent}
 
 on_call_refused : {s : Core} (client : List ℕ) (fault : GsFault) → Orderly s → Orderly (refuse_call s client fault)
 unfolding refuse_call

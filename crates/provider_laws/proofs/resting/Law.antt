@@ -18,7 +18,7 @@ use Rattle.world_model.specs.declared.event.Event.{Event}
 use Rattle.world_model.specs.declared.event.Event.TheVariants as event
 use Rattle.run_safety.specs.Past.{History, EachEvent}
 use Rattle.step_refinement.specs.Tied.{Scene}
-use Rattle.step_refinement.specs.Rows.{over, nothing_yet, with_records, starts_too, all_started}
+use Rattle.step_refinement.specs.Rules.{over, nothing_yet, with_records, starts_too, all_started}
 use Rattle.step_refinement.specs.Runs.{Reached}
 use Rattle.step_refinement.specs.Runs as runs
 use Rattle.step_refinement.proofs.Changed.{each_set}

@@ -1,4 +1,4 @@
--- In the rows of views and of rings, and so in a whole step, few joins and failures wait.
+-- In the rules of views and of rings, and so in a whole step, few joins and failures wait.
 use Rattle.std.proofs.Common.{◌≡◌, ℕ, List, Option, Some, None, Bool, true, false, refl}
 use Rattle.std.specs.Prelude.{not, ◌==◌, ◌&&◌, filter, find, fold, flat_map, is_some}
 use Rattle.std.specs.Str.{bytes_eq}
@@ -29,7 +29,7 @@ use Rattle.view_state.specs.declared.packet.ViewPacket.{ViewPacket}
 use Rattle.view_state.specs.declared.packet.ViewPacket.TheVariants as packet
 use Rattle.view_state.specs.declared.packet.ViewSend.{ViewSend}
 use Rattle.view_state.specs.declared.views.ViewWork.{ViewWork}
-use Rattle.view_state.specs.Views.{views_at_work, ask_row, prepare_row, answer_row, refuse_row, install_row, taken_row, gathering_ticks, install_again}
+use Rattle.view_state.specs.Views.{views_at_work, ask_rule, prepare_rule, answer_rule, refuse_rule, install_rule, taken_rule, gathering_ticks, install_again}
 use Rattle.packet_bodies.specs.declared.body.ReportRow.{ReportRow}
 use Rattle.node_state.specs.declared.group.GroupRow.{GroupRow}
 use Rattle.node_state.specs.declared.happened.Happened.TheVariants as happened
@@ -43,9 +43,9 @@ use Rattle.node_state.specs.Sending.{send_on, sent}
 use Rattle.node_state.specs.HandOn.{Answering}
 use Rattle.node_state.specs.Leading.{put_and_hand, with_waiting}
 use Rattle.node_state.specs.Applying.{Lacking, lacking, own_parts, fill_lists, level_set, view_entered, is_in_base, number_of, dissolved, dissolved_if, group_dissolved, sides_dissolved, entering_note, entering_noted, taken_sent, owed_sent, wait_failed, phase_reopened, lead, lead_groups, entered, entered_if, apply_install, views_taken}
-use Rattle.node_state.specs.Ticks.{row_reported, take_report, ring_put, set_records, ring_taken, ring_row_of, ring_row, rings_union, report_of, send_report, rings_tick, ring_ask, tick_rings, tick_views, tick_row}
+use Rattle.node_state.specs.Ticks.{row_reported, take_report, ring_put, set_records, ring_taken, ring_rule_of, ring_rule, rings_union, report_of, send_report, rings_tick, ring_ask, tick_rings, tick_views, tick_rule}
 use Rattle.node_state.specs.Status.{status_text}
-use Rattle.node_state.specs.Step.{NodeEvent, Ticks, Asks, Given, Calls, Garbage, is_used, used_if, take_order, view_row, take_body, packet_row, event_row, stepped, at_work}
+use Rattle.node_state.specs.Step.{NodeEvent, Ticks, Asks, Given, Calls, Garbage, is_used, used_if, take_order, view_rule, take_body, packet_rule, event_rule, stepped, at_work}
 use Rattle.node_state.specs.Ticks.{tick_owed, tick_led}
 use Rattle.node_state.specs.Ending.{end_step}
 use Rattle.node_state.specs.Calls.{take_call}
@@ -54,7 +54,7 @@ use Rattle.provider_laws.proofs.resting.Orderly.{Orderly, alike, based, fails_fe
 use Rattle.provider_laws.proofs.resting.Walk.{on_either, on_fold, on_sent_on, on_sent, on_sent_all, on_records, on_record, on_sessions, on_put_handed, on_waiting, on_opened, on_closes}
 use Rattle.session_state.specs.HandOn.{take_telling}
 use Rattle.node_state.specs.State.{recorded_all}
-use Rattle.provider_laws.proofs.resting.Rows.{on_requests, on_votes, on_owed_part, on_lookup, on_tell, on_name, on_request, on_entry, on_ack, on_vote, on_gone, on_led_part}
+use Rattle.provider_laws.proofs.resting.Rules.{on_requests, on_votes, on_owed_part, on_lookup, on_tell, on_name, on_request, on_entry, on_ack, on_vote, on_gone, on_led_part}
 
 -- ---- entering a view
 
@@ -120,7 +120,7 @@ on_applied f {s} (Some i) p = by (lacking s i)
     by None = p
     by (Some xs) = on_entered f i xs p
 
--- ---- what a row of views leaves
+-- ---- what a rule of views leaves
 
 on_views_taken : (f : Answering) {s : Core} (w : ViewWork) → Orderly s → Orderly (views_taken f s w)
 unfolding views_taken
@@ -131,17 +131,17 @@ on_views_taken f {s} w p =
 on_order : (f : Answering) {s : Core} (mask : Mask) → Orderly s → Orderly (take_order f s mask)
 unfolding take_order
 on_order f {s} mask p =
-    on_either (is_fixed s.config.mode) p (on_views_taken f (ask_row (views_at_work s.views) mask (own_parts s)) p)
+    on_either (is_fixed s.config.mode) p (on_views_taken f (ask_rule (views_at_work s.views) mask (own_parts s)) p)
 
-on_view : (f : Answering) {s : Core} (from inc : ℕ) (y : ViewPacket) → Orderly s → Orderly (view_row f s from inc y)
-unfolding view_row
+on_view : (f : Answering) {s : Core} (from inc : ℕ) (y : ViewPacket) → Orderly s → Orderly (view_rule f s from inc y)
+unfolding view_rule
 on_view f {s} from inc (packet.Prepare v mask) p =
-    on_views_taken f (prepare_row (views_at_work s.views) from inc v mask (own_parts s)) p
+    on_views_taken f (prepare_rule (views_at_work s.views) from inc v mask (own_parts s)) p
 on_view f {s} from inc (packet.Answer v old parts) p =
-    on_views_taken f (answer_row (views_at_work s.views) v (record { node = from; inc = inc; view = old; parts = parts })) p
-on_view f {s} from inc (packet.Refuse v n) p = on_views_taken f (refuse_row (views_at_work s.views) v n) p
-on_view f {s} from inc (packet.Install i) p = on_views_taken f (install_row (views_at_work s.views) i) p
-on_view f {s} from inc (packet.Taken v) p = on_views_taken f (taken_row (views_at_work s.views) from v) p
+    on_views_taken f (answer_rule (views_at_work s.views) v (record { node = from; inc = inc; view = old; parts = parts })) p
+on_view f {s} from inc (packet.Refuse v n) p = on_views_taken f (refuse_rule (views_at_work s.views) v n) p
+on_view f {s} from inc (packet.Install i) p = on_views_taken f (install_rule (views_at_work s.views) i) p
+on_view f {s} from inc (packet.Taken v) p = on_views_taken f (taken_rule (views_at_work s.views) from v) p
 
 on_views_part : (f : Answering) {s : Core} → Orderly s → Orderly (tick_views f s)
 unfolding tick_views
@@ -170,11 +170,11 @@ on_taken {s} x p =
     let e : Core = fold (λ u (y : RingSend). send_on u y.network y.to (body.Ring y.packet)) d x.sends in
     on_records (set_records s.views.me x.ring.net x.set) (on_fold (λ u (y : RingSend). send_on u y.network y.to (body.Ring y.packet)) (λ u y q. on_sent_on y.network y.to (body.Ring y.packet) q) x.sends (alike s d refl p))
 
-on_ring : {s : Core} (network from inc : ℕ) (x : RingPacket) → Orderly s → Orderly (ring_row s network from inc x)
-unfolding ring_row ring_row_of
+on_ring : {s : Core} (network from inc : ℕ) (x : RingPacket) → Orderly s → Orderly (ring_rule s network from inc x)
+unfolding ring_rule ring_rule_of
 on_ring {s} network from inc x p = by (find (λ (r : Ring). r.net == network) s.rings)
   where
-    by : (o : Option Ring) → Orderly (ring_row_of s from inc x o)
+    by : (o : Option Ring) → Orderly (ring_rule_of s from inc x o)
     by None = p
     by (Some r) = on_taken (ring_step r (ring_event.Packet from inc x)) p
 
@@ -201,15 +201,15 @@ on_body f {s} q (body.Gone v g a) p = on_used (is_used s q v) (on_gone f g a p) 
 on_body f {s} q (body.Query question what) p = on_sent_on q.network q.from (body.Reply question (status_text s what)) p
 on_body f q (body.Reply question text) p = p
 
-on_packet : (f : Answering) {s : Core} (q : Packet) → Orderly s → Orderly (packet_row f s q)
-unfolding packet_row
+on_packet : (f : Answering) {s : Core} (q : Packet) → Orderly s → Orderly (packet_rule f s q)
+unfolding packet_rule
 on_packet f {s} q p = on_either (q.to == s.views.me) (on_body f q q.body p) p
 
 -- a step before its end, from the call on
 abbrev pub before_end : Answering → Core → NodeEvent → Core
 before_end f s Ticks = tick_led f (tick_owed (tick_views f (tick_rings s)))
 before_end f s (Asks mask) = take_order f s mask
-before_end f s (Given q) = packet_row f s q
+before_end f s (Given q) = packet_rule f s q
 before_end f s (Calls c) = take_call s c
 before_end f s Garbage = s
 
@@ -221,7 +221,7 @@ on_before_end f (Calls c) p = on_call c p
 on_before_end f Garbage p = p
 
 pub stepped_is : (f : Answering) (s : Core) (e : NodeEvent) → stepped f s e ≡ end_step f (before_end f (at_work s) e)
-unfolding stepped event_row tick_row
+unfolding stepped event_rule tick_rule
 stepped_is f s Ticks = refl
 stepped_is f s (Asks mask) = refl
 stepped_is f s (Given q) = refl

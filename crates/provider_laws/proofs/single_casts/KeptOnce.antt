@@ -35,7 +35,7 @@ use Rattle.node_state.specs.Applying.{level_set, view_entered, dissolved}
 use Rattle.node_state.specs.Step.{at_work, stepped, started}
 use Rattle.run_safety.specs.Past.{History, Within, earlier}
 use Rattle.step_refinement.specs.Tied.{Scene}
-use Rattle.step_refinement.specs.Rows.{ended, starts_too, nothing_yet}
+use Rattle.step_refinement.specs.Rules.{ended, starts_too, nothing_yet}
 use Rattle.step_refinement.specs.Runs.{Reached, Nothing, AllStart, Starts, Stops, Steps, Notes}
 use Rattle.step_refinement.proofs.Changed.{each_set}
 use Rattle.step_refinement.proofs.RunLaw.{reached_rests}

@@ -22,12 +22,12 @@ use Rattle.world_model.specs.declared.event.Event.{Event}
 use Rattle.world_model.specs.Run.{Happening}
 use Rattle.run_safety.specs.Past.{History, Within, records_of}
 use Rattle.step_refinement.specs.Tied.{Scene}
-use Rattle.step_refinement.specs.Rows.{at_node, ended, starts_too, with_records, nothing_yet}
+use Rattle.step_refinement.specs.Rules.{at_node, ended, starts_too, with_records, nothing_yet}
 use Rattle.step_refinement.specs.Runs.{IsNote, Reached, Nothing, AllStart, Starts, Stops, Steps, Notes}
 use Rattle.step_refinement.proofs.Changed.{set_here, each_set}
 use Rattle.step_refinement.proofs.Begins.{idle_start}
 use Rattle.step_refinement.proofs.RunLaw.{reached_rests}
-use Rattle.row_laws.proofs.hearing.Rows.{OneOwner}
+use Rattle.row_laws.proofs.hearing.Rules.{OneOwner}
 use Rattle.row_laws.proofs.hearing.Viewing.{Once, Makes, once_does, step_comes}
 use Rattle.row_laws.proofs.hearing.Doing.{Hearing, hearing_does}
 use Rattle.row_laws.proofs.hearing.Listening.{Rested, reverse_has, start_each, reached_attends}

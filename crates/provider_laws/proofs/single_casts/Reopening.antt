@@ -25,7 +25,7 @@ use Rattle.world_model.specs.declared.event.Event.{Event}
 use Rattle.world_model.specs.Run.{Happening}
 use Rattle.run_safety.specs.Past.{History, EachRecord, Within, records_of}
 use Rattle.step_refinement.specs.Tied.{Scene}
-use Rattle.step_refinement.specs.Rows.{at_node, ended, starts_too, with_records, nothing_yet}
+use Rattle.step_refinement.specs.Rules.{at_node, ended, starts_too, with_records, nothing_yet}
 use Rattle.step_refinement.specs.Runs.{Reached, Nothing, AllStart, Starts, Stops, Steps, Notes}
 use Rattle.step_refinement.proofs.Changed.{set_here, set_there, each_set}
 use Rattle.step_refinement.proofs.RunLaw.{reached_rests}

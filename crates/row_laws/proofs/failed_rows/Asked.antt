@@ -55,7 +55,7 @@ use Rattle.step_refinement.specs.Tied.{Scene, opening_of, lines_now, Tied}
 use Rattle.step_refinement.proofs.Works.{Unseen, lines_none}
 use Rattle.step_refinement.proofs.Appending.{sent_all_is}
 use Rattle.step_refinement.proofs.Rings.{rings_part_tied}
-use Rattle.step_refinement.proofs.FoundingRows.{founding_tick_tied}
+use Rattle.step_refinement.proofs.FoundingRules.{founding_tick_tied}
 use Rattle.step_refinement.proofs.Owed.{requests_tied}
 use Rattle.step_refinement.proofs.SessionLaws.{provider_self}
 use Rattle.row_laws.proofs.hearing.Handing.{among_is}

@@ -1,4 +1,4 @@
--- Entering a view, and what a row of views leaves.
+-- Entering a view, and what a rule of views leaves.
 use Rattle.std.proofs.Common.{◌≡◌, ◌⊎◌, ℕ, List, [], ◌∷◌, ◌++◌, Option, Some, None, Bool, true, false, refl, sym, ap, ◌∙◌, subst, inl, inr, ⊎_elim, append_assoc, append-nil}
 use Rattle.std.specs.Prelude.{◌==◌, ◌&&◌, not, map, filter, fold, find, flat_map, is_some, reverse, if◌then◌else◌}
 use Rattle.std.specs.Str.{bytes_eq}
@@ -500,7 +500,7 @@ module _ (h : History) (said : ProviderId → Type 0) (origin : Origin) (P L M :
       by None = a
       by (Some xs) = at_entered f s i xs a
 
-  -- ---- a row of views
+  -- ---- a rule of views
 
   pub at_views_taken : (f : Answering) (s : Core) (w : ViewWork) → w.views.me ≡ s.views.me → w.views.view ≡ s.views.view → w.views.inc ≡ s.views.inc → Full s → Full (views_taken f s w)
   unfolding views_taken

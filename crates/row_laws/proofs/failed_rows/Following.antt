@@ -48,7 +48,7 @@ use Rattle.run_safety.specs.Stays.{stays, is_join_of}
 use Rattle.node_state.proofs.NameOrder.{cases_text, row_here, row_there, rows_ordered}
 use Rattle.step_refinement.proofs.SessionLaws.{provider_same}
 use Rattle.step_refinement.proofs.Appending.{handed_rows}
-use Rattle.row_laws.proofs.hearing.Rows.{closes_on}
+use Rattle.row_laws.proofs.hearing.Rules.{closes_on}
 use Rattle.row_laws.proofs.honest_votes.At.{found, leads_row, leads_is}
 use Rattle.row_laws.proofs.honest_votes.Hands.{handed_longer}
 use Rattle.row_laws.proofs.honest_votes.Ending.{Every, NoGroup}

@@ -21,7 +21,7 @@ use Rattle.run_safety.specs.Group.{Noted}
 use Rattle.row_laws.proofs.failed_rows.Fitting.{asked_seen}
 use Rattle.step_refinement.specs.Ghost.{asking}
 use Rattle.step_refinement.specs.Tied.{Scene, NodeIs, NodeIsIf, Rests}
-use Rattle.step_refinement.specs.Rows.{nothing_yet, starts_too, ended, Arises}
+use Rattle.step_refinement.specs.Rules.{nothing_yet, starts_too, ended, Arises}
 use Rattle.step_refinement.specs.Runs.{IsNote}
 use Rattle.step_refinement.proofs.Changed.{set_here}
 use Rattle.step_refinement.proofs.RunLaw.{reached_rests}

@@ -1,4 +1,4 @@
--- A row of views leaves the node in its view.
+-- A rule of views leaves the node in its view.
 use Rattle.std.proofs.Common.{◌≡◌, ℕ, List, length, Option, Some, None, Bool, true, false, refl}
 use Rattle.std.specs.Prelude.{not, ◌==◌, ◌&&◌, filter, nat_le}
 use Rattle.rsct_packet.specs.declared.ids.ViewId.{ViewId}
@@ -13,7 +13,7 @@ use Rattle.view_state.specs.Answers.{max_parts, opened, with_answer, may_answer,
 use Rattle.view_state.specs.declared.packet.ViewPacket.TheVariants as packet
 use Rattle.view_state.specs.declared.views.RingAsk.{RingAsk}
 use Rattle.view_state.specs.declared.views.ViewWork.{ViewWork}
-use Rattle.view_state.specs.Views.{view_sent, view_sent_all, gathering_set, promised, begin_install, gathered, gather_on, own_answer, ask_others, next_view, may_ask, ask_if, ask_row, answered, prepare, prepare_row, answer_to, answer_row, refused_by, refuse_to, refuse_row, installed, install_row, taken_row, prepare_again, note_stuck, tick_asks, asks_or_ages, gathering_ticks, install_again_of, install_again, is_coordinator, is_frozen}
+use Rattle.view_state.specs.Views.{view_sent, view_sent_all, gathering_set, promised, begin_install, gathered, gather_on, own_answer, ask_others, next_view, may_ask, ask_if, ask_rule, answered, prepare, prepare_rule, answer_to, answer_rule, refused_by, refuse_to, refuse_rule, installed, install_rule, taken_rule, prepare_again, note_stuck, tick_asks, asks_or_ages, gathering_ticks, install_again_of, install_again, is_coordinator, is_frozen}
 
 -- the node, its view and its incarnation stay
 abbrev pub InView : ViewWork → ViewWork → Type 0
@@ -31,8 +31,8 @@ stay_gathers w g = by (all_answered g) (is_spelled (install_of g))
     by true b = last (is_spelled (install_of g))
     by false b = (refl, refl, refl)
 
-pub stay_asks : (w : ViewWork) (mask : Mask) (parts : List Part) → InView w (ask_row w mask parts)
-unfolding ask_row ask_if ask_others promised view_sent_all
+pub stay_asks : (w : ViewWork) (mask : Mask) (parts : List Part) → InView w (ask_rule w mask parts)
+unfolding ask_rule ask_if ask_others promised view_sent_all
 stay_asks w mask parts = by (may_ask w.views mask)
   where
     asks : (v : ViewId) (b : Bool) → InView w (ask_others w v mask parts b)
@@ -44,8 +44,8 @@ stay_asks w mask parts = by (may_ask w.views mask)
     by true = asks (next_view w.views) (nat_le (length parts) max_parts)
     by false = (refl, refl, refl)
 
-pub stay_prepares : (w : ViewWork) (from inc : ℕ) (v : ViewId) (mask : Mask) (parts : List Part) → InView w (prepare_row w from inc v mask parts)
-unfolding prepare_row prepare answered promised view_sent
+pub stay_prepares : (w : ViewWork) (from inc : ℕ) (v : ViewId) (mask : Mask) (parts : List Part) → InView w (prepare_rule w from inc v mask parts)
+unfolding prepare_rule prepare answered promised view_sent
 stay_prepares w from inc v mask parts =
     by (v.coord == from && v.inc == inc && has_node mask w.views.me && view_lt w.views.promise v) (v.coord == from && v.inc == inc && has_node mask w.views.me && same_view v w.views.promise && not (same_view v w.views.view)) (view_lt v w.views.promise)
   where
@@ -59,8 +59,8 @@ stay_prepares w from inc v mask parts =
     by false false true = (refl, refl, refl)
     by false false false = (refl, refl, refl)
 
-pub stay_answers : (w : ViewWork) (v : ViewId) (a : Answer) → InView w (answer_row w v a)
-unfolding answer_row answer_to
+pub stay_answers : (w : ViewWork) (v : ViewId) (a : Answer) → InView w (answer_rule w v a)
+unfolding answer_rule answer_to
 stay_answers w v a = by w.views.gathering
   where
     at : (g : Exchange) (b : Bool) → InView w (elim b as (λ _. ViewWork) [ true ↦ gather_on w (with_answer g a) | false ↦ w ])
@@ -71,8 +71,8 @@ stay_answers w v a = by w.views.gathering
     by None = (refl, refl, refl)
     by (Some g) = at g (same_view g.view v && may_answer g a.node)
 
-pub stay_refuses : (w : ViewWork) (v : ViewId) (n : ℕ) → InView w (refuse_row w v n)
-unfolding refuse_row refuse_to refused_by
+pub stay_refuses : (w : ViewWork) (v : ViewId) (n : ℕ) → InView w (refuse_rule w v n)
+unfolding refuse_rule refuse_to refused_by
 stay_refuses w v n = by w.views.gathering
   where
     at : (g : Exchange) (b : Bool) → InView w (elim b as (λ _. ViewWork) [ true ↦ refused_by w n | false ↦ w ])
@@ -83,8 +83,8 @@ stay_refuses w v n = by w.views.gathering
     by None = (refl, refl, refl)
     by (Some g) = at g (same_view g.view v)
 
-pub stay_installs : (w : ViewWork) (i : Install) → InView w (install_row w i)
-unfolding install_row installed view_sent
+pub stay_installs : (w : ViewWork) (i : Install) → InView w (install_rule w i)
+unfolding install_rule installed view_sent
 stay_installs w i = by (same_view w.views.view i.view) (same_view w.views.promise i.view && is_member i.members w.views.me w.views.inc)
   where
     by : (a b : Bool) → InView w (installed w i a b)
@@ -92,8 +92,8 @@ stay_installs w i = by (same_view w.views.view i.view) (same_view w.views.promis
     by false true = (refl, refl, refl)
     by false false = (refl, refl, refl)
 
-pub stay_takes : (w : ViewWork) (from : ℕ) (v : ViewId) → InView w (taken_row w from v)
-unfolding taken_row
+pub stay_takes : (w : ViewWork) (from : ℕ) (v : ViewId) → InView w (taken_rule w from v)
+unfolding taken_rule
 stay_takes w from v = by (same_view w.views.view v)
   where
     by : (b : Bool) → InView w (elim b as (λ _. ViewWork) [ true ↦ record w { views = record (w.views) { taken = with_node w.views.taken from } } | false ↦ w ])

@@ -27,7 +27,7 @@ use Rattle.world_model.specs.declared.event.Event.{Event}
 use Rattle.run_safety.specs.Past.{records_of, inc_now}
 use Rattle.run_safety.specs.Stays.{is_refused, asks_join, client_of, joining_client, goodbye_of, is_named}
 use Rattle.step_refinement.specs.Tied.{Scene, NodeIs, NodeIsIf, Rests}
-use Rattle.step_refinement.specs.Rows.{over, ended, nothing_yet, starts_too, Arises}
+use Rattle.step_refinement.specs.Rules.{over, ended, nothing_yet, starts_too, Arises}
 use Rattle.step_refinement.specs.Runs.{IsNote, noted, Reached}
 use Rattle.step_refinement.specs.Runs as runs
 use Rattle.step_refinement.proofs.Changed.{each_set, set_here}

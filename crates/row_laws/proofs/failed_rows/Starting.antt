@@ -34,7 +34,7 @@ use Rattle.run_safety.specs.Group as group
 use Rattle.step_refinement.specs.Ghost.{asking}
 use Rattle.step_refinement.specs.Tied.{Scene, NodeIsIf, Rests}
 use Rattle.step_refinement.proofs.SessionLaws.{provider_same}
-use Rattle.step_refinement.specs.Rows.{over, start_with, stopped, with_records, starts_too}
+use Rattle.step_refinement.specs.Rules.{over, start_with, stopped, with_records, starts_too}
 use Rattle.step_refinement.specs.Runs.{IsNote, noted}
 use Rattle.step_refinement.proofs.Changed.{each_set}
 use Rattle.row_laws.proofs.hearing.Listening.{reverse_has}

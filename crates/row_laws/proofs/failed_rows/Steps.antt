@@ -18,7 +18,7 @@ use Rattle.session_state.specs.HandOn.{is_join, is_dissolved}
 use Rattle.view_state.specs.declared.packet.ViewPacket.{ViewPacket}
 use Rattle.view_state.specs.declared.packet.ViewPacket.TheVariants as view
 use Rattle.view_state.specs.declared.views.ViewWork.{ViewWork}
-use Rattle.view_state.specs.Views.{views_at_work, ask_row, prepare_row, answer_row, refuse_row, install_row, taken_row}
+use Rattle.view_state.specs.Views.{views_at_work, ask_rule, prepare_rule, answer_rule, refuse_rule, install_rule, taken_rule}
 use Rattle.node_state.specs.declared.call.CallLine.{CallLine}
 use Rattle.node_state.specs.declared.config.Mode.{Mode}
 use Rattle.node_state.specs.declared.config.Mode.TheVariants.{Fixed, Asked, Rings}
@@ -34,9 +34,9 @@ use Rattle.node_state.specs.HandOn.{Answering}
 use Rattle.node_state.specs.Following.{take_lookup, take_name, take_request, take_tell, take_entry, take_ack, take_vote, take_gone}
 use Rattle.node_state.specs.Applying.{own_parts, views_taken}
 use Rattle.node_state.specs.Status.{status_text}
-use Rattle.node_state.specs.Ticks.{tick_rings, tick_views, tick_owed, tick_row}
+use Rattle.node_state.specs.Ticks.{tick_rings, tick_views, tick_owed, tick_rule}
 use Rattle.node_state.specs.Ending.{end_step}
-use Rattle.node_state.specs.Step.{NodeEvent, Ticks, Asks, Given, Calls, Garbage, is_used, used_if, take_order, view_row, take_body, packet_row, event_row, stepped, at_work}
+use Rattle.node_state.specs.Step.{NodeEvent, Ticks, Asks, Given, Calls, Garbage, is_used, used_if, take_order, view_rule, take_body, packet_rule, event_rule, stepped, at_work}
 use Rattle.run_safety.specs.Past.{History, records_of, view_now}
 use Rattle.run_safety.specs.Stays.{is_join_of}
 use Rattle.run_safety.specs.Group.{member}
@@ -50,7 +50,7 @@ use Rattle.run_safety.proofs.Parts.{member_parts}
 use Rattle.node_state.proofs.NameOrder.{row_here}
 use Rattle.step_refinement.specs.Ghost.{asking}
 use Rattle.step_refinement.specs.Tied.{Owed, ShowsBody, ShowsEntry, ShowsLeader, ShowsRequest, Scene, opening_of, lines_now, Tied}
-use Rattle.step_refinement.specs.Rows.{acted, Arises}
+use Rattle.step_refinement.specs.Rules.{acted, Arises}
 use Rattle.step_refinement.proofs.Acks.{used_is}
 use Rattle.step_refinement.proofs.Leads.{leader_inc, leads_known}
 use Rattle.step_refinement.proofs.RowWorks.{len_is}
@@ -65,7 +65,7 @@ use Rattle.row_laws.proofs.failed_rows.Origin.{origin_of, root_of}
 use Rattle.row_laws.proofs.failed_rows.At.{At, at_sent_on, at_rooted}
 use Rattle.row_laws.proofs.failed_rows.Ending.{NoFailure, at_step_ended}
 use Rattle.row_laws.proofs.failed_rows.Entering.{at_views_taken}
-use Rattle.row_laws.proofs.failed_rows.Ticking.{at_ring_row, at_report, at_rings_part, at_views_part, at_owed_part, at_led_part}
+use Rattle.row_laws.proofs.failed_rows.Ticking.{at_ring_rule, at_report, at_rings_part, at_views_part, at_owed_part, at_led_part}
 use Rattle.row_laws.proofs.failed_rows.Following.{at_lookup, at_name, at_request, at_tell, at_entry, at_ack, at_vote, at_gone}
 use Rattle.row_laws.proofs.failed_rows.Living.{IsLive}
 use Rattle.row_laws.proofs.failed_rows.Calling.{Taken, Ended, at_call}
@@ -230,17 +230,17 @@ module _ (w : Scene) (n : ℕ) (f : Answering) (s : Core) (root : Option Core) (
   taken : (x : ViewWork) → InView (views_at_work s.views) x → Full (views_taken f s x)
   taken x k = at_views_taken w.before said (origin_of s root) (Unit {0}) (Unit {0}) M tt f s x k.0 k.1 k.2 a
 
-  view_at : (from inc : ℕ) (y : ViewPacket) → Full (view_row f s from inc y)
-  unfolding view_row
-  view_at from inc (view.Prepare v mask) = taken (prepare_row (views_at_work s.views) from inc v mask (own_parts s)) (stay_prepares (views_at_work s.views) from inc v mask (own_parts s))
-  view_at from inc (view.Answer v old parts) = taken (answer_row (views_at_work s.views) v (record { node = from; inc = inc; view = old; parts = parts })) (stay_answers (views_at_work s.views) v (record { node = from; inc = inc; view = old; parts = parts }))
-  view_at from inc (view.Refuse v k) = taken (refuse_row (views_at_work s.views) v k) (stay_refuses (views_at_work s.views) v k)
-  view_at from inc (view.Install i) = taken (install_row (views_at_work s.views) i) (stay_installs (views_at_work s.views) i)
-  view_at from inc (view.Taken v) = taken (taken_row (views_at_work s.views) from v) (stay_takes (views_at_work s.views) from v)
+  view_at : (from inc : ℕ) (y : ViewPacket) → Full (view_rule f s from inc y)
+  unfolding view_rule
+  view_at from inc (view.Prepare v mask) = taken (prepare_rule (views_at_work s.views) from inc v mask (own_parts s)) (stay_prepares (views_at_work s.views) from inc v mask (own_parts s))
+  view_at from inc (view.Answer v old parts) = taken (answer_rule (views_at_work s.views) v (record { node = from; inc = inc; view = old; parts = parts })) (stay_answers (views_at_work s.views) v (record { node = from; inc = inc; view = old; parts = parts }))
+  view_at from inc (view.Refuse v k) = taken (refuse_rule (views_at_work s.views) v k) (stay_refuses (views_at_work s.views) v k)
+  view_at from inc (view.Install i) = taken (install_rule (views_at_work s.views) i) (stay_installs (views_at_work s.views) i)
+  view_at from inc (view.Taken v) = taken (taken_rule (views_at_work s.views) from v) (stay_takes (views_at_work s.views) from v)
 
   body_at : (p : Packet) (b : Body) → p.body ≡ b → p.to ≡ n → Has p w.sent → BodyGone w.before b → Full (take_body f s p b)
   unfolding take_body
-  body_at p (body.Ring x) is to sent ok = at_ring_row w.before said (origin_of s root) (Unit {0}) (Unit {0}) M tt s p.network p.from p.inc x a
+  body_at p (body.Ring x) is to sent ok = at_ring_rule w.before said (origin_of s root) (Unit {0}) (Unit {0}) M tt s p.network p.from p.inc x a
   body_at p (body.Report rows) is to sent ok = at_report w.before said (origin_of s root) (Unit {0}) (Unit {0}) M tt s rows a
   body_at p (body.View y) is to sent ok = view_at p.from p.inc y
   body_at p (body.Lookup v g) is to sent ok = used (take_lookup s p.from g) (is_used s p v) (λ u. at_lookup w.before said (origin_of s root) (Unit {0}) (Unit {0}) M tt s p.from g a)
@@ -262,12 +262,12 @@ module _ (w : Scene) (n : ℕ) (f : Answering) (s : Core) (root : Option Core) (
   unfolding take_order
   order_at mask = by (is_fixed s.config.mode)
     where
-      by : (b : Bool) → Full (elim b as (λ _. Core) [ true ↦ s | false ↦ views_taken f s (ask_row (views_at_work s.views) mask (own_parts s)) ])
+      by : (b : Bool) → Full (elim b as (λ _. Core) [ true ↦ s | false ↦ views_taken f s (ask_rule (views_at_work s.views) mask (own_parts s)) ])
       by true = a
-      by false = taken (ask_row (views_at_work s.views) mask (own_parts s)) (stay_asks (views_at_work s.views) mask (own_parts s))
+      by false = taken (ask_rule (views_at_work s.views) mask (own_parts s)) (stay_asks (views_at_work s.views) mask (own_parts s))
 
   pub acted_at : (e : NodeEvent) → ((c : CallLine) → e ≡ Calls c → root ≡ None) → Arises w e → Calling s said M e → Full (acted f s e)
-  unfolding packet_row
+  unfolding packet_rule
   acted_at Ticks free arises calls =
       at_led_part w.before said (origin_of s root) (Unit {0}) (Unit {0}) M tt f (tick_owed (tick_views f (tick_rings s))) (at_owed_part w.before said (origin_of s root) (Unit {0}) (Unit {0}) M tt (tick_views f (tick_rings s)) (lost_asked w n f s nothing all) (at_views_part w.before said (origin_of s root) (Unit {0}) (Unit {0}) M tt f (tick_rings s) (at_rings_part w.before said (origin_of s root) (Unit {0}) (Unit {0}) M tt s a)))
   acted_at (Asks mask) free arises calls = order_at mask
@@ -280,7 +280,7 @@ module _ (w : Scene) (n : ℕ) (f : Answering) (s : Core) (root : Option Core) (
       by true e = body_at p p.body refl (eqb-true p.to s.views.me e ∙ (all []).own.0.stands.me) arises (were p arises)
 
 stepped_is : (f : Answering) (s : Core) (e : NodeEvent) → stepped f s e ≡ end_step f (acted f (at_work s) e)
-unfolding stepped event_row tick_row
+unfolding stepped event_rule tick_rule
 stepped_is f s Ticks = refl
 stepped_is f s (Asks mask) = refl
 stepped_is f s (Given p) = refl

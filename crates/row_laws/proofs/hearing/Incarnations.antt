@@ -14,7 +14,7 @@ use Rattle.node_state.specs.State.{with_sessions}
 use Rattle.node_state.specs.Step.{at_work, started, stepped, first_view, first_members, own_rings, ring_record}
 use Rattle.run_safety.specs.Past.{History, records_of, inc_now}
 use Rattle.step_refinement.specs.Tied.{Scene}
-use Rattle.step_refinement.specs.Rows.{at_node, nothing_yet, with_records, starts_too}
+use Rattle.step_refinement.specs.Rules.{at_node, nothing_yet, with_records, starts_too}
 use Rattle.step_refinement.specs.Runs.{IsNote, Reached, Nothing, AllStart, Starts, Stops, Steps, Notes}
 use Rattle.row_laws.proofs.hearing.Listening.{reverse_has, steps_change}
 use Rattle.row_laws.proofs.hearing.Added.{does_incs}

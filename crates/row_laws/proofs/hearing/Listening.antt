@@ -26,14 +26,14 @@ use Rattle.world_model.specs.declared.event.Event.{Event}
 use Rattle.world_model.specs.Run.{Happening}
 use Rattle.run_safety.specs.Past.{History, Within, records_of}
 use Rattle.step_refinement.specs.Tied.{Scene}
-use Rattle.step_refinement.specs.Rows.{at_node, starts_too, with_records, nothing_yet}
+use Rattle.step_refinement.specs.Rules.{at_node, starts_too, with_records, nothing_yet}
 use Rattle.step_refinement.specs.Runs.{IsNote, Reached, Nothing, AllStart, Starts, Stops, Steps, Notes}
 use Rattle.step_refinement.proofs.Changed.{set_here, set_there, each_set}
 use Rattle.step_refinement.proofs.Begins.{idle_start}
 use Rattle.step_refinement.proofs.RunLaw.{reached_rests}
 use Rattle.row_laws.specs.hearing.Hearing.{last_heard, next_place, TakersHearAll, AtPut, HeardInARow, ProvidersHearInARow}
 use Rattle.row_laws.specs.hearing.Changes.{Aside, StepsAreChanges}
-use Rattle.row_laws.proofs.hearing.Rows.{OneOwner}
+use Rattle.row_laws.proofs.hearing.Rules.{OneOwner}
 use Rattle.row_laws.proofs.hearing.Viewing.{Fit, Makes, once_does, step_comes}
 use Rattle.row_laws.proofs.hearing.Attending.{Before, Attending, aside_law, aside_last}
 use Rattle.row_laws.proofs.hearing.Doing.{Hearing, hearing_does}

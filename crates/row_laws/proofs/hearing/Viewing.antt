@@ -1,4 +1,4 @@
--- What the rows of views do, change by change; and a whole step.
+-- What the rules of views do, change by change; and a whole step.
 use Rattle.std.proofs.Common.{◌≡◌, ℕ, List, [], ◌∷◌, Option, Some, None, Bool, true, false, refl, sym, ap, ◌∙◌, subst, inl, inr, ⊎_elim}
 use Rattle.std.specs.Prelude.{not, ◌==◌, ◌&&◌, filter, fold, flat_map, is_some}
 use Rattle.std.specs.Str.{bytes_eq}
@@ -27,7 +27,7 @@ use Rattle.view_state.specs.declared.packet.ViewPacket.TheVariants as packet
 use Rattle.view_state.specs.declared.packet.ViewSend.{ViewSend}
 use Rattle.view_core.specs.declared.step.ViewEvent.TheVariants as event
 use Rattle.view_state.specs.declared.views.ViewWork.{ViewWork}
-use Rattle.view_state.specs.Views.{views_entered, is_coordinator, is_frozen, install_again_of, view_sent_all, views_at_work, ask_row, prepare_row, answer_row, refuse_row, install_row, taken_row, gathering_ticks, install_again}
+use Rattle.view_state.specs.Views.{views_entered, is_coordinator, is_frozen, install_again_of, view_sent_all, views_at_work, ask_rule, prepare_rule, answer_rule, refuse_rule, install_rule, taken_rule, gathering_ticks, install_again}
 use Rattle.view_core.specs.Steps.{view_stepped}
 use Rattle.view_core.specs.Steps as steps
 use Rattle.view_core.specs.Laws.{AreViews, IsNext, AppliesNext, Goes}
@@ -45,17 +45,17 @@ use Rattle.node_state.specs.Sending.{sent, send_requests, send_votes_again}
 use Rattle.node_state.specs.HandOn.{Answering, note_of, subscriber_name}
 use Rattle.node_state.specs.Leading.{put_and_hand, with_waiting, tally_opened, closes}
 use Rattle.node_state.specs.Applying.{Lacking, lacking, own_parts, fill_lists, view_entered, is_in_base, number_of, dissolved, dissolved_if, group_dissolved, sides_dissolved, base_note, entering_note, entering_noted, taken_sent, owed_sent, wait_failed, phase_reopened, lead, lead_groups, entered, entered_if, apply_install, views_taken}
-use Rattle.node_state.specs.Ticks.{ring_ask, tick_views, tick_rings, tick_owed, tick_led, tick_row}
+use Rattle.node_state.specs.Ticks.{ring_ask, tick_views, tick_rings, tick_owed, tick_led, tick_rule}
 use Rattle.node_state.specs.Ending.{end_step}
 use Rattle.node_state.specs.Status.{status_text}
 use Rattle.node_state.specs.Calls.{take_call}
-use Rattle.node_state.specs.Step.{NodeEvent, Ticks, Asks, Given, Calls, Garbage, is_used, used_if, take_order, view_row, take_body, packet_row, event_row, stepped, at_work}
+use Rattle.node_state.specs.Step.{NodeEvent, Ticks, Asks, Given, Calls, Garbage, is_used, used_if, take_order, view_rule, take_body, packet_rule, event_rule, stepped, at_work}
 use Rattle.run_safety.specs.ViewOrder.{is_before, Lt}
 use Rattle.step_refinement.proofs.BaseOrder.{bases_ordered}
 use Rattle.row_laws.specs.hearing.Changes.{Same, Does, Stays, Then, Enters, Inner, entering, Unentered}
 use Rattle.row_laws.proofs.hearing.Changes.{Sends, sends_nothing, sends_fold, sends_on, sends_one, Keeps, Onward, onward_same, onward_then, onward_sends, onward_records, put_handed_onward}
 use Rattle.row_laws.proofs.hearing.Leading.{waits_onward, opened_onward, end_onward}
-use Rattle.row_laws.proofs.hearing.Rows.{OneOwner, onward_fold, owed_sends, owed_part_onward, lookup_onward, tell_onward, name_onward, request_onward, entry_onward, ack_onward, closes_on, vote_onward, gone_onward, ring_onward, report_onward, rings_onward, led_part_onward, call_onward}
+use Rattle.row_laws.proofs.hearing.Rules.{OneOwner, onward_fold, owed_sends, owed_part_onward, lookup_onward, tell_onward, name_onward, request_onward, entry_onward, ack_onward, closes_on, vote_onward, gone_onward, ring_onward, report_onward, rings_onward, led_part_onward, call_onward}
 use Rattle.row_laws.proofs.hearing.Whose.{whose_asks, whose_prepares, whose_answers, whose_refuses, whose_installs, whose_takes, whose_ticks, whose_reminds}
 
 -- rows stand in the order of their names, and the promise is no less than the view
@@ -235,7 +235,7 @@ entered_comes f c i xs none next h =
     lt : IsNext t.views i.view → Lt t.views.view i.view
     lt here = here.above
 
--- ---- what a row of views leaves
+-- ---- what a rule of views leaves
 
 taken_comes : (f : Answering) (c : Core) (w : ViewWork) → NoneEntered c → (AreViews c.views → Goes c.views w) → w.views.me ≡ c.views.me → w.views.inc ≡ c.views.inc → Comes c (views_taken f c w)
 unfolding views_taken len_of state_of list_of row_of entered_if apply_install
@@ -283,43 +283,43 @@ taken_remains f c w goes me inc none h =
     sends : Sends d u
     sends = sends_fold (λ t (x : ViewSend). sent t x.to (body.View x.packet)) (λ t x. sends_one t _ _) w.sends d
 
--- the rows of views: their promise stands, and what is to be applied comes next
+-- the rules of views: their promise stands, and what is to be applied comes next
 module _ (f : Answering) (c : Core) (none : NoneEntered c) where
-  ask_comes : (mask : Mask) → Comes c (views_taken f c (ask_row (views_at_work c.views) mask (own_parts c)))
-  unfolding view_stepped steps.view_row
+  ask_comes : (mask : Mask) → Comes c (views_taken f c (ask_rule (views_at_work c.views) mask (own_parts c)))
+  unfolding view_stepped steps.view_rule
   ask_comes mask =
       let k = whose_asks (views_at_work c.views) mask (own_parts c) in
-      taken_comes f c (ask_row (views_at_work c.views) mask (own_parts c)) none (λ a. promises_stand c.views (event.Ask mask) (own_parts c) a) k.0 k.1
+      taken_comes f c (ask_rule (views_at_work c.views) mask (own_parts c)) none (λ a. promises_stand c.views (event.Ask mask) (own_parts c) a) k.0 k.1
 
   pub order_comes : (mask : Mask) → Comes c (take_order f c mask)
   unfolding take_order
   order_comes mask = by (is_fixed c.config.mode)
     where
-      by : (b : Bool) → Comes c (elim b as (λ _. Core) [ true ↦ c | false ↦ views_taken f c (ask_row (views_at_work c.views) mask (own_parts c)) ])
+      by : (b : Bool) → Comes c (elim b as (λ _. Core) [ true ↦ c | false ↦ views_taken f c (ask_rule (views_at_work c.views) mask (own_parts c)) ])
       by true = comes_same c
       by false = ask_comes mask
 
-  pub view_comes : (from inc : ℕ) (y : ViewPacket) → Comes c (view_row f c from inc y)
-  unfolding view_row view_stepped steps.view_row
+  pub view_comes : (from inc : ℕ) (y : ViewPacket) → Comes c (view_rule f c from inc y)
+  unfolding view_rule view_stepped steps.view_rule
   view_comes from inc (packet.Prepare v mask) =
       let k = whose_prepares (views_at_work c.views) from inc v mask (own_parts c) in
-      taken_comes f c (prepare_row (views_at_work c.views) from inc v mask (own_parts c)) none (λ a. promises_stand c.views (event.Prepare from inc v mask) (own_parts c) a) k.0 k.1
+      taken_comes f c (prepare_rule (views_at_work c.views) from inc v mask (own_parts c)) none (λ a. promises_stand c.views (event.Prepare from inc v mask) (own_parts c) a) k.0 k.1
   view_comes from inc (packet.Answer v old parts) =
       let x : Answer = record { node = from; inc = inc; view = old; parts = parts } in
       let k = whose_answers (views_at_work c.views) v x in
-      taken_comes f c (answer_row (views_at_work c.views) v x) none (λ a. promises_stand c.views (event.Answer from inc v (record { view = old; parts = parts })) (own_parts c) a) k.0 k.1
+      taken_comes f c (answer_rule (views_at_work c.views) v x) none (λ a. promises_stand c.views (event.Answer from inc v (record { view = old; parts = parts })) (own_parts c) a) k.0 k.1
   view_comes from inc (packet.Refuse v n) =
       let k = whose_refuses (views_at_work c.views) v n in
-      taken_comes f c (refuse_row (views_at_work c.views) v n) none (λ a. promises_stand c.views (event.Refuse v n) (own_parts c) a) k.0 k.1
+      taken_comes f c (refuse_rule (views_at_work c.views) v n) none (λ a. promises_stand c.views (event.Refuse v n) (own_parts c) a) k.0 k.1
   view_comes from inc (packet.Install i) =
       let k = whose_installs (views_at_work c.views) i in
-      taken_comes f c (install_row (views_at_work c.views) i) none (λ a. promises_stand c.views (event.Install i) (own_parts c) a) k.0 k.1
+      taken_comes f c (install_rule (views_at_work c.views) i) none (λ a. promises_stand c.views (event.Install i) (own_parts c) a) k.0 k.1
   view_comes from inc (packet.Taken v) =
       let k = whose_takes (views_at_work c.views) from v in
-      taken_comes f c (taken_row (views_at_work c.views) from v) none (λ a. promises_stand c.views (event.Taken from v) (own_parts c) a) k.0 k.1
+      taken_comes f c (taken_rule (views_at_work c.views) from v) none (λ a. promises_stand c.views (event.Taken from v) (own_parts c) a) k.0 k.1
 
   tick_comes : Comes c (views_taken f c (gathering_ticks (views_at_work c.views) (ring_ask c) (own_parts c)))
-  unfolding view_stepped steps.view_row
+  unfolding view_stepped steps.view_rule
   tick_comes =
       let k = whose_ticks (views_at_work c.views) (ring_ask c) (own_parts c) in
       taken_comes f c (gathering_ticks (views_at_work c.views) (ring_ask c) (own_parts c)) none (λ a. promises_stand c.views (event.Tick (ring_ask c)) (own_parts c) a) k.0 k.1
@@ -341,7 +341,7 @@ module _ (f : Answering) (c : Core) where
       by false = refl
 
   remind_remains : Fit c → Remains c (views_taken f c (install_again (views_at_work c.views)))
-  unfolding view_stepped steps.view_row
+  unfolding view_stepped steps.view_rule
   remind_remains =
       let k = whose_reminds (views_at_work c.views) in
       taken_remains f c (install_again (views_at_work c.views)) (λ a. promises_stand c.views event.Remind (own_parts c) a) k.0 k.1 reminds_only
@@ -376,8 +376,8 @@ module _ (f : Answering) (c : Core) (none : NoneEntered c) where
   body_comes p (body.Query question what) = comes_keeps c _ (onward_sends c _ (sends_on c p.network p.from (body.Reply question (status_text c what))))
   body_comes p (body.Reply question text) = comes_same c
 
-  packet_comes : (p : Packet) → Comes c (packet_row f c p)
-  unfolding packet_row
+  packet_comes : (p : Packet) → Comes c (packet_rule f c p)
+  unfolding packet_rule
   packet_comes p = by (p.to == c.views.me)
     where
       by : (b : Bool) → Comes c (elim b as (λ _. Core) [ true ↦ take_body f c p p.body | false ↦ c ])
@@ -387,8 +387,8 @@ module _ (f : Answering) (c : Core) (none : NoneEntered c) where
   ended_comes : (d : Core) → Comes c d → Comes c (end_step f d)
   ended_comes d k = comes_after c d (end_step f d) k (end_onward f d)
 
-  event_comes : (e : NodeEvent) → OneOwner c.sessions → c.records ≡ [] → InNameOrder c.groups → Comes c (event_row f c e)
-  unfolding event_row tick_row
+  event_comes : (e : NodeEvent) → OneOwner c.sessions → c.records ≡ [] → InNameOrder c.groups → Comes c (event_rule f c e)
+  unfolding event_rule tick_rule
   event_comes Ticks own empty order =
       let a : Core = tick_rings c in
       let b : Core = tick_views f a in
@@ -396,7 +396,7 @@ module _ (f : Answering) (c : Core) (none : NoneEntered c) where
       let e : Core = tick_led f d in
       ended_comes e (comes_before c a e (rings_onward c) (comes_after a b e (views_part_comes f a (λ r k. ⊎_elim (λ (i : Has r c.records). none r i) (λ (u : Unentered r). u) ((rings_onward c order).calm r k))) (onward_then b d e (owed_part_onward b) (led_part_onward f d))))
   event_comes (Asks mask) own empty order = ended_comes (take_order f c mask) (order_comes f c none mask)
-  event_comes (Given p) own empty order = ended_comes (packet_row f c p) (packet_comes p)
+  event_comes (Given p) own empty order = ended_comes (packet_rule f c p) (packet_comes p)
   event_comes (Calls x) own empty order = ended_comes (take_call c x) (comes_keeps c (take_call c x) (call_onward c x own empty))
   event_comes Garbage own empty order = ended_comes c (comes_same c)
 

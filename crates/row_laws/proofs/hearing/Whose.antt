@@ -1,4 +1,4 @@
--- A row of views leaves whose views they are.
+-- A rule of views leaves whose views they are.
 use Rattle.std.proofs.Common.{◌≡◌, ℕ, List, length, Option, Some, None, Bool, true, false, refl}
 use Rattle.std.specs.Prelude.{not, ◌==◌, ◌&&◌, filter, nat_le}
 use Rattle.rsct_packet.specs.declared.ids.ViewId.{ViewId}
@@ -13,7 +13,7 @@ use Rattle.view_state.specs.Answers.{max_parts, opened, with_answer, may_answer,
 use Rattle.view_state.specs.declared.packet.ViewPacket.TheVariants as packet
 use Rattle.view_state.specs.declared.views.RingAsk.{RingAsk}
 use Rattle.view_state.specs.declared.views.ViewWork.{ViewWork}
-use Rattle.view_state.specs.Views.{view_sent, view_sent_all, gathering_set, promised, begin_install, gathered, gather_on, own_answer, ask_others, next_view, may_ask, ask_if, ask_row, answered, prepare, prepare_row, answer_to, answer_row, refused_by, refuse_to, refuse_row, installed, install_row, taken_row, prepare_again, note_stuck, tick_asks, asks_or_ages, gathering_ticks, install_again_of, install_again, is_coordinator, is_frozen}
+use Rattle.view_state.specs.Views.{view_sent, view_sent_all, gathering_set, promised, begin_install, gathered, gather_on, own_answer, ask_others, next_view, may_ask, ask_if, ask_rule, answered, prepare, prepare_rule, answer_to, answer_rule, refused_by, refuse_to, refuse_rule, installed, install_rule, taken_rule, prepare_again, note_stuck, tick_asks, asks_or_ages, gathering_ticks, install_again_of, install_again, is_coordinator, is_frozen}
 
 -- the node and its incarnation stay
 abbrev pub Whose : ViewWork → ViewWork → Type 0
@@ -31,8 +31,8 @@ whose_gathers w g = by (all_answered g) (is_spelled (install_of g))
     by true b = last (is_spelled (install_of g))
     by false b = (refl, refl)
 
-pub whose_asks : (w : ViewWork) (mask : Mask) (parts : List Part) → Whose w (ask_row w mask parts)
-unfolding ask_row ask_if ask_others promised view_sent_all
+pub whose_asks : (w : ViewWork) (mask : Mask) (parts : List Part) → Whose w (ask_rule w mask parts)
+unfolding ask_rule ask_if ask_others promised view_sent_all
 whose_asks w mask parts = by (may_ask w.views mask)
   where
     asks : (v : ViewId) (b : Bool) → Whose w (ask_others w v mask parts b)
@@ -44,8 +44,8 @@ whose_asks w mask parts = by (may_ask w.views mask)
     by true = asks (next_view w.views) (nat_le (length parts) max_parts)
     by false = (refl, refl)
 
-pub whose_prepares : (w : ViewWork) (from inc : ℕ) (v : ViewId) (mask : Mask) (parts : List Part) → Whose w (prepare_row w from inc v mask parts)
-unfolding prepare_row prepare answered promised view_sent
+pub whose_prepares : (w : ViewWork) (from inc : ℕ) (v : ViewId) (mask : Mask) (parts : List Part) → Whose w (prepare_rule w from inc v mask parts)
+unfolding prepare_rule prepare answered promised view_sent
 whose_prepares w from inc v mask parts =
     by (v.coord == from && v.inc == inc && has_node mask w.views.me && view_lt w.views.promise v) (v.coord == from && v.inc == inc && has_node mask w.views.me && same_view v w.views.promise && not (same_view v w.views.view)) (view_lt v w.views.promise)
   where
@@ -59,8 +59,8 @@ whose_prepares w from inc v mask parts =
     by false false true = (refl, refl)
     by false false false = (refl, refl)
 
-pub whose_answers : (w : ViewWork) (v : ViewId) (a : Answer) → Whose w (answer_row w v a)
-unfolding answer_row answer_to
+pub whose_answers : (w : ViewWork) (v : ViewId) (a : Answer) → Whose w (answer_rule w v a)
+unfolding answer_rule answer_to
 whose_answers w v a = by w.views.gathering
   where
     at : (g : Exchange) (b : Bool) → Whose w (elim b as (λ _. ViewWork) [ true ↦ gather_on w (with_answer g a) | false ↦ w ])
@@ -71,8 +71,8 @@ whose_answers w v a = by w.views.gathering
     by None = (refl, refl)
     by (Some g) = at g (same_view g.view v && may_answer g a.node)
 
-pub whose_refuses : (w : ViewWork) (v : ViewId) (n : ℕ) → Whose w (refuse_row w v n)
-unfolding refuse_row refuse_to refused_by
+pub whose_refuses : (w : ViewWork) (v : ViewId) (n : ℕ) → Whose w (refuse_rule w v n)
+unfolding refuse_rule refuse_to refused_by
 whose_refuses w v n = by w.views.gathering
   where
     at : (g : Exchange) (b : Bool) → Whose w (elim b as (λ _. ViewWork) [ true ↦ refused_by w n | false ↦ w ])
@@ -83,8 +83,8 @@ whose_refuses w v n = by w.views.gathering
     by None = (refl, refl)
     by (Some g) = at g (same_view g.view v)
 
-pub whose_installs : (w : ViewWork) (i : Install) → Whose w (install_row w i)
-unfolding install_row installed view_sent
+pub whose_installs : (w : ViewWork) (i : Install) → Whose w (install_rule w i)
+unfolding install_rule installed view_sent
 whose_installs w i = by (same_view w.views.view i.view) (same_view w.views.promise i.view && is_member i.members w.views.me w.views.inc)
   where
     by : (a b : Bool) → Whose w (installed w i a b)
@@ -92,8 +92,8 @@ whose_installs w i = by (same_view w.views.view i.view) (same_view w.views.promi
     by false true = (refl, refl)
     by false false = (refl, refl)
 
-pub whose_takes : (w : ViewWork) (from : ℕ) (v : ViewId) → Whose w (taken_row w from v)
-unfolding taken_row
+pub whose_takes : (w : ViewWork) (from : ℕ) (v : ViewId) → Whose w (taken_rule w from v)
+unfolding taken_rule
 whose_takes w from v = by (same_view w.views.view v)
   where
     by : (b : Bool) → Whose w (elim b as (λ _. ViewWork) [ true ↦ record w { views = record (w.views) { taken = with_node w.views.taken from } } | false ↦ w ])

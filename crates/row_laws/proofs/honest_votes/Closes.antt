@@ -23,7 +23,7 @@ use Rattle.node_state.specs.declared.group.Led.{Led}
 use Rattle.node_state.specs.declared.happened.Happened.{Happened}
 use Rattle.node_state.specs.Leading.{limit_of, fails_if, tally_for, closed_by, closing, closing_of, closing_entry}
 use Rattle.step_refinement.proofs.SessionLaws.{provider_same}
-use Rattle.step_refinement.proofs.ViewRows.{same_of}
+use Rattle.step_refinement.proofs.ViewRules.{same_of}
 use Rattle.row_laws.specs.honest_votes.Casts.{IsCast, RowCast, EntryCast, VoterCast, TallyCast}
 
 module _ (rs : List Happened) where

@@ -1,4 +1,4 @@
--- Entering a view, and what a row of views leaves.
+-- Entering a view, and what a rule of views leaves.
 use Rattle.std.proofs.Common.{◌≡◌, ℕ, ◌-◌, List, [], ◌∷◌, ◌++◌, drop, Option, Some, None, Bool, true, false, refl, sym, ap, ◌∙◌, subst, inl, inr, ⊎_elim}
 use Rattle.std.specs.Prelude.{◌==◌, ◌&&◌, not, map, filter, fold, find, flat_map, nat_le, nat_lt, is_some}
 use Rattle.std.specs.Option.{option_map}
@@ -293,7 +293,7 @@ module _ (h : History) where
       by None k = a
       by (Some xs) k = at_entered f s i xs ok k a
 
-  -- ---- a row of views
+  -- ---- a rule of views
 
   views_sent : (xs : List ViewSend) (s : Core) → ((x : ViewSend) → Has x xs → ViewPacketCast (s.records ++ records_of h) x.packet) → Full s → Full (fold (λ t (x : ViewSend). sent t x.to (body.View x.packet)) s xs) × ((fold (λ t (x : ViewSend). sent t x.to (body.View x.packet)) s xs).records ≡ s.records)
   unfolding sent send_on

@@ -22,7 +22,7 @@ use Rattle.view_state.specs.declared.packet.ViewSend.{ViewSend}
 use Rattle.view_state.specs.declared.views.Views.{Views}
 use Rattle.view_state.specs.declared.views.RingAsk.{RingAsk}
 use Rattle.view_state.specs.declared.views.ViewWork.{ViewWork}
-use Rattle.view_state.specs.Views.{is_frozen, is_coordinator, others_of, view_sent, view_sent_all, gathering_set, promised, begin_install, gathered, gather_on, own_answer, ask_others, next_view, may_ask, ask_if, ask_row, answered, prepare, prepare_row, answer_to, answer_row, refused_by, refuse_to, refuse_row, installed, install_row, taken_row, aged, prepare_again, tick_asks, note_stuck, asks_or_ages, gathering_ticks, install_again_of, install_again, views_at_work}
+use Rattle.view_state.specs.Views.{is_frozen, is_coordinator, others_of, view_sent, view_sent_all, gathering_set, promised, begin_install, gathered, gather_on, own_answer, ask_others, next_view, may_ask, ask_if, ask_rule, answered, prepare, prepare_rule, answer_to, answer_rule, refused_by, refuse_to, refuse_rule, installed, install_rule, taken_rule, aged, prepare_again, tick_asks, note_stuck, asks_or_ages, gathering_ticks, install_again_of, install_again, views_at_work}
 use Rattle.node_state.specs.declared.happened.Happened.{Happened}
 use Rattle.row_laws.specs.honest_votes.Casts.{EntriesCast, PartsCast, InstallCast, ExchangeCast, ViewPacketCast, GatheringCast, InstallIfCast, ViewsCast}
 
@@ -94,7 +94,7 @@ module _ (rs : List Happened) where
       let b = has_map (λ (k : Kept). k.part) p (a.0).parts (subst (λ (z : Source). Has p z.parts) a.2 j) in
       subst (λ (z : Part). EntriesCast rs z.entries) (sym b.2) (all a.0 a.1 b.0 b.1)
 
-  -- what a row of views makes
+  -- what a rule of views makes
   pub record WorkIs (v : Views) (w : ViewWork) : Type 0 where
     pub views : ViewsCast rs w.views
     pub me : w.views.me ≡ v.me
@@ -152,8 +152,8 @@ module _ (rs : List Happened) where
     asks_work w u mask parts true ok k =
         gathers_work (view_sent_all (promised w u) (filter (λ n. not (n == w.views.me)) (nodes_of mask)) (packet.Prepare u mask)) (with_answer (opened u mask) (own_answer w.views parts)) (answer_cast (opened u mask) (own_answer w.views parts) ok (λ s i. absurd i)) (sent_all_work (promised w u) (filter (λ n. not (n == w.views.me)) (nodes_of mask)) (packet.Prepare u mask) tt (promised_work w u k))
 
-    pub ask_work : (w : ViewWork) (mask : Mask) (parts : List Part) → PartsCast rs parts → WorkIs v w → WorkIs v (ask_row w mask parts)
-    unfolding ask_row ask_if
+    pub ask_work : (w : ViewWork) (mask : Mask) (parts : List Part) → PartsCast rs parts → WorkIs v w → WorkIs v (ask_rule w mask parts)
+    unfolding ask_rule ask_if
     ask_work w mask parts ok k = by (may_ask w.views mask)
       where
         by : (b : Bool) → WorkIs v (ask_if w mask parts b)
@@ -175,12 +175,12 @@ module _ (rs : List Happened) where
     prepared_work w u parts false false true ok k = sent_work w u.coord (packet.Refuse u w.views.promise.number) tt k
     prepared_work w u parts false false false ok k = k
 
-    pub prepare_work : (w : ViewWork) (from inc : ℕ) (u : ViewId) (mask : Mask) (parts : List Part) → PartsCast rs parts → WorkIs v w → WorkIs v (prepare_row w from inc u mask parts)
-    unfolding prepare_row
+    pub prepare_work : (w : ViewWork) (from inc : ℕ) (u : ViewId) (mask : Mask) (parts : List Part) → PartsCast rs parts → WorkIs v w → WorkIs v (prepare_rule w from inc u mask parts)
+    unfolding prepare_rule
     prepare_work w from inc u mask parts ok k = prepared_work w u parts _ _ _ ok k
 
-    pub answer_work : (w : ViewWork) (u : ViewId) (a : Answer) → PartsCast rs a.parts → WorkIs v w → WorkIs v (answer_row w u a)
-    unfolding answer_row answer_to
+    pub answer_work : (w : ViewWork) (u : ViewId) (a : Answer) → PartsCast rs a.parts → WorkIs v w → WorkIs v (answer_rule w u a)
+    unfolding answer_rule answer_to
     answer_work w u a ok k = by w.views.gathering k.views.0
       where
         at : (g : Exchange) → ExchangeCast rs g → (b : Bool) → WorkIs v (elim b as (λ _. ViewWork) [ true ↦ gather_on w (with_answer g a) | false ↦ w ])
@@ -191,8 +191,8 @@ module _ (rs : List Happened) where
         by None all = k
         by (Some g) all = at g all (same_view g.view u && may_answer g a.node)
 
-    pub refuse_work : (w : ViewWork) (u : ViewId) (n : ℕ) → WorkIs v w → WorkIs v (refuse_row w u n)
-    unfolding refuse_row refuse_to refused_by
+    pub refuse_work : (w : ViewWork) (u : ViewId) (n : ℕ) → WorkIs v w → WorkIs v (refuse_rule w u n)
+    unfolding refuse_rule refuse_to refused_by
     refuse_work w u n k = by w.views.gathering
       where
         at : (b : Bool) → WorkIs v (elim b as (λ _. ViewWork) [ true ↦ refused_by w n | false ↦ w ])
@@ -203,8 +203,8 @@ module _ (rs : List Happened) where
         by None = k
         by (Some g) = at (same_view g.view u)
 
-    pub install_work : (w : ViewWork) (i : Install) → InstallCast rs i → WorkIs v w → WorkIs v (install_row w i)
-    unfolding install_row installed
+    pub install_work : (w : ViewWork) (i : Install) → InstallCast rs i → WorkIs v w → WorkIs v (install_rule w i)
+    unfolding install_rule installed
     install_work w i ok k = by (same_view w.views.view i.view) (same_view w.views.promise i.view && is_member i.members w.views.me w.views.inc)
       where
         by : (a b : Bool) → WorkIs v (installed w i a b)
@@ -212,8 +212,8 @@ module _ (rs : List Happened) where
         by false true = record { views = k.views; me = k.me; view = k.view; sends = k.sends; install = ok }
         by false false = k
 
-    pub taken_work : (w : ViewWork) (from : ℕ) (u : ViewId) → WorkIs v w → WorkIs v (taken_row w from u)
-    unfolding taken_row
+    pub taken_work : (w : ViewWork) (from : ℕ) (u : ViewId) → WorkIs v w → WorkIs v (taken_rule w from u)
+    unfolding taken_rule
     taken_work w from u k = by (same_view w.views.view u)
       where
         by : (b : Bool) → WorkIs v (elim b as (λ _. ViewWork) [ true ↦ record w { views = record (w.views) { taken = with_node w.views.taken from } } | false ↦ w ])

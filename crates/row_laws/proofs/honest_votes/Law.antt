@@ -22,7 +22,7 @@ use Rattle.node_state.specs.Step.{NodeEvent, at_work, started, stepped, first_vi
 use Rattle.world_model.specs.declared.event.Event.{Event}
 use Rattle.run_safety.specs.Past.{History, records_of, Within}
 use Rattle.step_refinement.specs.Tied.{Scene, Rests}
-use Rattle.step_refinement.specs.Rows.{ended, start_with, stopped, nothing_yet, with_records, starts_too, Arises}
+use Rattle.step_refinement.specs.Rules.{ended, start_with, stopped, nothing_yet, with_records, starts_too, Arises}
 use Rattle.step_refinement.specs.Runs.{IsNote, noted, Reached, Nothing, AllStart, Starts, Stops, Steps, Notes}
 use Rattle.step_refinement.proofs.Changed.{each_set}
 use Rattle.step_refinement.proofs.Begins.{begin_tied}

@@ -13,7 +13,7 @@ use Rattle.proposal_core.specs.declared.proposal.Proposal.{Proposal}
 use Rattle.view_state.specs.declared.packet.ViewPacket.{ViewPacket}
 use Rattle.view_state.specs.declared.packet.ViewPacket.TheVariants as view
 use Rattle.view_state.specs.declared.views.ViewWork.{ViewWork}
-use Rattle.view_state.specs.Views.{views_at_work, ask_row, prepare_row, answer_row, refuse_row, install_row, taken_row}
+use Rattle.view_state.specs.Views.{views_at_work, ask_rule, prepare_rule, answer_rule, refuse_rule, install_rule, taken_rule}
 use Rattle.node_state.specs.declared.config.Mode.{Mode}
 use Rattle.node_state.specs.declared.config.Mode.TheVariants.{Fixed, Asked, Rings}
 use Rattle.node_state.specs.declared.group.GroupRow.{GroupRow}
@@ -27,9 +27,9 @@ use Rattle.node_state.specs.HandOn.{Answering}
 use Rattle.node_state.specs.Following.{take_lookup, take_name, take_request, take_tell, take_entry, take_ack, take_vote, take_gone}
 use Rattle.node_state.specs.Applying.{own_parts, views_taken}
 use Rattle.node_state.specs.Status.{status_text}
-use Rattle.node_state.specs.Ticks.{tick_rings, tick_views, tick_owed, tick_row}
+use Rattle.node_state.specs.Ticks.{tick_rings, tick_views, tick_owed, tick_rule}
 use Rattle.node_state.specs.Ending.{end_step}
-use Rattle.node_state.specs.Step.{NodeEvent, Ticks, Asks, Given, Calls, Garbage, is_used, used_if, take_order, view_row, take_body, packet_row, event_row, stepped, at_work}
+use Rattle.node_state.specs.Step.{NodeEvent, Ticks, Asks, Given, Calls, Garbage, is_used, used_if, take_order, view_rule, take_body, packet_rule, event_rule, stepped, at_work}
 use Rattle.run_safety.specs.Past.{records_of}
 use Rattle.run_safety.specs.Group.{member}
 use Rattle.run_safety.specs.Group as group
@@ -38,7 +38,7 @@ use Rattle.run_safety.proofs.Lives.{whole}
 use Rattle.run_safety.proofs.Parts.{member_parts}
 use Rattle.node_state.proofs.NameOrder.{row_here}
 use Rattle.step_refinement.specs.Tied.{ShowsBody, ShowsEntry, ShowsLeader, ShowsRequest, Scene, opening_of, Tied}
-use Rattle.step_refinement.specs.Rows.{acted, Arises}
+use Rattle.step_refinement.specs.Rules.{acted, Arises}
 use Rattle.step_refinement.proofs.Acks.{used_is}
 use Rattle.step_refinement.proofs.Leads.{leader_inc, leads_known}
 use Rattle.step_refinement.proofs.RowWorks.{len_is}
@@ -48,7 +48,7 @@ use Rattle.row_laws.proofs.honest_votes.At.{At, at_sent_on}
 use Rattle.row_laws.proofs.honest_votes.Ending.{Every, NoGroup, at_step_ended}
 use Rattle.row_laws.proofs.honest_votes.Gathers.{WorkIs, begun_work, ask_work, prepare_work, answer_work, refuse_work, install_work, taken_work}
 use Rattle.row_laws.proofs.honest_votes.Entering.{at_views_taken, own_parts_cast}
-use Rattle.row_laws.proofs.honest_votes.Ticking.{at_ring_row, at_report, at_rings_part, at_views_part, at_owed_part, at_led_part}
+use Rattle.row_laws.proofs.honest_votes.Ticking.{at_ring_rule, at_report, at_rings_part, at_views_part, at_owed_part, at_led_part}
 use Rattle.row_laws.proofs.honest_votes.Following.{at_lookup, at_name, at_request, at_tell, at_entry, at_ack, at_vote, at_gone}
 use Rattle.row_laws.proofs.honest_votes.Calling.{at_call}
 
@@ -111,17 +111,17 @@ module _ (w : Scene) (n : ℕ) (f : Answering) (s : Core) (were : (p : Packet) �
   begun : WorkIs (s.records ++ records_of w.before) s.views (views_at_work s.views)
   begun = begun_work (s.records ++ records_of w.before) s.views a.views
 
-  view_at : (from inc : ℕ) (y : ViewPacket) → BodyCast (s.records ++ records_of w.before) (body.View y) → Full (view_row f s from inc y)
-  unfolding view_row
-  view_at from inc (view.Prepare v mask) ok = taken (prepare_row (views_at_work s.views) from inc v mask (own_parts s)) (prepare_work (s.records ++ records_of w.before) s.views (views_at_work s.views) from inc v mask (own_parts s) (own_parts_cast w.before s a) begun)
-  view_at from inc (view.Answer v old parts) ok = taken (answer_row (views_at_work s.views) v (record { node = from; inc = inc; view = old; parts = parts })) (answer_work (s.records ++ records_of w.before) s.views (views_at_work s.views) v (record { node = from; inc = inc; view = old; parts = parts }) ok begun)
-  view_at from inc (view.Refuse v k) ok = taken (refuse_row (views_at_work s.views) v k) (refuse_work (s.records ++ records_of w.before) s.views (views_at_work s.views) v k begun)
-  view_at from inc (view.Install i) ok = taken (install_row (views_at_work s.views) i) (install_work (s.records ++ records_of w.before) s.views (views_at_work s.views) i ok begun)
-  view_at from inc (view.Taken v) ok = taken (taken_row (views_at_work s.views) from v) (taken_work (s.records ++ records_of w.before) s.views (views_at_work s.views) from v begun)
+  view_at : (from inc : ℕ) (y : ViewPacket) → BodyCast (s.records ++ records_of w.before) (body.View y) → Full (view_rule f s from inc y)
+  unfolding view_rule
+  view_at from inc (view.Prepare v mask) ok = taken (prepare_rule (views_at_work s.views) from inc v mask (own_parts s)) (prepare_work (s.records ++ records_of w.before) s.views (views_at_work s.views) from inc v mask (own_parts s) (own_parts_cast w.before s a) begun)
+  view_at from inc (view.Answer v old parts) ok = taken (answer_rule (views_at_work s.views) v (record { node = from; inc = inc; view = old; parts = parts })) (answer_work (s.records ++ records_of w.before) s.views (views_at_work s.views) v (record { node = from; inc = inc; view = old; parts = parts }) ok begun)
+  view_at from inc (view.Refuse v k) ok = taken (refuse_rule (views_at_work s.views) v k) (refuse_work (s.records ++ records_of w.before) s.views (views_at_work s.views) v k begun)
+  view_at from inc (view.Install i) ok = taken (install_rule (views_at_work s.views) i) (install_work (s.records ++ records_of w.before) s.views (views_at_work s.views) i ok begun)
+  view_at from inc (view.Taken v) ok = taken (taken_rule (views_at_work s.views) from v) (taken_work (s.records ++ records_of w.before) s.views (views_at_work s.views) from v begun)
 
   body_at : (p : Packet) (b : Body) → p.body ≡ b → p.to ≡ n → Has p w.sent → BodyCast (s.records ++ records_of w.before) b → Full (take_body f s p b)
   unfolding take_body
-  body_at p (body.Ring x) is to sent ok = at_ring_row w.before s p.network p.from p.inc x a
+  body_at p (body.Ring x) is to sent ok = at_ring_rule w.before s p.network p.from p.inc x a
   body_at p (body.Report rows) is to sent ok = at_report w.before s rows a
   body_at p (body.View y) is to sent ok = view_at p.from p.inc y ok
   body_at p (body.Lookup v g) is to sent ok = used (take_lookup s p.from g) (is_used s p v) (λ u. at_lookup w.before s p.from g a)
@@ -142,12 +142,12 @@ module _ (w : Scene) (n : ℕ) (f : Answering) (s : Core) (were : (p : Packet) �
   unfolding take_order
   order_at mask = by (is_fixed s.config.mode)
     where
-      by : (b : Bool) → Full (elim b as (λ _. Core) [ true ↦ s | false ↦ views_taken f s (ask_row (views_at_work s.views) mask (own_parts s)) ])
+      by : (b : Bool) → Full (elim b as (λ _. Core) [ true ↦ s | false ↦ views_taken f s (ask_rule (views_at_work s.views) mask (own_parts s)) ])
       by true = a
-      by false = taken (ask_row (views_at_work s.views) mask (own_parts s)) (ask_work (s.records ++ records_of w.before) s.views (views_at_work s.views) mask (own_parts s) (own_parts_cast w.before s a) begun)
+      by false = taken (ask_rule (views_at_work s.views) mask (own_parts s)) (ask_work (s.records ++ records_of w.before) s.views (views_at_work s.views) mask (own_parts s) (own_parts_cast w.before s a) begun)
 
   acted_at : (e : NodeEvent) → Arises w e → Full (acted f s e)
-  unfolding packet_row
+  unfolding packet_rule
   acted_at Ticks arises =
       at_led_part w.before f (tick_owed (tick_views f (tick_rings s))) (at_owed_part w.before (tick_views f (tick_rings s)) (at_views_part w.before f (tick_rings s) (at_rings_part w.before s a)))
   acted_at (Asks mask) arises = order_at mask
@@ -161,7 +161,7 @@ module _ (w : Scene) (n : ℕ) (f : Answering) (s : Core) (were : (p : Packet) �
           body_at p p.body refl (eqb-true p.to s.views.me e ∙ (all []).own.0.stands.me) arises (body_on (records_of w.before) (s.records ++ records_of w.before) (λ r i. append_has_right r s.records (records_of w.before) i) p.body (were p arises))
 
 stepped_is : (f : Answering) (s : Core) (e : NodeEvent) → stepped f s e ≡ end_step f (acted f (at_work s) e)
-unfolding stepped event_row tick_row
+unfolding stepped event_rule tick_rule
 stepped_is f s Ticks = refl
 stepped_is f s (Asks mask) = refl
 stepped_is f s (Given p) = refl

@@ -34,7 +34,7 @@ use Rattle.node_state.specs.Sending.{sent, send_on, send_if_known, send_requests
 use Rattle.node_state.specs.HandOn.{Answering}
 use Rattle.node_state.specs.Leading.{append_if_fits, with_tally}
 use Rattle.node_state.specs.Applying.{own_parts, views_taken}
-use Rattle.node_state.specs.Ticks.{ring_put, set_records, ring_taken, ring_row_of, ring_row, row_reported, take_report, rings_union, report_of, send_report, rings_tick, tick_rings, ring_ask, tick_views, is_lost, lost_told, tick_owed, late_appended, announced, ticked_in, tally_ticks, entries_sent, list_sent_again, sent_again, tick_group, tick_led}
+use Rattle.node_state.specs.Ticks.{ring_put, set_records, ring_taken, ring_rule_of, ring_rule, row_reported, take_report, rings_union, report_of, send_report, rings_tick, tick_rings, ring_ask, tick_views, is_lost, lost_told, tick_owed, late_appended, announced, ticked_in, tally_ticks, entries_sent, list_sent_again, sent_again, tick_group, tick_led}
 use Rattle.run_safety.specs.Past.{History, records_of}
 use Rattle.row_laws.specs.honest_votes.Casts.{RecordCast, EntriesCast, ListCast, TallyCast}
 use Rattle.row_laws.proofs.honest_votes.At.{found, leads_row, RowIs, At, at_fold, at_sent, at_sent_on, at_recorded_all, at_row}
@@ -83,11 +83,11 @@ module _ (h : History) where
       let t : Core = fold (λ u (x : RingSend). send_on u x.network x.to (body.Ring x.packet)) (record s { rings = ring_put s.rings w.ring }) w.sends in
       at_recorded_all h Every NoGroup (set_records s.views.me w.ring.net w.set) t (set_no_put s.views.me w.ring.net w.set) (at_fold h Every NoGroup (λ u (x : RingSend). send_on u x.network x.to (body.Ring x.packet)) w.sends (λ u x i k. at_sent_on h Every NoGroup u x.network x.to (body.Ring x.packet) tt k) (record s { rings = ring_put s.rings w.ring }) (at_rings s (ring_put s.rings w.ring) a))
 
-  pub at_ring_row : (s : Core) (network from inc : ℕ) (x : RingPacket) → Full s → Full (ring_row s network from inc x)
-  unfolding ring_row ring_row_of
-  at_ring_row s network from inc x a = by (find (λ (r : Ring). r.net == network) s.rings)
+  pub at_ring_rule : (s : Core) (network from inc : ℕ) (x : RingPacket) → Full s → Full (ring_rule s network from inc x)
+  unfolding ring_rule ring_rule_of
+  at_ring_rule s network from inc x a = by (find (λ (r : Ring). r.net == network) s.rings)
     where
-      by : (o : Option Ring) → Full (ring_row_of s from inc x o)
+      by : (o : Option Ring) → Full (ring_rule_of s from inc x o)
       by None = a
       by (Some r) = at_ring_taken s (ring_step r (ring_event.Packet from inc x)) a
 

@@ -15,7 +15,7 @@ use Rattle.node_state.specs.Step.{NodeEvent, Calls, started, stepped}
 use Rattle.world_model.specs.declared.event.Event.{Event}
 use Rattle.world_model.specs.declared.event.Event.TheVariants.{Call}
 use Rattle.step_refinement.specs.Tied.{Scene}
-use Rattle.step_refinement.specs.Rows.{nothing_yet, all_started, start_with, stopped, ended, Arises}
+use Rattle.step_refinement.specs.Rules.{nothing_yet, all_started, start_with, stopped, ended, Arises}
 use Rattle.step_refinement.specs.Runs.{IsNote, noted}
 use Rattle.row_laws.specs.failed_rows.Failures.{FailuresHaveCauses}
 

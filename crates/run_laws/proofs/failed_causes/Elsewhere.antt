@@ -28,7 +28,7 @@ use Rattle.run_safety.specs.ViewOrder.{Lt}
 use Rattle.run_safety.specs.Past.{History, EachRecord, Within, earlier, records_of, inc_now}
 use Rattle.run_safety.specs.Stays.{Stay, stays, with_base}
 use Rattle.step_refinement.specs.Tied.{Scene}
-use Rattle.step_refinement.specs.Rows.{Arises}
+use Rattle.step_refinement.specs.Rules.{Arises}
 use Rattle.step_refinement.specs.Runs.{Reached}
 use Rattle.step_refinement.proofs.BaseOrder.{base_noted}
 use Rattle.row_laws.specs.hearing.Changes.{Inner, Unentered, Does, Stays, Then, Records, Hands, Loses, Joins, Votes, Enters}

@@ -24,7 +24,7 @@ use Rattle.node_state.specs.Step.{NodeEvent, started, stepped, first_view, first
 use Rattle.world_model.specs.declared.event.Event.{Event}
 use Rattle.run_safety.specs.Past.{History, EachRecord, Within}
 use Rattle.step_refinement.specs.Tied.{Scene}
-use Rattle.step_refinement.specs.Rows.{Arises, nothing_yet, with_records, starts_too}
+use Rattle.step_refinement.specs.Rules.{Arises, nothing_yet, with_records, starts_too}
 use Rattle.step_refinement.specs.Runs.{IsNote, Reached, Nothing, AllStart, Starts, Stops, Steps, Notes}
 use Rattle.row_laws.specs.hearing.Changes.{Same, handing, Inner}
 use Rattle.row_laws.proofs.hearing.Attending.{pushed, pushed_reverse}

@@ -12,7 +12,7 @@ use Rattle.world_model.specs.declared.event.Event.{Event}
 use Rattle.world_model.specs.declared.event.Event.TheVariants.{Call}
 use Rattle.run_safety.specs.Past.{History, records_of}
 use Rattle.step_refinement.specs.Tied.{Scene}
-use Rattle.step_refinement.specs.Rows.{all_started, over, Arises}
+use Rattle.step_refinement.specs.Rules.{all_started, over, Arises}
 use Rattle.step_refinement.specs.Runs.{Reached}
 use Rattle.step_refinement.specs.Runs as runs
 use Rattle.row_laws.specs.failed_rows.Scenes.{Names, Played, Nothing, AllStart, Starts, Stops, Steps, Notes}

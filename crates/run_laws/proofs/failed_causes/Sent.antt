@@ -25,7 +25,7 @@ use Rattle.run_safety.proofs.Lives.{whole}
 use Rattle.step_refinement.specs.Tied.{Scene, Rests, opening_of}
 use Rattle.step_refinement.specs.Runs.{Reached}
 use Rattle.step_refinement.proofs.RunLaw.{reached_rests}
-use Rattle.step_refinement.proofs.ViewRows.{before_of}
+use Rattle.step_refinement.proofs.ViewRules.{before_of}
 use Rattle.row_laws.proofs.failed_rows.Asked.{join_carried, asked_back}
 use Rattle.run_laws.proofs.seen_runs.Sights.{cut}
 use Rattle.run_laws.proofs.seen_runs.Froms.{in_kept}

@@ -33,7 +33,7 @@ use Rattle.node_state.specs.Sending.{send_request_to, send_request, send_kept_to
 use Rattle.node_state.specs.Calls.{caller, refuse_call, changed, ask_last, proposed, record_ballot, ballot_sent_if, cast_last, give_ballot, send_gone, send_all_gone, goodbye_said, take_call}
 use Rattle.step_refinement.proofs.SessionLaws.{provider_self, provider_same}
 use Rattle.row_laws.proofs.hearing.Changes.{Sends, sends_nothing, sends_one, sends_known, sends_fold}
-use Rattle.row_laws.proofs.hearing.Rows.{OneOwner}
+use Rattle.row_laws.proofs.hearing.Rules.{OneOwner}
 use Rattle.row_laws.proofs.hearing.Sessions.{Casts, casts_voted, unless_is, fewer_ended}
 use Rattle.run_laws.specs.gapless.Takers.{Stood, AskedJoin}
 use Rattle.run_laws.proofs.gapless.Standing.{JoinWaits}

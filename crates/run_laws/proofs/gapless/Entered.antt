@@ -38,7 +38,7 @@ use Rattle.run_safety.specs.SafeHeard.{is_left_behind, enters}
 use Rattle.run_safety.specs.Stays.{stays, Part, part, passes, was_let_go}
 use Rattle.run_safety.proofs.Tests.{any_has, has_any}
 use Rattle.step_refinement.specs.Tied.{Scene}
-use Rattle.step_refinement.specs.Rows.{Arises}
+use Rattle.step_refinement.specs.Rules.{Arises}
 use Rattle.step_refinement.specs.Runs.{Reached}
 use Rattle.step_refinement.proofs.Turns.{has_turned}
 use Rattle.row_laws.specs.hearing.Changes.{Inner, Does, entering}

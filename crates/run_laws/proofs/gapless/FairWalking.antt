@@ -39,11 +39,11 @@ use Rattle.node_state.specs.Sending.{send_on, sent}
 use Rattle.node_state.specs.HandOn.{Answering, note_of, subscriber_name}
 use Rattle.node_state.specs.Leading.{put_and_hand, with_waiting}
 use Rattle.node_state.specs.Applying.{Lacking, fill_lists, base_note, entering_note, entering_noted, taken_sent, owed_sent, wait_failed, phase_reopened, lead, lead_groups}
-use Rattle.node_state.specs.Ticks.{row_reported, take_report, ring_put, set_records, ring_taken, ring_row_of, ring_row, rings_union, report_of, send_report, rings_tick, tick_rings}
+use Rattle.node_state.specs.Ticks.{row_reported, take_report, ring_put, set_records, ring_taken, ring_rule_of, ring_rule, rings_union, report_of, send_report, rings_tick, tick_rings}
 use Rattle.node_state.specs.Status.{status_text}
 use Rattle.node_state.specs.Step.{is_used, used_if, take_body}
 use Rattle.run_laws.proofs.gapless.FairWalk.{FairBody, Mild, alike_groups, Keeps, on_either, on_fold, on_sent, on_sent_all, on_records, on_put_handed, on_waiting, on_opened, on_closes}
-use Rattle.run_laws.proofs.gapless.FairRows.{on_requests, on_votes, on_lookup, on_tell, on_name, on_request, on_entry, on_ack, on_vote, on_gone}
+use Rattle.run_laws.proofs.gapless.FairRules.{on_requests, on_votes, on_lookup, on_tell, on_name, on_request, on_entry, on_ack, on_vote, on_gone}
 
 -- it is no packet of views
 abbrev pub NoView : Body → Type 0
@@ -98,7 +98,7 @@ module _ (P : Core → Type 0) (k : Keeps P) where
       by false = waits
       by true = on_closes P k f g (on_opened P k g waits)
 
-  -- what a row of views sends
+  -- what a rule of views sends
   pub on_views_sent : {s : Core} (w : ViewWork) → P s → P (fold (λ t (x : ViewSend). sent t x.to (body.View x.packet)) (record s { views = w.views }) w.sends)
   on_views_sent {s} w p =
       on_fold P k (λ t (x : ViewSend). sent t x.to (body.View x.packet)) (λ t x h. on_sent P k x.to (body.View x.packet) tt h) w.sends (k.alike s (record s { views = w.views }) (alike_groups s (record s { views = w.views }) refl refl refl) p)
@@ -136,11 +136,11 @@ module _ (P : Core → Type 0) (k : Keeps P) where
       let e : Core = fold (λ u (y : RingSend). send_on u y.network y.to (body.Ring y.packet)) d x.sends in
       on_records P k (set_records s.views.me x.ring.net x.set) (set_mild s.views.me x.ring.net x.set) (on_fold P k (λ u (y : RingSend). send_on u y.network y.to (body.Ring y.packet)) (λ u y q. k.sends u y.network y.to (body.Ring y.packet) tt q) x.sends (k.alike s d (alike_groups s d refl refl refl) p))
 
-  on_ring : {s : Core} (network from inc : ℕ) (x : RingPacket) → P s → P (ring_row s network from inc x)
-  unfolding ring_row ring_row_of
+  on_ring : {s : Core} (network from inc : ℕ) (x : RingPacket) → P s → P (ring_rule s network from inc x)
+  unfolding ring_rule ring_rule_of
   on_ring {s} network from inc x p = by (find (λ (r : Ring). r.net == network) s.rings)
     where
-      by : (o : Option Ring) → P (ring_row_of s from inc x o)
+      by : (o : Option Ring) → P (ring_rule_of s from inc x o)
       by None = p
       by (Some r) = on_taken (ring_step r (ring_event.Packet from inc x)) p
 

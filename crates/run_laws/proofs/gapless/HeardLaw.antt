@@ -16,7 +16,7 @@ use Rattle.world_model.specs.Run.{Happening}
 use Rattle.run_safety.specs.Past.{History, Within, earlier}
 use Rattle.run_safety.specs.Stays.{stays, part, takes_part, was_let_go}
 use Rattle.step_refinement.specs.Tied.{Scene}
-use Rattle.step_refinement.specs.Rows.{over, nothing_yet, Arises}
+use Rattle.step_refinement.specs.Rules.{over, nothing_yet, Arises}
 use Rattle.step_refinement.specs.Runs.{Reached}
 use Rattle.row_laws.proofs.hearing.Listening.{reverse_has}
 use Rattle.row_laws.specs.failed_rows.Scenes.{Names}

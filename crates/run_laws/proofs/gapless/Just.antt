@@ -21,7 +21,7 @@ use Rattle.run_safety.specs.SafeHeard.{Dissolves, is_left_behind, enters}
 use Rattle.run_safety.specs.Stays.{stays, was_let_go}
 use Rattle.run_safety.proofs.Tests.{any_has}
 use Rattle.step_refinement.specs.Tied.{Scene}
-use Rattle.step_refinement.specs.Rows.{over, nothing_yet, Arises}
+use Rattle.step_refinement.specs.Rules.{over, nothing_yet, Arises}
 use Rattle.step_refinement.specs.Runs.{Reached}
 use Rattle.row_laws.proofs.hearing.Listening.{reverse_has, reached_attends}
 use Rattle.row_laws.proofs.hearing.Listening as listening

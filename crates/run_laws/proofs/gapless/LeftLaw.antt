@@ -20,7 +20,7 @@ use Rattle.run_safety.specs.Past.{History, EachEvent, earlier}
 use Rattle.run_safety.specs.SafeHeard.{LeftBehind, is_left_behind, enters}
 use Rattle.run_safety.specs.Stays.{stays, was_let_go}
 use Rattle.step_refinement.specs.Tied.{Scene, NodeIsIf, Rests}
-use Rattle.step_refinement.specs.Rows.{over, nothing_yet, with_records, starts_too, Arises}
+use Rattle.step_refinement.specs.Rules.{over, nothing_yet, with_records, starts_too, Arises}
 use Rattle.step_refinement.specs.Runs.{IsNote}
 use Rattle.step_refinement.proofs.RunLaw.{reached_rests}
 use Rattle.row_laws.proofs.hearing.Listening.{reverse_has, start_each}

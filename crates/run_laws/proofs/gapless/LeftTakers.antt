@@ -15,7 +15,7 @@ use Rattle.node_state.specs.Step.{NodeEvent, at_work, stepped}
 use Rattle.world_model.specs.declared.event.Event.{Event}
 use Rattle.run_safety.specs.Past.{earlier, records_of}
 use Rattle.step_refinement.specs.Tied.{Scene}
-use Rattle.step_refinement.specs.Rows.{ended, Arises}
+use Rattle.step_refinement.specs.Rules.{ended, Arises}
 use Rattle.step_refinement.specs.Runs.{Reached, Steps}
 use Rattle.node_state.specs.State.{InNameOrder}
 use Rattle.row_laws.proofs.hearing.Listening.{reverse_has}

@@ -15,7 +15,7 @@ use Rattle.view_state.specs.declared.packet.ViewPacket.TheVariants as packet
 use Rattle.view_state.specs.declared.packet.ViewSend.{ViewSend}
 use Rattle.view_core.specs.declared.step.ViewEvent.TheVariants as event
 use Rattle.view_state.specs.declared.views.ViewWork.{ViewWork}
-use Rattle.view_state.specs.Views.{is_coordinator, is_frozen, install_again_of, view_sent_all, views_at_work, ask_row, prepare_row, answer_row, refuse_row, install_row, taken_row, gathering_ticks, install_again}
+use Rattle.view_state.specs.Views.{is_coordinator, is_frozen, install_again_of, view_sent_all, views_at_work, ask_rule, prepare_rule, answer_rule, refuse_rule, install_rule, taken_rule, gathering_ticks, install_again}
 use Rattle.view_core.specs.Steps.{view_stepped}
 use Rattle.view_core.specs.Steps as steps
 use Rattle.view_core.specs.Laws.{AreViews, IsNext, AppliesNext, Goes}
@@ -32,17 +32,17 @@ use Rattle.node_state.specs.Sending.{sent}
 use Rattle.node_state.specs.HandOn.{Answering}
 use Rattle.node_state.specs.Leading.{put_and_hand}
 use Rattle.node_state.specs.Applying.{Lacking, lacking, own_parts, fill_lists, base_row, view_entered, entered, entered_if, apply_install, views_taken}
-use Rattle.node_state.specs.Ticks.{ring_ask, tick_rings, tick_views, tick_owed, tick_led, tick_row}
-use Rattle.node_state.specs.Step.{NodeEvent, Ticks, Asks, Given, Calls, Garbage, take_order, view_row, take_body, packet_row, event_row, stepped, at_work}
+use Rattle.node_state.specs.Ticks.{ring_ask, tick_rings, tick_views, tick_owed, tick_led, tick_rule}
+use Rattle.node_state.specs.Step.{NodeEvent, Ticks, Asks, Given, Calls, Garbage, take_order, view_rule, take_body, packet_rule, event_rule, stepped, at_work}
 use Rattle.node_state.specs.Ending.{end_step}
 use Rattle.run_safety.specs.ViewOrder.{is_before, Lt}
 use Rattle.row_laws.specs.hearing.Changes.{Same, Does, Stays, Then, entering}
 use Rattle.row_laws.proofs.hearing.Changes.{Sends, sends_fold, sends_one, Onward, same_sends, put_handed_onward}
-use Rattle.row_laws.proofs.hearing.Rows.{onward_fold, rings_onward}
+use Rattle.row_laws.proofs.hearing.Rules.{onward_fold, rings_onward}
 use Rattle.row_laws.proofs.hearing.Viewing.{Fit, sides_stand}
 use Rattle.row_laws.proofs.hearing.Whose.{whose_asks, whose_prepares, whose_answers, whose_refuses, whose_installs, whose_takes, whose_ticks}
 use Rattle.run_laws.proofs.gapless.FairWalk.{Fairly, FairBody, on_ended}
-use Rattle.run_laws.proofs.gapless.FairRows.{on_owed_part, on_led_part, on_call}
+use Rattle.run_laws.proofs.gapless.FairRules.{on_owed_part, on_led_part, on_call}
 use Rattle.run_laws.proofs.gapless.FairWalking.{on_filled, on_views_sent, on_rest, on_rings, on_body}
 use Rattle.run_laws.proofs.gapless.Fair.{Speaks, Fair, fair_self, fair_then, fair_keeps}
 use Rattle.run_laws.proofs.gapless.Tellings.{sides_send}
@@ -84,7 +84,7 @@ unfolding fill_lists
 filled_onward f xs c =
     onward_fold (λ t (x : Lacking). fold (λ u e. put_and_hand f u None x.name e) t x.entries) (λ t x. onward_fold (λ u (e : Entry). put_and_hand f u None x.name e) (λ u e. put_handed_onward f u None x.name e) x.entries t) xs c
 
--- ---- rows of views
+-- ---- rules of views
 
 module _ (Q : Core → Type 0) (X : Type 0) (x : X) (f : Answering) (carries : Carries Q f) (c : Core) (order : InNameOrder c.groups) (views : AreViews c.views) (speaks : Speaks c) (holds : Q c) where
   self : Fair c c
@@ -127,41 +127,41 @@ module _ (Q : Core → Type 0) (X : Type 0) (x : X) (f : Answering) (carries : C
       by None next = Remains fair
       by (Some i) next = if_lacking i (lacking u i) next
 
-  ask_moves : (mask : Mask) → Moves Q X c (views_taken f c (ask_row (views_at_work c.views) mask (own_parts c)))
-  unfolding view_stepped steps.view_row
+  ask_moves : (mask : Mask) → Moves Q X c (views_taken f c (ask_rule (views_at_work c.views) mask (own_parts c)))
+  unfolding view_stepped steps.view_rule
   ask_moves mask =
       let k = whose_asks (views_at_work c.views) mask (own_parts c) in
-      taken_moves (ask_row (views_at_work c.views) mask (own_parts c)) (promises_stand c.views (event.Ask mask) (own_parts c) views) k.0 k.1
+      taken_moves (ask_rule (views_at_work c.views) mask (own_parts c)) (promises_stand c.views (event.Ask mask) (own_parts c) views) k.0 k.1
 
   order_moves : (mask : Mask) → Moves Q X c (take_order f c mask)
   unfolding take_order
   order_moves mask = by (is_fixed c.config.mode)
     where
-      by : (b : Bool) → Moves Q X c (elim b as (λ _. Core) [ true ↦ c | false ↦ views_taken f c (ask_row (views_at_work c.views) mask (own_parts c)) ])
+      by : (b : Bool) → Moves Q X c (elim b as (λ _. Core) [ true ↦ c | false ↦ views_taken f c (ask_rule (views_at_work c.views) mask (own_parts c)) ])
       by true = Remains self
       by false = ask_moves mask
 
-  view_moves : (from inc : ℕ) (y : ViewPacket) → Moves Q X c (view_row f c from inc y)
-  unfolding view_row view_stepped steps.view_row
+  view_moves : (from inc : ℕ) (y : ViewPacket) → Moves Q X c (view_rule f c from inc y)
+  unfolding view_rule view_stepped steps.view_rule
   view_moves from inc (packet.Prepare v mask) =
       let k = whose_prepares (views_at_work c.views) from inc v mask (own_parts c) in
-      taken_moves (prepare_row (views_at_work c.views) from inc v mask (own_parts c)) (promises_stand c.views (event.Prepare from inc v mask) (own_parts c) views) k.0 k.1
+      taken_moves (prepare_rule (views_at_work c.views) from inc v mask (own_parts c)) (promises_stand c.views (event.Prepare from inc v mask) (own_parts c) views) k.0 k.1
   view_moves from inc (packet.Answer v old parts) =
       let a : Answer = record { node = from; inc = inc; view = old; parts = parts } in
       let k = whose_answers (views_at_work c.views) v a in
-      taken_moves (answer_row (views_at_work c.views) v a) (promises_stand c.views (event.Answer from inc v (record { view = old; parts = parts })) (own_parts c) views) k.0 k.1
+      taken_moves (answer_rule (views_at_work c.views) v a) (promises_stand c.views (event.Answer from inc v (record { view = old; parts = parts })) (own_parts c) views) k.0 k.1
   view_moves from inc (packet.Refuse v n) =
       let k = whose_refuses (views_at_work c.views) v n in
-      taken_moves (refuse_row (views_at_work c.views) v n) (promises_stand c.views (event.Refuse v n) (own_parts c) views) k.0 k.1
+      taken_moves (refuse_rule (views_at_work c.views) v n) (promises_stand c.views (event.Refuse v n) (own_parts c) views) k.0 k.1
   view_moves from inc (packet.Install i) =
       let k = whose_installs (views_at_work c.views) i in
-      taken_moves (install_row (views_at_work c.views) i) (promises_stand c.views (event.Install i) (own_parts c) views) k.0 k.1
+      taken_moves (install_rule (views_at_work c.views) i) (promises_stand c.views (event.Install i) (own_parts c) views) k.0 k.1
   view_moves from inc (packet.Taken v) =
       let k = whose_takes (views_at_work c.views) from v in
-      taken_moves (taken_row (views_at_work c.views) from v) (promises_stand c.views (event.Taken from v) (own_parts c) views) k.0 k.1
+      taken_moves (taken_rule (views_at_work c.views) from v) (promises_stand c.views (event.Taken from v) (own_parts c) views) k.0 k.1
 
   tick_moves : Moves Q X c (views_taken f c (gathering_ticks (views_at_work c.views) (ring_ask c) (own_parts c)))
-  unfolding view_stepped steps.view_row
+  unfolding view_stepped steps.view_rule
   tick_moves =
       let k = whose_ticks (views_at_work c.views) (ring_ask c) (own_parts c) in
       taken_moves (gathering_ticks (views_at_work c.views) (ring_ask c) (own_parts c)) (promises_stand c.views (event.Tick (ring_ask c)) (own_parts c) views) k.0 k.1
@@ -184,8 +184,8 @@ module _ (Q : Core → Type 0) (X : Type 0) (x : X) (f : Answering) (carries : C
   body_moves p (body.Query question what) fair = Remains (on_body (Fair c) (fair_keeps c) f p (body.Query question what) tt fair self)
   body_moves p (body.Reply question text) fair = Remains (on_body (Fair c) (fair_keeps c) f p (body.Reply question text) tt fair self)
 
-  packet_moves : (p : Packet) → FairBody p.body → Moves Q X c (packet_row f c p)
-  unfolding packet_row
+  packet_moves : (p : Packet) → FairBody p.body → Moves Q X c (packet_rule f c p)
+  unfolding packet_rule
   packet_moves p fair = by (p.to == c.views.me)
     where
       by : (b : Bool) → Moves Q X c (elim b as (λ _. Core) [ true ↦ take_body f c p p.body | false ↦ c ])
@@ -230,7 +230,7 @@ module _ (Q : Core → Type 0) (f : Answering) (carries : Carries Q f) where
   ended_moves X a b k = moves_after Q X a b (end_step f b) (λ r z. on_ended (Fair r) (fair_keeps r) f z) k
 
   pub step_moves : (s : Core) (e : NodeEvent) → Fit s → Speaks (at_work s) → FairEvent e → Q (at_work s) → Moves Q (NotCall e) (at_work s) (stepped f s e)
-  unfolding stepped event_row tick_row tick_views
+  unfolding stepped event_rule tick_rule tick_views
   step_moves s Ticks fit speaks fair holds =
       let a : Core = at_work s in
       let b : Core = tick_rings a in
@@ -244,7 +244,7 @@ module _ (Q : Core → Type 0) (f : Answering) (carries : Carries Q f) where
   step_moves s (Asks mask) fit speaks fair holds =
       ended_moves (Unit {0}) (at_work s) (take_order f (at_work s) mask) (order_moves Q (Unit {0}) tt f carries (at_work s) fit.order fit.views speaks holds mask)
   step_moves s (Given p) fit speaks fair holds =
-      ended_moves (Unit {0}) (at_work s) (packet_row f (at_work s) p) (packet_moves Q (Unit {0}) tt f carries (at_work s) fit.order fit.views speaks holds p fair)
+      ended_moves (Unit {0}) (at_work s) (packet_rule f (at_work s) p) (packet_moves Q (Unit {0}) tt f carries (at_work s) fit.order fit.views speaks holds p fair)
   step_moves s (Calls x) fit speaks fair holds =
       Remains (on_ended (Fair (at_work s)) (fair_keeps (at_work s)) f (on_call (Fair (at_work s)) (fair_keeps (at_work s)) x (fair_self (at_work s) speaks)))
   step_moves s Garbage fit speaks fair holds =

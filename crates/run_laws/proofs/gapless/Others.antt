@@ -15,7 +15,7 @@ use Rattle.run_safety.specs.SafeHeard.{is_left_behind, enters}
 use Rattle.run_safety.specs.Stays.{stays}
 use Rattle.run_safety.proofs.Tests.{any_has}
 use Rattle.step_refinement.specs.Tied.{Scene}
-use Rattle.step_refinement.specs.Rows.{starts_too}
+use Rattle.step_refinement.specs.Rules.{starts_too}
 use Rattle.step_refinement.specs.Runs.{IsNote}
 use Rattle.provider_laws.proofs.attending.OrderLaw.{with_is, started_stays, others_stay}
 use Rattle.run_laws.proofs.gapless.FairWalk.{Mild}

@@ -14,7 +14,7 @@ use Rattle.node_state.specs.Step.{NodeEvent, at_work, stepped}
 use Rattle.world_model.specs.declared.event.Event.{Event}
 use Rattle.run_safety.specs.SafeHeard.{LeftBehind, enters}
 use Rattle.step_refinement.specs.Tied.{Scene}
-use Rattle.step_refinement.specs.Rows.{over, Arises}
+use Rattle.step_refinement.specs.Rules.{over, Arises}
 use Rattle.step_refinement.specs.Runs.{Reached}
 use Rattle.row_laws.proofs.hearing.Listening.{reverse_has}
 use Rattle.row_laws.proofs.hearing.Added.{enters_add}

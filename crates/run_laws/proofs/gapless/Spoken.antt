@@ -13,7 +13,7 @@ use Rattle.node_state.specs.State.{with_sessions}
 use Rattle.node_state.specs.HandOn.{Answering}
 use Rattle.node_state.specs.Step.{NodeEvent, Ticks, Asks, Given, Calls, Garbage, at_work, started, stepped}
 use Rattle.step_refinement.specs.Tied.{Scene}
-use Rattle.step_refinement.specs.Rows.{at_node, nothing_yet, starts_too, Arises}
+use Rattle.step_refinement.specs.Rules.{at_node, nothing_yet, starts_too, Arises}
 use Rattle.step_refinement.specs.Runs.{Reached, Nothing, AllStart, Starts, Stops, Steps, Notes}
 use Rattle.step_refinement.proofs.Changed.{each_set}
 use Rattle.row_laws.proofs.hearing.Listening.{reached_attends}

@@ -29,7 +29,7 @@ use Rattle.world_model.specs.declared.event.Event.TheVariants as event
 use Rattle.run_safety.specs.Past.{History, Within, earlier, records_of, inc_now}
 use Rattle.run_safety.specs.Stays.{Stay, stays, part, takes_part, client_of, is_named, goodbye_of, is_refused, ends, lets_go, was_let_go}
 use Rattle.step_refinement.specs.Tied.{Scene, NodeIsIf, Rests, InTurn}
-use Rattle.step_refinement.specs.Rows.{over, ended, Arises}
+use Rattle.step_refinement.specs.Rules.{over, ended, Arises}
 use Rattle.step_refinement.specs.Runs.{Reached}
 use Rattle.step_refinement.specs.Runs as runs
 use Rattle.step_refinement.proofs.Begins.{begin_tied}

@@ -22,7 +22,7 @@ use Rattle.world_model.specs.Run.{Happening}
 use Rattle.run_safety.specs.Past.{History, Within, records_of, inc_now}
 use Rattle.run_safety.specs.Stays.{stays, asks_join, client_of, goodbye_of, was_let_go}
 use Rattle.step_refinement.specs.Tied.{Scene, NodeIsIf}
-use Rattle.step_refinement.specs.Rows.{over, nothing_yet, with_records, start_with, starts_too, stopped, all_started}
+use Rattle.step_refinement.specs.Rules.{over, nothing_yet, with_records, start_with, starts_too, stopped, all_started}
 use Rattle.step_refinement.specs.Runs.{IsNote, noted, Reached}
 use Rattle.step_refinement.specs.Runs as runs
 use Rattle.step_refinement.proofs.Changed.{each_set, set_here}

@@ -1,4 +1,4 @@
--- The rows of views and of rings, and a whole step from its call on, keep what a walk keeps.
+-- The rules of views and of rings, and a whole step from its call on, keep what a walk keeps.
 use Rattle.std.proofs.Common.{ℕ, List, [], ◌∷◌, Option, Some, None, Bool, true, false, refl, sym, subst, inl, inr, ⊎_elim}
 use Rattle.std.specs.Prelude.{not, ◌==◌, ◌&&◌, filter, find, fold, flat_map, is_some}
 use Rattle.std.specs.Str.{bytes_eq}
@@ -35,7 +35,7 @@ use Rattle.view_state.specs.declared.packet.ViewPacket.{ViewPacket}
 use Rattle.view_state.specs.declared.packet.ViewPacket.TheVariants as packet
 use Rattle.view_state.specs.declared.packet.ViewSend.{ViewSend}
 use Rattle.view_state.specs.declared.views.ViewWork.{ViewWork}
-use Rattle.view_state.specs.Views.{views_at_work, ask_row, prepare_row, answer_row, refuse_row, install_row, taken_row, gathering_ticks, install_again}
+use Rattle.view_state.specs.Views.{views_at_work, ask_rule, prepare_rule, answer_rule, refuse_rule, install_rule, taken_rule, gathering_ticks, install_again}
 use Rattle.packet_bodies.specs.declared.body.ReportRow.{ReportRow}
 use Rattle.node_state.specs.declared.group.GroupRow.{GroupRow}
 use Rattle.node_state.specs.declared.happened.Happened.{Happened}
@@ -50,14 +50,14 @@ use Rattle.node_state.specs.Sending.{send_on, sent}
 use Rattle.node_state.specs.HandOn.{Answering, note_of, subscriber_name}
 use Rattle.node_state.specs.Leading.{put_and_hand, with_waiting}
 use Rattle.node_state.specs.Applying.{Lacking, lacking, own_parts, fill_lists, view_entered, is_in_base, number_of, dissolved, dissolved_if, group_dissolved, sides_dissolved, base_note, entering_note, entering_noted, taken_sent, owed_sent, wait_failed, phase_reopened, lead, lead_groups, entered, entered_if, apply_install, views_taken}
-use Rattle.node_state.specs.Ticks.{row_reported, take_report, ring_put, set_records, ring_taken, ring_row_of, ring_row, rings_union, report_of, send_report, rings_tick, ring_ask, tick_rings, tick_views, tick_row}
+use Rattle.node_state.specs.Ticks.{row_reported, take_report, ring_put, set_records, ring_taken, ring_rule_of, ring_rule, rings_union, report_of, send_report, rings_tick, ring_ask, tick_rings, tick_views, tick_rule}
 use Rattle.node_state.specs.Status.{status_text}
-use Rattle.node_state.specs.Step.{NodeEvent, Ticks, Asks, Given, Calls, Garbage, is_used, used_if, take_order, view_row, take_body, packet_row, event_row, stepped, at_work}
+use Rattle.node_state.specs.Step.{NodeEvent, Ticks, Asks, Given, Calls, Garbage, is_used, used_if, take_order, view_rule, take_body, packet_rule, event_rule, stepped, at_work}
 use Rattle.row_laws.proofs.failed_rows.Origin.{root_of}
 use Rattle.row_laws.proofs.failed_rows.InView.{InView, stay_asks, stay_prepares, stay_answers, stay_refuses, stay_installs, stay_takes, stay_ticks, stay_reminds}
 use Rattle.view_state.specs.declared.answer.Answer.{Answer}
 use Rattle.run_laws.proofs.gapless.TakerWalk.{Fine, Keeps, on_either, on_fold, on_sends, on_sent_on, on_sent, on_sent_all, on_records, on_put_handed, on_waiting, on_opened, on_closes, on_ended}
-use Rattle.run_laws.proofs.gapless.TakerRows.{on_requests, on_votes, on_owed_part, on_lookup, on_tell, on_name, on_request, on_entry, on_ack, on_vote, on_gone, on_led_part}
+use Rattle.run_laws.proofs.gapless.TakerRules.{on_requests, on_votes, on_owed_part, on_lookup, on_tell, on_name, on_request, on_entry, on_ack, on_vote, on_gone, on_led_part}
 
 module _ (P : Core → Type 0) (k : Keeps P) where
   -- ---- entering a view
@@ -135,7 +135,7 @@ module _ (P : Core → Type 0) (k : Keeps P) where
       by None = p
       by (Some xs) = on_entered f i xs p
 
-  -- ---- what a row of views leaves
+  -- ---- what a rule of views leaves
 
   pub on_views_taken : (f : Answering) {s : Core} (w : ViewWork) → InView (views_at_work s.views) w → P s → P (views_taken f s w)
   unfolding views_taken len_of state_of list_of row_of
@@ -146,17 +146,17 @@ module _ (P : Core → Type 0) (k : Keeps P) where
   on_order : (f : Answering) {s : Core} (mask : Mask) → P s → P (take_order f s mask)
   unfolding take_order
   on_order f {s} mask p =
-      on_either P k (is_fixed s.config.mode) p (on_views_taken f (ask_row (views_at_work s.views) mask (own_parts s)) (stay_asks (views_at_work s.views) mask (own_parts s)) p)
+      on_either P k (is_fixed s.config.mode) p (on_views_taken f (ask_rule (views_at_work s.views) mask (own_parts s)) (stay_asks (views_at_work s.views) mask (own_parts s)) p)
 
-  on_view : (f : Answering) {s : Core} (from inc : ℕ) (y : ViewPacket) → P s → P (view_row f s from inc y)
-  unfolding view_row
+  on_view : (f : Answering) {s : Core} (from inc : ℕ) (y : ViewPacket) → P s → P (view_rule f s from inc y)
+  unfolding view_rule
   on_view f {s} from inc (packet.Prepare v mask) p =
-      on_views_taken f (prepare_row (views_at_work s.views) from inc v mask (own_parts s)) (stay_prepares (views_at_work s.views) from inc v mask (own_parts s)) p
+      on_views_taken f (prepare_rule (views_at_work s.views) from inc v mask (own_parts s)) (stay_prepares (views_at_work s.views) from inc v mask (own_parts s)) p
   on_view f {s} from inc (packet.Answer v old parts) p =
-      let x : Answer = record { node = from; inc = inc; view = old; parts = parts } in on_views_taken f (answer_row (views_at_work s.views) v x) (stay_answers (views_at_work s.views) v x) p
-  on_view f {s} from inc (packet.Refuse v n) p = on_views_taken f (refuse_row (views_at_work s.views) v n) (stay_refuses (views_at_work s.views) v n) p
-  on_view f {s} from inc (packet.Install i) p = on_views_taken f (install_row (views_at_work s.views) i) (stay_installs (views_at_work s.views) i) p
-  on_view f {s} from inc (packet.Taken v) p = on_views_taken f (taken_row (views_at_work s.views) from v) (stay_takes (views_at_work s.views) from v) p
+      let x : Answer = record { node = from; inc = inc; view = old; parts = parts } in on_views_taken f (answer_rule (views_at_work s.views) v x) (stay_answers (views_at_work s.views) v x) p
+  on_view f {s} from inc (packet.Refuse v n) p = on_views_taken f (refuse_rule (views_at_work s.views) v n) (stay_refuses (views_at_work s.views) v n) p
+  on_view f {s} from inc (packet.Install i) p = on_views_taken f (install_rule (views_at_work s.views) i) (stay_installs (views_at_work s.views) i) p
+  on_view f {s} from inc (packet.Taken v) p = on_views_taken f (taken_rule (views_at_work s.views) from v) (stay_takes (views_at_work s.views) from v) p
 
   on_views_part : (f : Answering) {s : Core} → P s → P (tick_views f s)
   unfolding tick_views
@@ -191,11 +191,11 @@ module _ (P : Core → Type 0) (k : Keeps P) where
       let e : Core = fold (λ u (y : RingSend). send_on u y.network y.to (body.Ring y.packet)) d x.sends in
       on_records P k (set_records s.views.me x.ring.net x.set) (set_fine s.views.me x.ring.net x.set) (on_fold P k (λ u (y : RingSend). send_on u y.network y.to (body.Ring y.packet)) (λ u y q. on_sent_on P k y.network y.to (body.Ring y.packet) q) x.sends (on_sends P k {s = s} {t = d} (record { groups = refl; views = refl; sessions = refl; records = refl }) p))
 
-  on_ring : {s : Core} (network from inc : ℕ) (x : RingPacket) → P s → P (ring_row s network from inc x)
-  unfolding ring_row ring_row_of
+  on_ring : {s : Core} (network from inc : ℕ) (x : RingPacket) → P s → P (ring_rule s network from inc x)
+  unfolding ring_rule ring_rule_of
   on_ring {s} network from inc x p = by (find (λ (r : Ring). r.net == network) s.rings)
     where
-      by : (o : Option Ring) → P (ring_row_of s from inc x o)
+      by : (o : Option Ring) → P (ring_rule_of s from inc x o)
       by None = p
       by (Some r) = on_taken (ring_step r (ring_event.Packet from inc x)) p
 
@@ -222,13 +222,13 @@ module _ (P : Core → Type 0) (k : Keeps P) where
   on_body f {s} q (body.Query question what) p = on_sent_on P k q.network q.from (body.Reply question (status_text s what)) p
   on_body f q (body.Reply question text) p = p
 
-  on_packet : (f : Answering) {s : Core} (q : Packet) → P s → P (packet_row f s q)
-  unfolding packet_row
+  on_packet : (f : Answering) {s : Core} (q : Packet) → P s → P (packet_rule f s q)
+  unfolding packet_rule
   on_packet f {s} q p = on_either P k (q.to == s.views.me) (on_body f q q.body p) p
 
   -- what holds after the call of a step, or before any other step, holds after it
   pub on_stepped : (f : Answering) (s : Core) (e : NodeEvent) → P (root_of (at_work s) e) → P (stepped f s e)
-  unfolding stepped event_row tick_row
+  unfolding stepped event_rule tick_rule
   on_stepped f s Ticks p = on_ended P k f (on_led_part P k f (on_owed_part P k (on_views_part f (on_rings p))))
   on_stepped f s (Asks mask) p = on_ended P k f (on_order f mask p)
   on_stepped f s (Given q) p = on_ended P k f (on_packet f q p)

@@ -33,7 +33,7 @@ use Rattle.run_safety.specs.Requests.{IsJoin}
 use Rattle.run_safety.specs.Stays.{Stay, stays, is_join_of, is_dissolved, passes, first_in, last_in, part, from_first, up_to_last, takes_part, was_let_go}
 use Rattle.run_safety.specs.ViewOrder.{Lt}
 use Rattle.step_refinement.specs.Tied.{Scene}
-use Rattle.step_refinement.specs.Rows.{Arises}
+use Rattle.step_refinement.specs.Rules.{Arises}
 use Rattle.step_refinement.specs.Runs.{Reached}
 use Rattle.row_laws.specs.hearing.Changes.{Aside, entering, Does}
 use Rattle.row_laws.proofs.hearing.Added.{Adds, enters_add}

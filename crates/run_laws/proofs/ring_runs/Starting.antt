@@ -23,7 +23,7 @@ use Rattle.node_state.specs.Settings.{is_fixed, networks, addresses_on, address_
 use Rattle.node_state.specs.State.{with_sessions}
 use Rattle.node_state.specs.Step.{own_ring, own_rings, first_view, first_members, ring_record, started}
 use Rattle.view_state.specs.Views.{views_new}
-use Rattle.step_refinement.specs.Rows.{at_node}
+use Rattle.step_refinement.specs.Rules.{at_node}
 use Rattle.step_refinement.proofs.Changed.{set_here, set_there, each_set}
 use Rattle.run_laws.specs.ring_runs.Rings.{ring_settings}
 use Rattle.run_laws.proofs.ring_runs.Finding.{is_on, is_of, nets_of, Differ, first_here, first_there}

@@ -18,7 +18,7 @@ use Rattle.adapter_ring.specs.declared.ring.Ring.{Ring}
 use Rattle.adapter_ring.specs.declared.ring.Gathering.{Gathering}
 use Rattle.adapter_ring.specs.declared.work.RingWork.{RingWork}
 use Rattle.adapter_ring.specs.Addresses.{outside}
-use Rattle.adapter_ring.specs.Rings.{ring_send, ring_send_all, ring_set, ring_close, ring_gathering, next_ring, ring_numbered, ring_gather_on, ring_gather, ring_alone, send_heartbeat, ring_proclaim, ring_beat, death_counts, death_row, tell_death, ring_wait_on, ring_wait, ring_ages_of, ring_age, ring_tick, heartbeat_row, proclaim_row, takes_join, join_row, ptc_row, ack_row_of, ack_row, commit_row, packet_row, ring_row, at_work, ring_step, is_shared, neighbour, upstream, death_told_to, patience, ring_leads, answers_proclaim, may_promise, is_promised}
+use Rattle.adapter_ring.specs.Rings.{ring_send, ring_send_all, ring_set, ring_close, ring_gathering, next_ring, ring_numbered, ring_gather_on, ring_gather, ring_alone, send_heartbeat, ring_proclaim, ring_beat, death_counts, death_rule, tell_death, ring_wait_on, ring_wait, ring_ages_of, ring_age, ring_tick, heartbeat_rule, proclaim_rule, takes_join, join_rule, ptc_rule, ack_rule_of, ack_rule, commit_rule, packet_rule, ring_rule, at_work, ring_step, is_shared, neighbour, upstream, death_told_to, patience, ring_leads, answers_proclaim, may_promise, is_promised}
 
 -- of this network, node and incarnation
 pub record OwnWork (net n j : ℕ) (w : RingWork) : Type 0 where
@@ -102,14 +102,14 @@ module _ (net n j : ℕ) where
       (of_either (ring_leads v.ring && is_none v.ring.gathering) (ring_send_all v (outside v.ring.settings v.ring.members) (Proclaim v.ring.id)) v (sent_to v (outside v.ring.settings v.ring.members) (Proclaim v.ring.id) q) q)
       (again w x refl refl refl refl o)
 
-  deaths : (w : RingWork) (id : RingId) (d : ℕ) → Ok w → Ok (death_row w id d)
-  unfolding death_row
+  deaths : (w : RingWork) (id : RingId) (d : ℕ) → Ok w → Ok (death_rule w id d)
+  unfolding death_rule
   deaths w id d o = of_either (death_counts w.ring id d) (ring_gather w (without_node w.ring.members d)) w (gathers w (without_node w.ring.members d) o) o
 
   death_said : (w : RingWork) (d to : ℕ) → Ok w → Ok (tell_death w d to)
   unfolding tell_death
   death_said w d to o =
-      of_either (to == w.ring.me) (death_row w w.ring.id d) (ring_send w to (Death w.ring.id d)) (deaths w w.ring.id d o) (sent_one w to (Death w.ring.id d) o)
+      of_either (to == w.ring.me) (death_rule w w.ring.id d) (ring_send w to (Death w.ring.id d)) (deaths w w.ring.id d o) (sent_one w to (Death w.ring.id d) o)
 
   waited : (w : RingWork) → Ok w → Ok (ring_wait_on w)
   unfolding ring_wait_on
@@ -137,8 +137,8 @@ module _ (net n j : ℕ) where
 
   -- ---- packets
 
-  packets : (w : RingWork) (from inc : ℕ) (p : RingPacket) → Ok w → Ok (packet_row w from inc p)
-  unfolding packet_row heartbeat_row proclaim_row join_row ptc_row ack_row ack_row_of commit_row
+  packets : (w : RingWork) (from inc : ℕ) (p : RingPacket) → Ok w → Ok (packet_rule w from inc p)
+  unfolding packet_rule heartbeat_rule proclaim_rule join_rule ptc_rule ack_rule ack_rule_of commit_rule
   packets w from inc (Heartbeat id) o =
       let v : RingWork = record w { ring = record (w.ring) { silent = 0 } } in
       of_either (same_ring id w.ring.id && is_shared w.ring && from == upstream w.ring) v w (again w v refl refl refl refl o) o
@@ -151,7 +151,7 @@ module _ (net n j : ℕ) where
       of_either (may_promise w.ring from inc id ms) (ring_send v from (PtcAck id)) w (sent_one v from (PtcAck id) (again w v refl refl refl refl o)) o
   packets w from inc (PtcAck id) o = by w.ring.gathering
     where
-      by : (g : Option Gathering) → Ok (ack_row_of w from id g)
+      by : (g : Option Gathering) → Ok (ack_rule_of w from id g)
       by None = o
       by (Some g) =
           let f : Gathering = record g { gather = gather_acked g.gather from } in
@@ -161,12 +161,12 @@ module _ (net n j : ℕ) where
   packets w from inc (Death id d) o = deaths w id d o
 
 pub own_step : (r : Ring) (e : RingEvent) → OwnWork r.net r.me r.inc (ring_step r e)
-unfolding ring_step at_work ring_row ring_tick
+unfolding ring_step at_work ring_rule ring_tick
 own_step r e = by e
   where
     begun : OwnWork r.net r.me r.inc (at_work r)
     begun = record { net_is = refl; me = refl; inc = refl; sends = λ x h. absurd h }
 
-    by : (e : RingEvent) → OwnWork r.net r.me r.inc (ring_row (at_work r) e)
+    by : (e : RingEvent) → OwnWork r.net r.me r.inc (ring_rule (at_work r) e)
     by Tick = ages r.net r.me r.inc (ring_wait (ring_beat (at_work r))) (waits r.net r.me r.inc (ring_beat (at_work r)) (beats r.net r.me r.inc (at_work r) begun))
     by (Packet from inc p) = packets r.net r.me r.inc (at_work r) from inc p begun

@@ -1,4 +1,4 @@
--- The rows of rings: a tick, and a packet of a ring, happen to the network.
+-- The rules of rings: a tick, and a packet of a ring, happen to the network.
 use Rattle.std.proofs.Common.{◌≡◌, ◌≢◌, ℕ, zero, suc, List, [], ◌∷◌, ◌++◌, Option, Some, None, Bool, true, false, refl, sym, ap, ◌∙◌, subst, inl, inr, ⊎_elim}
 use Rattle.std.specs.Prelude.{◌==◌, not, filter, fold, find, slice_get}
 use Rattle.std.proofs.lemmas.Bool.{cases_eq, eqb-true}
@@ -20,7 +20,7 @@ use Rattle.node_state.specs.declared.state.Core.{Core}
 use Rattle.node_state.specs.Settings.{is_rings}
 use Rattle.node_state.specs.State.{recorded_all}
 use Rattle.node_state.specs.Sending.{send_on}
-use Rattle.node_state.specs.Ticks.{ring_put, ring_taken, ring_row_of, ring_row, rings_union, report_of, send_report, rings_tick, tick_rings}
+use Rattle.node_state.specs.Ticks.{ring_put, ring_taken, ring_rule_of, ring_rule, rings_union, report_of, send_report, rings_tick, tick_rings}
 use Rattle.step_refinement.specs.Tied.{Scene}
 use Rattle.run_laws.specs.ring_runs.Rings.{ring_settings}
 use Rattle.run_laws.proofs.ring_runs.Stepping.{own_step}
@@ -94,14 +94,14 @@ module _ (net : ℕ) (w : Scene) (n : ℕ) where
       by false = p
 
   -- a packet that was sent is given to the ring of its network
-  pub ring_row_played : (s : Core) (p : Packet) (x : RingPacket) → Has p w.sent → p.to ≡ s.views.me → p.body ≡ body.Ring x → Played net w n s → Played net w n (ring_row s p.network p.from p.inc x)
-  unfolding ring_row ring_row_of happens given_in stepped_in
+  pub ring_row_played : (s : Core) (p : Packet) (x : RingPacket) → Has p w.sent → p.to ≡ s.views.me → p.body ≡ body.Ring x → Played net w n s → Played net w n (ring_rule s p.network p.from p.inc x)
+  unfolding ring_rule ring_rule_of happens given_in stepped_in
   ring_row_played s p x sent to is h = by (find (is_on p.network) s.rings) refl
     where
       v : Network
       v = h.0
 
-      by : (o : Option Ring) → find (is_on p.network) s.rings ≡ o → P (ring_row_of s p.from p.inc x o)
+      by : (o : Option Ring) → find (is_on p.network) s.rings ≡ o → P (ring_rule_of s p.from p.inc x o)
       by None e = h
       by (Some r) e = ⊎_elim this other (cases_eq r.net net)
         where

@@ -1,4 +1,4 @@
--- The rows of views, and a whole step, keep what holds of a node's rings where the rows of rings do.
+-- The rules of views, and a whole step, keep what holds of a node's rings where the rules of rings do.
 use Rattle.std.proofs.Common.{◌≡◌, ℕ, List, [], ◌∷◌, Option, Some, None, Bool, true, false, refl, sym, subst, inl, inr, ⊎_elim}
 use Rattle.std.specs.Prelude.{not, ◌==◌, ◌&&◌, map, filter, fold, flat_map, is_some}
 use Rattle.std.specs.Str.{bytes_eq}
@@ -29,7 +29,7 @@ use Rattle.view_state.specs.declared.packet.ViewPacket.{ViewPacket}
 use Rattle.view_state.specs.declared.packet.ViewPacket.TheVariants as packet
 use Rattle.view_state.specs.declared.packet.ViewSend.{ViewSend}
 use Rattle.view_state.specs.declared.views.ViewWork.{ViewWork}
-use Rattle.view_state.specs.Views.{views_entered, views_at_work, ask_row, prepare_row, answer_row, refuse_row, install_row, taken_row, gathering_ticks, install_again}
+use Rattle.view_state.specs.Views.{views_entered, views_at_work, ask_rule, prepare_rule, answer_rule, refuse_rule, install_rule, taken_rule, gathering_ticks, install_again}
 use Rattle.packet_bodies.specs.declared.body.ReportRow.{ReportRow}
 use Rattle.node_state.specs.declared.group.GroupRow.{GroupRow}
 use Rattle.node_state.specs.declared.happened.Happened.{Happened}
@@ -44,14 +44,14 @@ use Rattle.node_state.specs.Sending.{sent}
 use Rattle.node_state.specs.HandOn.{Answering, note_of, subscriber_name}
 use Rattle.node_state.specs.Leading.{put_and_hand, with_waiting}
 use Rattle.node_state.specs.Applying.{Lacking, lacking, own_parts, fill_lists, level_set, base_row, base_leader, base_record, view_entered, is_in_base, number_of, dissolved, dissolved_if, group_dissolved, sides_dissolved, base_note, entering_note, entering_noted, taken_sent, owed_sent, wait_failed, phase_reopened, lead, lead_groups, entered, entered_if, apply_install, views_taken}
-use Rattle.node_state.specs.Ticks.{row_reported, take_report, ring_ask, ring_row, tick_rings, tick_views, tick_row}
+use Rattle.node_state.specs.Ticks.{row_reported, take_report, ring_ask, ring_rule, tick_rings, tick_views, tick_rule}
 use Rattle.node_state.specs.Status.{status_text}
-use Rattle.node_state.specs.Step.{NodeEvent, Ticks, Asks, Given, Calls, Garbage, is_used, used_if, take_order, view_row, take_body, packet_row, event_row, stepped, at_work}
+use Rattle.node_state.specs.Step.{NodeEvent, Ticks, Asks, Given, Calls, Garbage, is_used, used_if, take_order, view_rule, take_body, packet_rule, event_rule, stepped, at_work}
 use Rattle.step_refinement.specs.Tied.{Scene}
-use Rattle.step_refinement.specs.Rows.{Arises}
+use Rattle.step_refinement.specs.Rules.{Arises}
 use Rattle.row_laws.proofs.hearing.Whose.{Whose, whose_asks, whose_prepares, whose_answers, whose_refuses, whose_installs, whose_takes, whose_ticks, whose_reminds}
 use Rattle.run_laws.proofs.ring_runs.Leading.{Aside, Keeps, on_either, on_fold, on_sessions, on_sent, on_records, on_put_handed, on_waiting, on_opened, on_closes, on_ended}
-use Rattle.run_laws.proofs.ring_runs.Rows.{on_requests, on_votes, on_owed_part, on_lookup, on_tell, on_name, on_request, on_entry, on_ack, on_vote, on_gone, on_led_part, on_call}
+use Rattle.run_laws.proofs.ring_runs.Rules.{on_requests, on_votes, on_owed_part, on_lookup, on_tell, on_name, on_request, on_entry, on_ack, on_vote, on_gone, on_led_part, on_call}
 
 module _ (P : Core → Type 0) (k : Keeps P) where
   -- ---- entering a view
@@ -141,7 +141,7 @@ module _ (P : Core → Type 0) (k : Keeps P) where
       by None = p
       by (Some xs) = on_entered f i xs p
 
-  -- ---- what a row of views leaves
+  -- ---- what a rule of views leaves
 
   on_views_taken : (f : Answering) {s : Core} (w : ViewWork) → Whose (views_at_work s.views) w → P s → P (views_taken f s w)
   unfolding views_taken
@@ -152,17 +152,17 @@ module _ (P : Core → Type 0) (k : Keeps P) where
   on_order : (f : Answering) {s : Core} (mask : Mask) → P s → P (take_order f s mask)
   unfolding take_order
   on_order f {s} mask p =
-      on_either P k (is_fixed s.config.mode) p (on_views_taken f (ask_row (views_at_work s.views) mask (own_parts s)) (whose_asks (views_at_work s.views) mask (own_parts s)) p)
+      on_either P k (is_fixed s.config.mode) p (on_views_taken f (ask_rule (views_at_work s.views) mask (own_parts s)) (whose_asks (views_at_work s.views) mask (own_parts s)) p)
 
-  on_view : (f : Answering) {s : Core} (from inc : ℕ) (y : ViewPacket) → P s → P (view_row f s from inc y)
-  unfolding view_row
+  on_view : (f : Answering) {s : Core} (from inc : ℕ) (y : ViewPacket) → P s → P (view_rule f s from inc y)
+  unfolding view_rule
   on_view f {s} from inc (packet.Prepare v mask) p =
-      on_views_taken f (prepare_row (views_at_work s.views) from inc v mask (own_parts s)) (whose_prepares (views_at_work s.views) from inc v mask (own_parts s)) p
+      on_views_taken f (prepare_rule (views_at_work s.views) from inc v mask (own_parts s)) (whose_prepares (views_at_work s.views) from inc v mask (own_parts s)) p
   on_view f {s} from inc (packet.Answer v old parts) p =
-      on_views_taken f (answer_row (views_at_work s.views) v (record { node = from; inc = inc; view = old; parts = parts })) (whose_answers (views_at_work s.views) v (record { node = from; inc = inc; view = old; parts = parts })) p
-  on_view f {s} from inc (packet.Refuse v n) p = on_views_taken f (refuse_row (views_at_work s.views) v n) (whose_refuses (views_at_work s.views) v n) p
-  on_view f {s} from inc (packet.Install i) p = on_views_taken f (install_row (views_at_work s.views) i) (whose_installs (views_at_work s.views) i) p
-  on_view f {s} from inc (packet.Taken v) p = on_views_taken f (taken_row (views_at_work s.views) from v) (whose_takes (views_at_work s.views) from v) p
+      on_views_taken f (answer_rule (views_at_work s.views) v (record { node = from; inc = inc; view = old; parts = parts })) (whose_answers (views_at_work s.views) v (record { node = from; inc = inc; view = old; parts = parts })) p
+  on_view f {s} from inc (packet.Refuse v n) p = on_views_taken f (refuse_rule (views_at_work s.views) v n) (whose_refuses (views_at_work s.views) v n) p
+  on_view f {s} from inc (packet.Install i) p = on_views_taken f (install_rule (views_at_work s.views) i) (whose_installs (views_at_work s.views) i) p
+  on_view f {s} from inc (packet.Taken v) p = on_views_taken f (taken_rule (views_at_work s.views) from v) (whose_takes (views_at_work s.views) from v) p
 
   on_views_part : (f : Answering) {s : Core} → P s → P (tick_views f s)
   unfolding tick_views
@@ -182,7 +182,7 @@ module _ (P : Core → Type 0) (k : Keeps P) where
   on_used true q p = q
   on_used false q p = p
 
-  module _ (w : Scene) (ticks : (s : Core) → P s → P (tick_rings s)) (given : (s : Core) (p : Packet) (x : RingPacket) → Has p w.sent → p.to ≡ s.views.me → p.body ≡ body.Ring x → P s → P (ring_row s p.network p.from p.inc x)) where
+  module _ (w : Scene) (ticks : (s : Core) → P s → P (tick_rings s)) (given : (s : Core) (p : Packet) (x : RingPacket) → Has p w.sent → p.to ≡ s.views.me → p.body ≡ body.Ring x → P s → P (ring_rule s p.network p.from p.inc x)) where
     on_body : (f : Answering) {s : Core} (q : Packet) (b : Body) → q.body ≡ b → q.to ≡ s.views.me → Has q w.sent → P s → P (take_body f s q b)
     unfolding take_body
     on_body f {s} q (body.Ring x) is to sent p = given s q x sent to is p
@@ -199,8 +199,8 @@ module _ (P : Core → Type 0) (k : Keeps P) where
     on_body f {s} q (body.Query question what) is to sent p = k.sends s q.network q.from (body.Reply question (status_text s what)) tt p
     on_body f q (body.Reply question text) is to sent p = p
 
-    on_packet : (f : Answering) {s : Core} (q : Packet) → Has q w.sent → P s → P (packet_row f s q)
-    unfolding packet_row
+    on_packet : (f : Answering) {s : Core} (q : Packet) → Has q w.sent → P s → P (packet_rule f s q)
+    unfolding packet_rule
     on_packet f {s} q sent p = by (q.to == s.views.me) refl
       where
         by : (b : Bool) → (q.to == s.views.me) ≡ b → P (elim b as (λ _. Core) [ true ↦ take_body f s q q.body | false ↦ s ])
@@ -209,7 +209,7 @@ module _ (P : Core → Type 0) (k : Keeps P) where
 
     -- what holds before a step holds after it
     pub on_stepped : (f : Answering) (s : Core) (e : NodeEvent) → Arises w e → P (at_work s) → P (stepped f s e)
-    unfolding stepped event_row tick_row
+    unfolding stepped event_rule tick_rule
     on_stepped f s Ticks arises p = on_ended P k f (on_led_part P k f (on_owed_part P k (on_views_part f (ticks (at_work s) p))))
     on_stepped f s (Asks mask) arises p = on_ended P k f (on_order f mask p)
     on_stepped f s (Given q) arises p = on_ended P k f (on_packet f q arises p)

@@ -27,7 +27,7 @@ use Rattle.run_safety.specs.SafeLists.{Each}
 use Rattle.run_safety.proofs.Tests.{has_any}
 use Rattle.run_safety.proofs.Lives.{whole}
 use Rattle.step_refinement.specs.Tied.{Scene, NodeIs, NodeIsIf}
-use Rattle.step_refinement.specs.Rows.{at_node, over, ended, starts_too, with_records, nothing_yet, Arises}
+use Rattle.step_refinement.specs.Rules.{at_node, over, ended, starts_too, with_records, nothing_yet, Arises}
 use Rattle.step_refinement.specs.Runs.{IsNote, Reached, Nothing, AllStart, Starts, Stops, Steps, Notes}
 use Rattle.step_refinement.proofs.Changed.{set_here, set_there, each_set}
 use Rattle.step_refinement.proofs.RunLaw.{reached_rests}

@@ -10,10 +10,10 @@ returns-then-most-eq0-clause-does g t c = failures_none _ _ (receive_nothing _ _
 pub returns-then-is_empty-clause-does : goal.returns-then-is_empty-clause-does
 returns-then-is_empty-clause-does g t c =
     IfOk-weaker c.begin_failures.result _ _
-    (λ began done. failures_on _ _ c.args.core.now c.next_fallen.new.core _ began c.args.group.now c.args.most c.in_ok-out.out c.is_empty.result c.if-most-eq0.false c.in_ok-out.ensures.out c.is_empty.ensures c.if-is_empty.true c.in_ok-out.ensures.row c.in_ok-out.ensures.keeps done)
+    (λ began done. failures_on _ _ c.args.core.now c.next_fallen.new.core _ began c.args.group.now c.args.most c.in_ok-out.out c.is_empty.result c.if-most-eq0.false c.in_ok-out.ensures.out c.is_empty.ensures c.if-is_empty.true c.in_ok-out.ensures.rule c.in_ok-out.ensures.keeps done)
     c.begin_failures.ensures.does
 
 pub returns-clause-does : goal.returns-clause-does
 returns-clause-does g t c =
     failures_began _ _ c.args.core.now c.next_fallen.new.core _ c.args.group.now c.args.most c.in_ok-state.state c.in_ok-out.out c.is_empty.result c.if-most-eq0.false (rw c.bytes.ensures.value at c.in_ok-state.ensures.value)
-    c.in_ok-out.ensures.out c.is_empty.ensures c.if-is_empty.false c.in_ok-out.ensures.row c.in_ok-out.ensures.keeps c.in_ok-begin.ensures.does
+    c.in_ok-out.ensures.out c.is_empty.ensures c.if-is_empty.false c.in_ok-out.ensures.rule c.in_ok-out.ensures.keeps c.in_ok-begin.ensures.does

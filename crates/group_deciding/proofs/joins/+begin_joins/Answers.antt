@@ -12,10 +12,10 @@ pub returns-then-len-eq0-clause-does : goal.returns-then-len-eq0-clause-does
 returns-then-len-eq0-clause-does g t c =
     IfOk-weaker c.begin_joins.result _ _
     (λ began done. joins_on _ _ c.args.core.now c.next_joiners.new.core _ began c.args.group.now c.args.most c.in_ok-ps.field-0.ps c.if-most-eq0.false c.in_ok-ps.ensures.ps (sym c.len.ensures.value ∙ c.if-len-eq0.true)
-    c.in_ok-ps.ensures.row c.in_ok-ps.ensures.keeps done)
+    c.in_ok-ps.ensures.rule c.in_ok-ps.ensures.keeps done)
     c.begin_joins.ensures.does
 
 pub returns-clause-does : goal.returns-clause-does
 returns-clause-does g t c =
     joins_began _ _ c.args.core.now c.next_joiners.new.core _ c.args.group.now c.args.most c.in_ok-ps.field-0.ps c.in_ok-ps.field-0.attrs _ c.if-most-eq0.false c.in_ok-ps.ensures.ps c.in_ok-ps.ensures.attrs
-    (λ none. c.if-len-eq0.false (c.len.ensures.value ∙ none)) c.in_ok-ps.ensures.row c.in_ok-ps.ensures.keeps c.carried_len-source_len.ensures c.in_ok-begin.ensures.does
+    (λ none. c.if-len-eq0.false (c.len.ensures.value ∙ none)) c.in_ok-ps.ensures.rule c.in_ok-ps.ensures.keeps c.carried_len-source_len.ensures c.in_ok-begin.ensures.does

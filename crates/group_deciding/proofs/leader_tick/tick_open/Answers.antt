@@ -11,6 +11,6 @@ use Rattle.group_deciding.proofs.leader_tick.tick_open.Goals as goal
 pub returns-clause-does : goal.returns-clause-does
 returns-clause-does g c =
     on_ok_weaker c.close.result
-    (λ done. phase_does _ _ _ _ (receive_then _ _ _ _) c.args.core.now c.announce.new.core c.tick_tally.new.core c.close.new.core c.args.group.now _ c.requires.opened c.in_ok-announce.ensures.does c.in_ok-tick_tally.ensures.row c.in_ok-tick_tally.ensures.keeps
+    (λ done. phase_does _ _ _ _ (receive_then _ _ _ _) c.args.core.now c.announce.new.core c.tick_tally.new.core c.close.new.core c.args.group.now _ c.requires.opened c.in_ok-announce.ensures.does c.in_ok-tick_tally.ensures.rule c.in_ok-tick_tally.ensures.keeps
     (subst (λ (scripts : Scripts). Does scripts (Receive g.C.Callbacks.stands_for c.announce.new.clients.items c.close.new.clients.items) c.tick_tally.new.core c.close.new.core (λ f. closes f c.tick_tally.new.core c.args.group.now)) c.in_ok-announce.ensures.scripts done))
     c.close.ensures.does

@@ -9,7 +9,7 @@ pub returns-in-Join-clause-does : goal.returns-in-Join-clause-does
 returns-in-Join-clause-does g c =
     on_ok_weaker c.decide_join.result
     (join_does _ _ (receive_nothing _ _) c.args.core.now c.decide_join.new.core c.args.group.now c.args.provider c.args.request c.args.phases c.args.proposal.now c.in-Join.ps c.in-Join.attrs c.in-Join.source_len c.in-Join.is)
-    (on_ok_both _ _ c.decide_join.result c.decide_join.ensures.row c.decide_join.ensures.keeps)
+    (on_ok_both _ _ c.decide_join.result c.decide_join.ensures.rule c.decide_join.ensures.keeps)
 
 pub returns-in_default : goal.returns-in_default
 returns-in_default g c =

@@ -15,5 +15,5 @@ pub returns-clause-does : goal.returns-clause-does
 returns-clause-does g c =
     on_ok_weaker c.new_members_wait.result
     (λ waiting. append_finished_does _ _ c.args.core.now c.send_and_hand.new.core c.forget_least.new.core c.new_members_wait.new.core c.args.group.now c.args.place c.args.before.now c.args.after.now c.args.entry.now
-    c.requires.state c.in_ok-send_and_hand.ensures.does c.in_ok-forget_least.ensures.row c.in_ok-forget_least.ensures.keeps waiting)
+    c.requires.state c.in_ok-send_and_hand.ensures.does c.in_ok-forget_least.ensures.rule c.in_ok-forget_least.ensures.keeps waiting)
     c.new_members_wait.ensures

@@ -31,4 +31,4 @@ returns-clause-does g c =
     let used : is_name_used c.args.core.now c.args.group.now c.args.node ≡ true = sym (rw c.bytes.ensures.value at c.if-not-is_name_used.ensures) in
     on_ok_two c.know_leader.result
     (λ led keeps. does_plain _ _ c.args.core.now c.know_leader.new.core (take_name c.args.core.now c.args.group.now c.args.node) (receive_nothing _ _) (name_led c.args.core.now c.know_leader.new.core c.args.group.now c.args.node used c.if-node-eq0.false led) (keeps_follows c.args.core.now c.know_leader.new.core keeps))
-    c.know_leader.ensures.row c.know_leader.ensures.keeps
+    c.know_leader.ensures.rule c.know_leader.ensures.keeps

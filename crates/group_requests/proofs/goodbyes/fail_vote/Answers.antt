@@ -14,4 +14,4 @@ returns-then-is_none-clause-does g c =
 pub returns-clause-does : goal.returns-clause-does
 returns-clause-does g c =
     let some : is_some (led_of c.args.core.now c.args.group.now).tally ≡ true = copied_is c.tally_of.result _ _ (rw c.bytes.ensures.value at c.tally_of.ensures) c.if-is_none.ensures in
-    on_ok_weaker c.close.result (failing_does _ _ c.args.core.now c.fail_voter.new.core c.close.new.core c.args.group.now c.args.provider some c.in_ok-fail_voter.ensures.row) c.close.ensures.does
+    on_ok_weaker c.close.result (failing_does _ _ c.args.core.now c.fail_voter.new.core c.close.new.core c.args.group.now c.args.provider some c.in_ok-fail_voter.ensures.rule) c.close.ensures.does

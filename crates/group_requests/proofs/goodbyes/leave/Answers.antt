@@ -13,5 +13,5 @@ returns-clause-work g c =
 pub returns-clause-does : goal.returns-clause-does
 returns-clause-does g c =
     on_ok_weaker c.wait_gone.result
-    (present_does _ _ c.args.core.now c.mark_gone.new.core c.fail_vote.new.core c.wait_gone.new.core c.args.group.now c.args.provider c.in_ok-mark_gone.ensures.row c.in_ok-fail_vote.ensures.does)
+    (present_does _ _ c.args.core.now c.mark_gone.new.core c.fail_vote.new.core c.wait_gone.new.core c.args.group.now c.args.provider c.in_ok-mark_gone.ensures.rule c.in_ok-fail_vote.ensures.does)
     c.wait_gone.ensures

@@ -22,4 +22,4 @@ pub returns-clause-does : goal.returns-clause-does
 returns-clause-does g c =
     on_ok_two c.drop_waiting.result
     (away_does _ _ (receive_nothing _ _) c.args.core.now c.drop_waiting.new.core c.args.group.now c.args.provider (sym (rw c.bytes.ensures.value at c.if-not-leads.ensures)) (sym (rw c.bytes-2.ensures.value at c.if-is_present.ensures)))
-    c.drop_waiting.ensures.row c.drop_waiting.ensures.keeps
+    c.drop_waiting.ensures.rule c.drop_waiting.ensures.keeps

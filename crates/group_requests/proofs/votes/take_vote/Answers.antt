@@ -16,5 +16,5 @@ pub returns-clause-does : goal.returns-clause-does
 returns-clause-does g c =
     on_ok_weaker c.close.result
     (vote_does _ _ c.args.core.now c.cast_vote.new.core c.close.new.core c.args.group.now c.args.proto c.args.phase c.args.provider c.args.vote _ _ (sym (rw c.bytes.ensures.value at c.if-not-takes_votes.ensures))
-    (rw (c.in_ok-value.ensures, c.in_ok-message.ensures) at c.in_ok-cast_vote.ensures.row))
+    (rw (c.in_ok-value.ensures, c.in_ok-message.ensures) at c.in_ok-cast_vote.ensures.rule))
     c.close.ensures.does

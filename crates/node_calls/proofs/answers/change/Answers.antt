@@ -8,14 +8,14 @@ use Rattle.node_calls.proofs.CallLaws.{changed_leaves, refused_leaves, sessions_
 use Rattle.node_calls.proofs.answers.change.Goals as goal
 use Rattle.node_calls.proofs.answers.change.Goals.{in-Ok, in-Err}
 
-pub returns-clause-row : goal.returns-clause-row
+pub returns-clause-rule : goal.returns-clause-rule
 unfolding changed
-returns-clause-row g c = λ s r a e.
+returns-clause-rule g c = λ s r a e.
     elim c.match-answer.branch [
       | in-Ok w ↦ rw (w.result-is, w.core-is) (changed_leaves s c.args.core.now c.args.client.now r (rw w.in-Ok.is at a) e)
       | in-Err w ↦
           let b = rw w.in-Err.is at a in
-          rw (w.result-is, w.core-is) (on_ok_weaker w.refuse.result (λ both. refused_leaves s c.args.core.now w.refuse.new.core c.args.client.now w.in-Err.fault r (changed s c.args.client.now) (λ f. refl) b.0 b.1 e both.0 both.1) (on_ok_both _ _ w.refuse.result w.refuse.ensures.row w.refuse.ensures.refusal))
+          rw (w.result-is, w.core-is) (on_ok_weaker w.refuse.result (λ both. refused_leaves s c.args.core.now w.refuse.new.core c.args.client.now w.in-Err.fault r (changed s c.args.client.now) (λ f. refl) b.0 b.1 e both.0 both.1) (on_ok_both _ _ w.refuse.result w.refuse.ensures.rule w.refuse.ensures.refusal))
     ]
 
 pub returns-clause-keeps : goal.returns-clause-keeps

@@ -3,9 +3,9 @@ use Rattle.std.proofs.Common.{refl}
 use Rattle.node_state.specs.State.{with_sessions}
 use Rattle.node_calls.proofs.calls.expel.Goals as goal
 
-pub returns-clause-row : goal.returns-clause-row
+pub returns-clause-rule : goal.returns-clause-rule
 unfolding with_sessions
-returns-clause-row c = c.propose.ensures.row c.args.core.now _ (rw (c.caller-m.ensures) at c.expel-answer.ensures.answer) refl
+returns-clause-rule c = c.propose.ensures.rule c.args.core.now _ (rw (c.caller-m.ensures) at c.expel-answer.ensures.answer) refl
 
 pub returns-clause-keeps : goal.returns-clause-keeps
 unfolding with_sessions

@@ -8,14 +8,14 @@ use Rattle.node_calls.proofs.CallLaws.{proposed_leaves, refused_leaves, sessions
 use Rattle.node_calls.proofs.requests.propose.Goals as goal
 use Rattle.node_calls.proofs.requests.propose.Goals.{in-Ok, in-Err}
 
-pub returns-clause-row : goal.returns-clause-row
+pub returns-clause-rule : goal.returns-clause-rule
 unfolding proposed
-returns-clause-row g c = λ s r a e.
+returns-clause-rule g c = λ s r a e.
     elim c.match-answer.branch [
-      | in-Ok w ↦ rw (w.result-is, w.core-is) (on_ok_weaker w.ask_last.result (λ row. proposed_leaves s c.args.core.now w.ask_last.new.core c.args.client.now r (rw w.in-Ok.is at a) e row) w.ask_last.ensures.row)
+      | in-Ok w ↦ rw (w.result-is, w.core-is) (on_ok_weaker w.ask_last.result (λ row. proposed_leaves s c.args.core.now w.ask_last.new.core c.args.client.now r (rw w.in-Ok.is at a) e row) w.ask_last.ensures.rule)
       | in-Err w ↦
           let b = rw w.in-Err.is at a in
-          rw (w.result-is, w.core-is) (on_ok_weaker w.refuse.result (λ both. refused_leaves s c.args.core.now w.refuse.new.core c.args.client.now w.in-Err.fault r (proposed s c.args.client.now) (λ f. refl) b.0 b.1 e both.0 both.1) (on_ok_both _ _ w.refuse.result w.refuse.ensures.row w.refuse.ensures.refusal))
+          rw (w.result-is, w.core-is) (on_ok_weaker w.refuse.result (λ both. refused_leaves s c.args.core.now w.refuse.new.core c.args.client.now w.in-Err.fault r (proposed s c.args.client.now) (λ f. refl) b.0 b.1 e both.0 both.1) (on_ok_both _ _ w.refuse.result w.refuse.ensures.rule w.refuse.ensures.refusal))
     ]
 
 pub returns-clause-keeps : goal.returns-clause-keeps

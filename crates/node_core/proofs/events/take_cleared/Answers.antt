@@ -1,12 +1,12 @@
 -- Each kind of event.
-use Rattle.node_state.specs.Step.{event_row}
+use Rattle.node_state.specs.Step.{event_rule}
 use Rattle.std.proofs.lemmas.Result.{on_ok_weaker}
 use Rattle.node_state.specs.Bytes.{packet_of, event_of}
 use Rattle.node_core.proofs.StepLaws.{received_does}
 use Rattle.node_core.proofs.events.take_cleared.Goals as goal
 
 pub returns-in-Tick-clause-does : goal.returns-in-Tick-clause-does
-unfolding event_row
+unfolding event_rule
 returns-in-Tick-clause-does g c = rw c.in-Tick.is c.tick.ensures.does
 
 pub returns-in-Ask-clause-does : goal.returns-in-Ask-clause-does

@@ -9,7 +9,7 @@ pub returns-clause-does : goal.returns-clause-does
 returns-clause-does g c =
     on_ok_weaker c.end_step.result
     (λ ends. tick_does _ _ _ _ _ _ (receive_then _ _ _ _) (receive_then _ _ _ _) c.args.core.now c.tick_rings.new.core c.tick_views.new.core c.tick_owed.new.core c.tick_led.new.core c.end_step.new.core
-    c.in_ok-tick_rings.ensures.row c.in_ok-tick_rings.ensures.keeps c.in_ok-tick_views.ensures.does c.in_ok-tick_owed.ensures.row c.in_ok-tick_owed.ensures.keeps
+    c.in_ok-tick_rings.ensures.rule c.in_ok-tick_rings.ensures.keeps c.in_ok-tick_views.ensures.does c.in_ok-tick_owed.ensures.rule c.in_ok-tick_owed.ensures.keeps
     (does_by _ _ _ _ _ _ c.in_ok-tick_views.ensures.scripts c.in_ok-tick_led.ensures.does)
     (does_by _ _ _ _ _ _ (c.in_ok-tick_led.ensures.scripts ∙ c.in_ok-tick_views.ensures.scripts) ends))
     c.end_step.ensures.does

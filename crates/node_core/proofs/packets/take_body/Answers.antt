@@ -19,35 +19,35 @@ unfolding take_body
 returns-in-Ring-clause-does g c =
     rw c.in-Ring.is
     (on_ok_weaker c.take_ring_packet.result (λ both. plain_does _ _ (receive_nothing _ _) c.args.core.now c.take_ring_packet.new.core _ both.0 both.1)
-    (on_ok_both _ _ c.take_ring_packet.result c.take_ring_packet.ensures.row c.take_ring_packet.ensures.keeps))
+    (on_ok_both _ _ c.take_ring_packet.result c.take_ring_packet.ensures.rule c.take_ring_packet.ensures.keeps))
 
 pub returns-in-Report-clause-does : goal.returns-in-Report-clause-does
 unfolding take_body
 returns-in-Report-clause-does g c =
     rw c.in-Report.is
     (on_ok_weaker c.take_report_packet.result (λ both. plain_does _ _ (receive_nothing _ _) c.args.core.now c.take_report_packet.new.core _ both.0 both.1)
-    (on_ok_both _ _ c.take_report_packet.result c.take_report_packet.ensures.row c.take_report_packet.ensures.keeps))
+    (on_ok_both _ _ c.take_report_packet.result c.take_report_packet.ensures.rule c.take_report_packet.ensures.keeps))
 
 pub returns-in-Lookup-clause-does : goal.returns-in-Lookup-clause-does
 unfolding take_body
 returns-in-Lookup-clause-does g c =
     rw c.in-Lookup.is
     (on_ok_weaker c.take_lookup_packet.result (λ both. plain_does _ _ (receive_nothing _ _) c.args.core.now c.take_lookup_packet.new.core _ both.0 both.1)
-    (on_ok_both _ _ c.take_lookup_packet.result c.take_lookup_packet.ensures.row c.take_lookup_packet.ensures.keeps))
+    (on_ok_both _ _ c.take_lookup_packet.result c.take_lookup_packet.ensures.rule c.take_lookup_packet.ensures.keeps))
 
 pub returns-in-Ack-clause-does : goal.returns-in-Ack-clause-does
 unfolding take_body
 returns-in-Ack-clause-does g c =
     rw c.in-Ack.is
     (on_ok_weaker c.take_ack_packet.result (λ both. plain_does _ _ (receive_nothing _ _) c.args.core.now c.take_ack_packet.new.core _ both.0 both.1)
-    (on_ok_both _ _ c.take_ack_packet.result c.take_ack_packet.ensures.row c.take_ack_packet.ensures.keeps))
+    (on_ok_both _ _ c.take_ack_packet.result c.take_ack_packet.ensures.rule c.take_ack_packet.ensures.keeps))
 
 pub returns-in-Query-clause-does : goal.returns-in-Query-clause-does
 unfolding take_body
 returns-in-Query-clause-does g c =
     rw c.in-Query.is
     (on_ok_weaker c.take_query.result (λ both. plain_does _ _ (receive_nothing _ _) c.args.core.now c.take_query.new.core _ both.0 both.1)
-    (on_ok_both _ _ c.take_query.result c.take_query.ensures.row c.take_query.ensures.keeps))
+    (on_ok_both _ _ c.take_query.result c.take_query.ensures.rule c.take_query.ensures.keeps))
 
 pub returns-in-Reply-clause-does : goal.returns-in-Reply-clause-does
 unfolding take_body

@@ -9,5 +9,5 @@ use Rattle.node_core.proofs.sessions.close_session.Goals as goal
 pub returns-clause-does : goal.returns-clause-does
 returns-clause-does g c =
     on_ok_weaker c.end_step.result
-    (λ both. session_does _ _ c.args.core.now c.take_goodbye.new.core c.end_step.new.core (call.Goodbye c.args.client.now) (rw c.clear.ensures at c.in_ok-take_goodbye.ensures.row) (rw (c.in_ok-take_goodbye.ensures.clients, c.clear.ensures) at (does_by _ _ _ _ _ _ (sym both.0) both.1)))
+    (λ both. session_does _ _ c.args.core.now c.take_goodbye.new.core c.end_step.new.core (call.Goodbye c.args.client.now) (rw c.clear.ensures at c.in_ok-take_goodbye.ensures.rule) (rw (c.in_ok-take_goodbye.ensures.clients, c.clear.ensures) at (does_by _ _ _ _ _ _ (sym both.0) both.1)))
     (on_ok_both _ _ c.end_step.result c.end_step.ensures.scripts c.end_step.ensures.does)

@@ -5,8 +5,8 @@ use Rattle.node_groups.proofs.KeepLaws.{keeps_rows}
 use Rattle.node_groups.proofs.TallyLaws.{tally_at}
 use Rattle.node_groups.proofs.changes.fail_voter.Goals as goal
 
-pub returns-clause-row : goal.returns-clause-row
-returns-clause-row c = on_ok_weaker c.fail_voter.result (λ rows. tally_at c.args.core.now _ c.args.group.now _ c.requires rows) c.fail_voter.ensures
+pub returns-clause-rule : goal.returns-clause-rule
+returns-clause-rule c = on_ok_weaker c.fail_voter.result (λ rows. tally_at c.args.core.now _ c.args.group.now _ c.requires rows) c.fail_voter.ensures
 
 pub returns-clause-keeps : goal.returns-clause-keeps
 returns-clause-keeps c = on_ok_weaker c.fail_voter.result (λ rows. keeps_rows c.args.core.now _ c.args.group.now _ rows (λ x. refl) (λ x. refl)) c.fail_voter.ensures

@@ -17,4 +17,4 @@ returns-else-not-is_left_out-clause-does g c =
     on_ok_weaker c.dissolve.result
     (λ dissolving. left_out_does _ _ c.args.core.now c.dissolve.new.core c.args.group.now c.args.old _ c.args.provider c.in-Some.x.now c.is_left_out.result c.number_of-r.result
     c.in-Some.ensures c.is_left_out.ensures c.if-not-is_left_out.false c.number_of-r.ensures dissolving.0 dissolving.1.0 dissolving.1.1)
-    (on_ok_both _ _ c.dissolve.result c.dissolve.ensures.row (on_ok_both _ _ c.dissolve.result c.dissolve.ensures.stays c.dissolve.ensures.received))
+    (on_ok_both _ _ c.dissolve.result c.dissolve.ensures.rule (on_ok_both _ _ c.dissolve.result c.dissolve.ensures.stays c.dissolve.ensures.received))

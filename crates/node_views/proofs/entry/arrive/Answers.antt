@@ -32,5 +32,5 @@ returns-clause-does g c =
     on_ok_weaker c.send_owed.result
     (λ owing. arrive_does _ _ _ _ (receive_then _ _ _ _) c.args.core.now c.start_anew.new.core c.dissolve_sides.new.core c.note_bases.new.core c.send_taken.new.core c.send_owed.new.core c.args.install c.args.bases.now c.as_slice.result.now
     (cc (c.as_slice.ensures.value, c.rows.view_is, c.in_ok-rows.ensures.rows)) c.requires.order c.in_ok-rows.ensures.core c.in_ok-dissolve_sides.ensures.does (rw c.in_ok-dissolve_sides.ensures.scripts at c.in_ok-note_bases.ensures.does)
-    c.in_ok-send_taken.ensures.row c.in_ok-send_taken.ensures.keeps owing.0 owing.1)
-    (on_ok_both _ _ c.send_owed.result c.send_owed.ensures.row c.send_owed.ensures.keeps)
+    c.in_ok-send_taken.ensures.rule c.in_ok-send_taken.ensures.keeps owing.0 owing.1)
+    (on_ok_both _ _ c.send_owed.result c.send_owed.ensures.rule c.send_owed.ensures.keeps)

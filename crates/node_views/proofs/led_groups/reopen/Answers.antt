@@ -10,5 +10,5 @@ returns-then-not-runs-clause-does g c = left_does _ _ (receive_nothing _ _) c.ar
 pub returns-clause-does : goal.returns-clause-does
 returns-clause-does g c =
     on_ok_weaker c.close.result
-    (λ closing. reopened_does _ _ c.args.core.now c.open_tally.new.core c.close.new.core c.args.group.now c.args.runs c.if-not-runs.false c.in_ok-open_tally.ensures.row c.in_ok-open_tally.ensures.keeps closing)
+    (λ closing. reopened_does _ _ c.args.core.now c.open_tally.new.core c.close.new.core c.args.group.now c.args.runs c.if-not-runs.false c.in_ok-open_tally.ensures.rule c.in_ok-open_tally.ensures.keeps closing)
     c.close.ensures.does

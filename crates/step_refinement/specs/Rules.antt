@@ -1,4 +1,4 @@
--- What is tied: the step begins and ends, a node starts and stops, and rows of the step.
+-- What is tied: the step begins and ends, a node starts and stops, and rules of the step.
 use Rattle.std.specs.Prelude.{ℕ, ◌+◌, ◌≡◌, ◌≢◌, ◌==◌, true, false, ◌∷◌, ◌++◌, [], List, reverse, fold, Option, Some, None, if◌then◌else◌}
 use Rattle.rsct_packet.specs.declared.ids.ViewId.{ViewId}
 use Rattle.rsct_packet.specs.declared.ids.ProtoId.{ProtoId}
@@ -36,7 +36,7 @@ use Rattle.view_state.specs.declared.views.RingAsk.{RingAsk}
 use Rattle.view_state.specs.Views.{own_answer, next_view}
 use Rattle.node_state.specs.Applying.{own_parts}
 use Rattle.node_state.specs.Ticks.{ring_ask, tick_rings, tick_views, tick_owed, tick_led}
-use Rattle.node_state.specs.Step.{NodeEvent, Ticks, Asks, Given, Calls, Garbage, take_order, at_work, started, view_row, take_body, packet_row, stepped}
+use Rattle.node_state.specs.Step.{NodeEvent, Ticks, Asks, Given, Calls, Garbage, take_order, at_work, started, view_rule, take_body, packet_rule, stepped}
 use Rattle.world_model.specs.declared.event.Event.{Event}
 use Rattle.world_model.specs.Run.{Happening}
 use Rattle.run_safety.specs.Past.{History}
@@ -112,7 +112,7 @@ GivenTied b =
 
 abbrev pub ViewTied : ViewPacket → Type 0
 ViewTied y =
-    (g : List ℕ) (w : Scene) (n : ℕ) (f : Answering) (s : Core) (from inc : ℕ) → Tied g w n s → Tied g w n (view_row f s from inc y)
+    (g : List ℕ) (w : Scene) (n : ℕ) (f : Answering) (s : Core) (from inc : ℕ) → Tied g w n s → Tied g w n (view_rule f s from inc y)
 
 abbrev pub TakenTied : Type 0
 TakenTied = (v : ViewId) → ViewTied (view.Taken v)
@@ -138,7 +138,7 @@ NameTied = (v : ViewId) (h : List ℕ) (k : ℕ) → GivenTied (body.Name v h k)
 abbrev pub TellTied : Type 0
 TellTied = (v : ViewId) (h : List ℕ) (q : ProviderId) (r : ℕ) (why : Why) → GivenTied (body.Tell v h q r why)
 
--- REQUEST, given to whom it was sent, as the first row of a step, before which no join of a led group waited without a
+-- REQUEST, given to whom it was sent, as the first rule of a step, before which no join of a led group waited without a
 -- list; the relation stands for every group, since an older join of the provider may have been put in any
 abbrev pub RequestTied : Type 0
 RequestTied =
@@ -163,13 +163,13 @@ ViewsPartTied =
 abbrev pub QuietNow : List ℕ → Scene → Core → Type 0
 QuietNow g w s = Quiet (kept (lines_now g w s))
 
--- ANSWER, also the last one, with which the coordinator founds the view, as the first row of a step;
+-- ANSWER, also the last one, with which the coordinator founds the view, as the first rule of a step;
 -- the relation stands for every group, since the install carries the lists of all
 abbrev pub FoundingAnswerTied : Type 0
 FoundingAnswerTied =
     (v old : ViewId) (parts : List Part) (w : Scene) (n : ℕ) (f : Answering) (s : Core) (p : Packet) → p.body ≡ body.View (view.Answer v old parts) → Has p w.sent → s.records ≡ [] → ((h : List ℕ) → Tied h w n s) → (g : List ℕ) → Tied g w n (take_body f s p (body.View (view.Answer v old parts)))
 
--- an order to ask, also oneself alone, as the first row of a step
+-- an order to ask, also oneself alone, as the first rule of a step
 abbrev pub FoundingAskTied : Type 0
 FoundingAskTied =
     (mask : Mask) (w : Scene) (n : ℕ) (f : Answering) (s : Core) → s.records ≡ [] → ((h : List ℕ) → Tied h w n s) → (g : List ℕ) → Tied g w n (take_order f s mask)
@@ -179,7 +179,7 @@ abbrev pub FoundingTickTied : Type 0
 FoundingTickTied =
     (w : Scene) (n : ℕ) (f : Answering) (s : Core) → ((h : List ℕ) → Tied h w n s) → (g : List ℕ) → QuietNow g w s → Tied g w n (tick_views f s)
 
--- INSTALL, as the first row of a step
+-- INSTALL, as the first rule of a step
 abbrev pub InstallTied : Type 0
 InstallTied =
     (i : Install) (g : List ℕ) (w : Scene) (n : ℕ) (f : Answering) (s : Core) (p : Packet) → p.body ≡ body.View (view.Install i) → Has p w.sent → s.records ≡ [] → Tied g w n s → Tied g w n (take_body f s p (body.View (view.Install i)))
@@ -209,7 +209,7 @@ StepEndTied = (g : List ℕ) (w : Scene) (n : ℕ) (f : Answering) (s : Core) �
 abbrev pub acted : Answering → Core → NodeEvent → Core
 acted f s Ticks = tick_led f (tick_owed (tick_views f (tick_rings s)))
 acted f s (Asks mask) = take_order f s mask
-acted f s (Given p) = packet_row f s p
+acted f s (Given p) = packet_rule f s p
 acted f s (Calls c) = take_call s c
 acted f s Garbage = s
 

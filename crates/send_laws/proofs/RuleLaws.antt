@@ -1,8 +1,8 @@
 -- The laws of rows, from what each row goes to.
 use Rattle.send_laws.proofs.Leads.{goes_appended_if, goes_closes, goes_begins}
-use Rattle.send_laws.proofs.Rows.{goes_lookup, goes_name, goes_request, goes_tell, goes_entry, goes_ack, goes_vote, goes_gone}
+use Rattle.send_laws.proofs.Rules.{goes_lookup, goes_name, goes_request, goes_tell, goes_entry, goes_ack, goes_vote, goes_gone}
 use Rattle.send_laws.proofs.Calls.{goes_call}
-use Rattle.send_laws.proofs.Ticks.{goes_ring_row, goes_report, goes_rings_part, goes_led_part}
+use Rattle.send_laws.proofs.Ticks.{goes_ring_rule, goes_report, goes_rings_part, goes_led_part}
 use Rattle.send_laws.proofs.Owed.{goes_owed_part}
 use Rattle.send_laws.proofs.Ends.{goes_ended}
 use Rattle.send_laws.specs.Laws.{AppendSends, CloseSends, BeginSends, LookupSends, NameSends, RequestSends, TellSends, EntrySends, AckSends, VoteSends, GoneSends, CallSends, RingSends, ReportSends, RingsPartSends, OwedPartSends, LedPartSends, EndSends, StepSends, ReopenedEnds}
@@ -46,7 +46,7 @@ pub call_sends : CallSends
 call_sends s c k = (goes_call s c k).within
 
 pub ring_sends : RingSends
-ring_sends s network from inc p k = (goes_ring_row s network from inc p k).within
+ring_sends s network from inc p k = (goes_ring_rule s network from inc p k).within
 
 pub report_sends : ReportSends
 report_sends s rows k = (goes_report s rows k).within

@@ -1,4 +1,4 @@
--- The rows of a step, but for calls, keep what a walk keeps.
+-- The rules of a step, but for calls, keep what a walk keeps.
 use Rattle.std.proofs.Common.{◌≡◌, inl, ℕ, ◌+◌, ◌-◌, List, [], ◌∷◌, take, drop, Option, Some, None, Bool, true, false, refl}
 use Rattle.std.specs.Prelude.{◌==◌, ◌&&◌, filter, nat_lt, nat_le, find}
 use Rattle.std.specs.Option.{unwrap_or}

@@ -1,4 +1,4 @@
--- In the rows of a step few joins and failures wait.
+-- In the rules of a step few joins and failures wait.
 use Rattle.std.proofs.Common.{length, ◌<◌, ◌≡◌, ℕ, ◌+◌, ◌-◌, List, [], ◌∷◌, take, drop, Option, Some, None, Bool, true, false, refl}
 use Rattle.std.specs.Prelude.{◌==◌, ◌&&◌, filter, nat_lt, nat_le}
 use Rattle.std.specs.Option.{unwrap_or}

@@ -1,4 +1,4 @@
--- The rows in which a coordinator founds a view: the last answer, and asking oneself alone.
+-- The rules in which a coordinator founds a view: the last answer, and asking oneself alone.
 use Rattle.std.proofs.Common.{◌≡◌, ℕ, List, [], ◌∷◌, ◌++◌, length, Option, Some, None, Bool, true, false, refl, sym, ap, ◌∙◌, subst}
 use Rattle.std.specs.Prelude.{◌==◌, ◌&&◌, not, nat_le, nat_lt, max, map, filter, reverse, drop}
 use Rattle.rsct_packet.specs.declared.ids.ViewId.{ViewId}
@@ -15,7 +15,7 @@ use Rattle.view_state.specs.Answers.{max_parts, opened, may_answer, with_answer,
 use Rattle.view_state.specs.declared.packet.ViewPacket.TheVariants as view
 use Rattle.view_state.specs.declared.packet.ViewSend.{ViewSend}
 use Rattle.view_state.specs.declared.views.RingAsk.{RingAsk}
-use Rattle.view_state.specs.Views.{others_of, view_sent_all, gathering_set, promised, begin_install, gathered, gather_on, own_answer, ask_others, next_view, may_ask, ask_if, ask_row, answer_to, answer_row, tick_asks, note_stuck, asks_or_ages, gathering_ticks, is_stuck, views_at_work}
+use Rattle.view_state.specs.Views.{others_of, view_sent_all, gathering_set, promised, begin_install, gathered, gather_on, own_answer, ask_others, next_view, may_ask, ask_if, ask_rule, answer_to, answer_rule, tick_asks, note_stuck, asks_or_ages, gathering_ticks, is_stuck, views_at_work}
 use Rattle.node_state.specs.declared.packet.Body.TheVariants as body
 use Rattle.node_state.specs.declared.packet.Packet.{Packet}
 use Rattle.node_state.specs.declared.state.Core.{Core}
@@ -23,14 +23,14 @@ use Rattle.node_state.specs.Settings.{is_fixed}
 use Rattle.node_state.specs.State.{held_rows}
 use Rattle.node_state.specs.HandOn.{Answering}
 use Rattle.node_state.specs.Applying.{own_parts, apply_install, views_taken}
-use Rattle.node_state.specs.Step.{take_order, view_row, take_body}
+use Rattle.node_state.specs.Step.{take_order, view_rule, take_body}
 use Rattle.node_state.specs.Ticks.{ring_ask, tick_views}
 use Rattle.run_safety.specs.Sight.{lines_with, lines_of}
 use Rattle.run_safety.specs.Group.{kept}
 use Rattle.run_safety.specs.Moves.{Quiet}
 use Rattle.step_refinement.specs.Ghost.{Gathers, GathersIf}
 use Rattle.step_refinement.specs.Tied.{Scene, Tied}
-use Rattle.step_refinement.specs.Rows.{QuietNow}
+use Rattle.step_refinement.specs.Rules.{QuietNow}
 use Rattle.step_refinement.proofs.GoingOn.{GoesOn, goes_on}
 use Rattle.step_refinement.proofs.Gatherings.{counted_tied, next_promised, opened_tied, prepares_tied, asks_tied}
 use Rattle.step_refinement.proofs.ViewTicks.{ages_tied, again_tied, noted_tied, rings_free}
@@ -60,7 +60,7 @@ founded_tied g w n f s e is quiet goes t = by
 
 -- ANSWER, where the own lists go on to the install
 answer_founds : (v old : ViewId) (parts : List Part) (g : List ℕ) (w : Scene) (n : ℕ) (f : Answering) (s : Core) (p : Packet) → p.body ≡ body.View (view.Answer v old parts) → Has p w.sent → s.records ≡ [] → ((e : Exchange) → s.views.gathering ≡ Some e → (same_view e.view v && may_answer e p.from) ≡ true → all_answered (with_answer e (record { node = p.from; inc = p.inc; view = old; parts = parts })) ≡ true → GoesOn s (with_answer e (record { node = p.from; inc = p.inc; view = old; parts = parts }))) → Tied g w n s → Tied g w n (take_body f s p (body.View (view.Answer v old parts)))
-unfolding take_body view_row views_taken apply_install answer_row answer_to gather_on gathered gathering_set
+unfolding take_body view_rule views_taken apply_install answer_rule answer_to gather_on gathered gathering_set
 answer_founds v old parts g w n f s p is delivered none goes t = at s.views.gathering refl
   where
     a : Answer
@@ -164,8 +164,8 @@ module _ (mask : Mask) (g : List ℕ) (w : Scene) (n : ℕ) (f : Answering) (s :
       by false = unspelled
       by true = alone there goes
 
-  pub asks_founds : FoundsAlone s mask → Tied g w n (views_taken f s (ask_row (views_at_work s.views) mask (own_parts s)))
-  unfolding ask_row ask_if may_ask ask_others
+  pub asks_founds : FoundsAlone s mask → Tied g w n (views_taken f s (ask_rule (views_at_work s.views) mask (own_parts s)))
+  unfolding ask_rule ask_if may_ask ask_others
   asks_founds goes = at (all_answered e) refl
     where
       asks : all_answered e ≡ true → has_node mask s.views.me ≡ true → (b : Bool) → Tied g w n (views_taken f s (ask_others (views_at_work s.views) (next_view s.views) mask (own_parts s) b))
@@ -177,7 +177,7 @@ module _ (mask : Mask) (g : List ℕ) (w : Scene) (n : ℕ) (f : Answering) (s :
       by all true q =
           asks all (and_parts (has_node mask s.views.me) (nat_lt (max s.views.promise.number s.views.floor) last_u32) q).0 (nat_le (length (own_parts s)) max_parts)
 
-      at : (b : Bool) → all_answered e ≡ b → Tied g w n (views_taken f s (ask_row (views_at_work s.views) mask (own_parts s)))
+      at : (b : Bool) → all_answered e ≡ b → Tied g w n (views_taken f s (ask_rule (views_at_work s.views) mask (own_parts s)))
       at false q = asks_tied mask g w n f s free q t
       at true q = by q (may_ask s.views mask) refl
 
@@ -185,7 +185,7 @@ pub founding_ask_tied : (mask : Mask) (w : Scene) (n : ℕ) (f : Answering) (s :
 unfolding take_order
 founding_ask_tied mask w n f s none all g = by (is_fixed s.config.mode) refl
   where
-    by : (a : Bool) → is_fixed s.config.mode ≡ a → Tied g w n (elim a [ true ↦ s | false ↦ views_taken f s (ask_row (views_at_work s.views) mask (own_parts s)) ])
+    by : (a : Bool) → is_fixed s.config.mode ≡ a → Tied g w n (elim a [ true ↦ s | false ↦ views_taken f s (ask_rule (views_at_work s.views) mask (own_parts s)) ])
     by true q = all g
     by false q =
         asks_founds mask g w n f s (quiet_first g w s none) q (all g) (founds_alone w n s mask q all)

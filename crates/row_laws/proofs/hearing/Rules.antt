@@ -1,4 +1,4 @@
--- What the rows of a step do, change by change, where the view stays.
+-- What the rules of a step do, change by change, where the view stays.
 use Rattle.std.proofs.Common.{◌≡◌, ℕ, ◌+◌, ◌-◌, List, [], ◌∷◌, ◌++◌, take, drop, Option, Some, None, Bool, true, false, refl, sym, subst, inl, inr, arith}
 use Rattle.std.specs.Prelude.{not, ◌==◌, ◌&&◌, filter, find, fold, nat_lt, nat_le, Result, Ok, Err}
 use Rattle.std.specs.Option.{unwrap_or}
@@ -61,7 +61,7 @@ use Rattle.node_state.specs.HandOn.{Answering}
 use Rattle.node_state.specs.Leading.{put_and_hand, forget_least, with_waiting, with_tally, append_if_fits, closes, begins}
 use Rattle.node_state.specs.Deciding.{keep_decision, join_refusal, is_idle_empty, keep_attrs, wait_join, decide_join, decide_change, decided}
 use Rattle.node_state.specs.Following.{take_lookup, told_if, take_tell, requests_of, named, is_name_used, take_name, tell_again, decide_new, request_after, request_at, is_group_refused, take_request, entry_next, entry_elsewhere, take_entry, acked, take_ack, vote_cast, take_vote, tally_failed, wait_gone, marked, gone_present, gone_of, take_gone}
-use Rattle.node_state.specs.Ticks.{ring_put, set_records, ring_taken, ring_row_of, ring_row, take_report, rings_union, report_of, send_report, rings_tick, tick_rings, is_lost, lost_told, tick_owed, late_appended, announced, ticked_in, tally_ticks, entries_sent, list_sent_again, sent_again, tick_group, tick_led}
+use Rattle.node_state.specs.Ticks.{ring_put, set_records, ring_taken, ring_rule_of, ring_rule, take_report, rings_union, report_of, send_report, rings_tick, tick_rings, is_lost, lost_told, tick_owed, late_appended, announced, ticked_in, tally_ticks, entries_sent, list_sent_again, sent_again, tick_group, tick_led}
 use Rattle.node_state.specs.Calls.{caller, subscriber, refuse_call, changed, ask_last, proposed, record_ballot, ballot_sent_if, cast_last, give_ballot, send_gone, send_all_gone, goodbye_said, take_call}
 use Rattle.row_laws.specs.hearing.Changes.{Records, Loses, Joins, Votes, Inner, Fewer, voting, Unentered}
 use Rattle.row_laws.proofs.hearing.Changes.{inner_unentered, calm_same, calm_all, Sends, sends_nothing, sends_then, sends_fold, sends_on, sends_one, sends_all, sends_known, Onward, onward_same, onward_then, onward_sends, onward_row, onward_led, onward_records, put_handed_onward}
@@ -348,11 +348,11 @@ ring_taken_onward c x =
     aside (Some y) r (inl e) = subst Inner (sym e) tt
     aside (Some y) r (inr z) = absurd z
 
-pub ring_onward : (c : Core) (network from inc : ℕ) (p : RingPacket) → Onward c (ring_row c network from inc p)
-unfolding ring_row ring_row_of
+pub ring_onward : (c : Core) (network from inc : ℕ) (p : RingPacket) → Onward c (ring_rule c network from inc p)
+unfolding ring_rule ring_rule_of
 ring_onward c network from inc p = by (find (λ (r : Ring). r.net == network) c.rings)
   where
-    by : (o : Option Ring) → Onward c (ring_row_of c from inc p o)
+    by : (o : Option Ring) → Onward c (ring_rule_of c from inc p o)
     by None = onward_same c
     by (Some r) = ring_taken_onward c (ring_step r (ring_event.Packet from inc p))
 

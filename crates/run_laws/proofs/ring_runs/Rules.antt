@@ -1,7 +1,8 @@
--- The rows of a step, but for calls, keep what the walk keeps.
+-- The rules of a step, but for those of rings, keep what holds of a node's rings.
 use Rattle.std.proofs.Common.{ℕ, ◌+◌, ◌-◌, List, [], ◌∷◌, take, drop, Option, Some, None, Bool, true, false, refl}
-use Rattle.std.specs.Prelude.{◌==◌, ◌&&◌, filter, nat_lt, nat_le}
+use Rattle.std.specs.Prelude.{◌==◌, ◌&&◌, filter, nat_lt, nat_le, Result, Ok, Err}
 use Rattle.std.specs.Option.{unwrap_or}
+use Rattle.std.specs.List.{last_or}
 use Rattle.rsct_packet.specs.declared.ids.ProviderId.{ProviderId}
 use Rattle.rsct_packet.specs.declared.ids.ProtoId.{ProtoId}
 use Rattle.rsct_packet.specs.Providers.{among}
@@ -23,12 +24,18 @@ use Rattle.name_server.specs.Names as names
 use Rattle.client_callbacks.specs.declared.told.Why.{Why}
 use Rattle.client_callbacks.specs.declared.told.Why.TheVariants as why
 use Rattle.client_callbacks.specs.declared.ballot.Filled.{Filled}
+use Rattle.session_state.specs.declared.fault.GsFault.{GsFault}
+use Rattle.session_state.specs.declared.state.Provider.{Provider}
 use Rattle.session_state.specs.declared.state.Request.{Request}
 use Rattle.session_state.specs.declared.state.KeptBallot.{KeptBallot}
+use Rattle.session_state.specs.declared.state.SessionState.{SessionState}
 use Rattle.session_state.specs.State.{outstanding}
-use Rattle.session_state.specs.HandOn.{is_numbered}
+use Rattle.session_state.specs.HandOn.{is_numbered, take_telling}
+use Rattle.node_state.specs.declared.call.CallLine.{CallLine}
+use Rattle.node_state.specs.declared.call.CallLine.TheVariants as call
 use Rattle.node_state.specs.declared.group.Decision.{Decision}
 use Rattle.node_state.specs.declared.group.GroupRow.{GroupRow}
+use Rattle.node_state.specs.declared.happened.Happened.TheVariants as happened
 use Rattle.node_state.specs.declared.packet.Body.TheVariants as body
 use Rattle.node_state.specs.declared.state.Core.{Core}
 use Rattle.node_state.specs.State.{row_of, led_of, with_led, state_of, len_of, holds, held_rows, fits_at_end, frozen, coordinates, leader_of, leads, set_leader, led_groups, others, least_acked, acked_by, acked_raised, decision_of}
@@ -38,7 +45,8 @@ use Rattle.node_state.specs.Leading.{put_and_hand}
 use Rattle.node_state.specs.Deciding.{join_refusal, is_idle_empty, keep_attrs, wait_join, decide_join, decide_change, decided}
 use Rattle.node_state.specs.Following.{take_lookup, told_if, take_tell, requests_of, named, is_name_used, take_name, tell_again, decide_new, request_after, request_at, is_group_refused, take_request, entry_next, entry_elsewhere, take_entry, acked, take_ack, vote_cast, take_vote, tally_failed, wait_gone, marked, gone_present, gone_of, take_gone}
 use Rattle.node_state.specs.Ticks.{is_lost, lost_told, tick_owed, late_appended, announced, ticked_in, tally_ticks, entries_sent, list_sent_again, sent_again, tick_group, tick_led}
-use Rattle.run_laws.proofs.gapless.TakerWalk.{Keeps, on_either, on_fold, on_sends, on_row, on_led, on_sent, on_known, on_put_handed, on_forgets, on_forgets_least, on_waiting, on_appended_if, on_tally, on_closes, on_begins, on_kept, on_refused}
+use Rattle.node_state.specs.Calls.{refuse_call, changed, ask_last, proposed, record_ballot, ballot_sent_if, cast_last, give_ballot, send_gone, send_all_gone, goodbye_said, take_call}
+use Rattle.run_laws.proofs.ring_runs.Leading.{Keeps, on_either, on_fold, on_row, on_led, on_sessions, on_sent, on_known, on_put_handed, on_forgets, on_forgets_least, on_waiting, on_appended_if, on_tally, on_closes, on_begins, on_kept, on_refused}
 
 module _ (P : Core → Type 0) (k : Keeps P) where
   -- ---- what is owed is sent
@@ -48,8 +56,8 @@ module _ (P : Core → Type 0) (k : Keeps P) where
   on_request_sent {s} q p = on_either P k (frozen s) p (by (leader_of s q.group))
     where
       by : (o : Option ℕ) → P (send_request_to s q o)
-      by None = on_sent P k s.views.view.coord (body.Lookup s.views.view q.group) p
-      by (Some n) = on_sent P k n (body.Request s.views.view q.group q.p q.r q.phases q.proposal) p
+      by None = on_sent P k s.views.view.coord (body.Lookup s.views.view q.group) tt p
+      by (Some n) = on_sent P k n (body.Request s.views.view q.group q.p q.r q.phases q.proposal) tt p
 
   pub on_requests : {s : Core} → P s → P (send_requests s)
   unfolding send_requests
@@ -61,7 +69,7 @@ module _ (P : Core → Type 0) (k : Keeps P) where
     where
       by : (o : Option Filled) → P (send_kept_to s b (leader_of s b.group) o)
       by None = p
-      by (Some x) = on_known P k (leader_of s b.group) _ p
+      by (Some x) = on_known P k (leader_of s b.group) _ tt p
 
   on_kept_again : {s : Core} (b : KeptBallot) → P s → P (kept_sent_again s b)
   unfolding kept_sent_again kept_sent_if
@@ -78,7 +86,7 @@ module _ (P : Core → Type 0) (k : Keeps P) where
   on_lost : {s : Core} (row : GroupRow) → P s → P (lost_told s row)
   unfolding lost_told
   on_lost {s} row p =
-      on_fold P k (λ t q. send_if_known t (leader_of t row.name) (body.Gone t.views.view row.name q)) (λ t q h. on_known P k (leader_of t row.name) (body.Gone t.views.view row.name q) h) (filter (is_lost s) (present (state_in row.list))) p
+      on_fold P k (λ t q. send_if_known t (leader_of t row.name) (body.Gone t.views.view row.name q)) (λ t q h. on_known P k (leader_of t row.name) (body.Gone t.views.view row.name q) tt h) (filter (is_lost s) (present (state_in row.list))) p
 
   pub on_owed_part : {s : Core} → P s → P (tick_owed s)
   unfolding tick_owed
@@ -90,7 +98,7 @@ module _ (P : Core → Type 0) (k : Keeps P) where
 
   pub on_led_by : {s : Core} (g : List ℕ) (n : ℕ) → P s → P (set_leader s g n)
   unfolding set_leader
-  on_led_by g n p = on_row P k g (λ row. record row { leader = Some n }) (λ x. refl) (λ row. refl) (λ row. refl) p
+  on_led_by g n p = on_row P k g (λ row. record row { leader = Some n }) p
 
   on_decided_join : {s : Core} (g : List ℕ) (q : ProviderId) (r : ℕ) (a : Attrs) (o : Option Why) → P s → P (decide_join s g q r a o)
   unfolding decide_join wait_join
@@ -126,7 +134,7 @@ module _ (P : Core → Type 0) (k : Keeps P) where
       by : (b : Bool) → P (elim b as (λ _. Core) [ false ↦ s | true ↦ sent t from (body.Name s.views.view g (unwrap_or (names.looked_up g from s.names) 0)) ])
       by false = p
       by true =
-          on_sent P k from (body.Name s.views.view g (unwrap_or (names.looked_up g from s.names) 0)) (on_sends P k {s = s} {t = t} (record { groups = refl; views = refl; sessions = refl; records = refl }) p)
+          on_sent P k from (body.Name s.views.view g (unwrap_or (names.looked_up g from s.names) 0)) tt (k.alike s t (record { rings = refl; me = refl; inc = refl; sends = refl; records = refl }) p)
 
   pub on_tell : {s : Core} (q : ProviderId) (r : ℕ) (y : Why) → P s → P (take_tell s q r y)
   unfolding take_tell told_if
@@ -134,7 +142,7 @@ module _ (P : Core → Type 0) (k : Keeps P) where
     where
       by : (b : Bool) → P (told_if s q r y b)
       by false = p
-      by true = k.tells s q r y p
+      by true = k.records _ (happened.Told q r y) tt (on_sessions P k (take_telling s.sessions q r y) p)
 
   pub on_name : {s : Core} (g : List ℕ) (n : ℕ) → P s → P (take_name s g n)
   unfolding take_name named
@@ -155,7 +163,7 @@ module _ (P : Core → Type 0) (k : Keeps P) where
     where
       told : (o : Option Why) → P (tell_again s g q r o)
       told None = p
-      told (Some y) = on_sent P k q.node (body.Tell s.views.view g q r y) p
+      told (Some y) = on_sent P k q.node (body.Tell s.views.view g q r y) tt p
 
       by : (a b : Bool) → P (request_after f s g q r phases x d a b)
       by true b = p
@@ -165,18 +173,18 @@ module _ (P : Core → Type 0) (k : Keeps P) where
   pub on_request : (f : Answering) {s : Core} (from : ℕ) (g : List ℕ) (q : ProviderId) (r : ℕ) (phases : Phases) (x : Proposal) → P s → P (take_request f s from g q r phases x)
   unfolding take_request
   on_request f {s} from g q r phases x p =
-      on_either P k (is_group_refused s g) (on_sent P k from (body.Name s.views.view g 0) p) (on_request_at f g q r phases x (decision_of (led_of s g) q) p)
+      on_either P k (is_group_refused s g) (on_sent P k from (body.Name s.views.view g 0) tt p) (on_request_at f g q r phases x (decision_of (led_of s g) q) p)
 
   on_entry_next : (f : Answering) {s : Core} (from : ℕ) (g : List ℕ) (stable : ℕ) (e : Entry) (b : Bool) → P s → P (entry_next f s from g stable e b)
   unfolding entry_next
   on_entry_next f from g stable e false p = p
   on_entry_next f {s} from g stable e true p =
       let t : Core = put_and_hand f s (Some from) g e in
-      on_forgets P k g stable (on_led_by g from (on_sent P k from (body.Ack t.views.view g (len_of t g)) (on_put_handed P k f (Some from) g e p)))
+      on_forgets P k g stable (on_led_by g from (on_sent P k from (body.Ack t.views.view g (len_of t g)) tt (on_put_handed P k f (Some from) g e p)))
 
   on_entry_elsewhere : {s : Core} (from : ℕ) (g : List ℕ) (stable : ℕ) (b : Bool) → P s → P (entry_elsewhere s from g stable b)
   unfolding entry_elsewhere
-  on_entry_elsewhere {s} from g stable true p = on_forgets P k g stable (on_sent P k from (body.Ack s.views.view g (len_of s g)) p)
+  on_entry_elsewhere {s} from g stable true p = on_forgets P k g stable (on_sent P k from (body.Ack s.views.view g (len_of s g)) tt p)
   on_entry_elsewhere {s} from g stable false p = on_either P k (holds s g) (on_forgets P k g stable p) p
 
   pub on_entry : (f : Answering) {s : Core} (from : ℕ) (g : List ℕ) (place stable : ℕ) (e : Entry) → P s → P (take_entry f s from g place stable e)
@@ -244,7 +252,7 @@ module _ (P : Core → Type 0) (k : Keeps P) where
   unfolding entries_sent
   on_entries_sent to g stable [] i s p = p
   on_entries_sent to g stable (e ∷ es) i s p =
-      on_entries_sent to g stable es (i + 1) (sent s to (body.Entry s.views.view g i stable e)) (on_sent P k to (body.Entry s.views.view g i stable e) p)
+      on_entries_sent to g stable es (i + 1) (sent s to (body.Entry s.views.view g i stable e)) (on_sent P k to (body.Entry s.views.view g i stable e) tt p)
 
   on_again : {s : Core} (g : List ℕ) (n : ℕ) → P s → P (sent_again g s n)
   unfolding sent_again list_sent_again
@@ -263,3 +271,66 @@ module _ (P : Core → Type 0) (k : Keeps P) where
   pub on_led_part : (f : Answering) {s : Core} → P s → P (tick_led f s)
   unfolding tick_led
   on_led_part f {s} p = on_either P k (frozen s) p (on_fold P k (tick_group f) (λ t g h. on_group_ticks f g h) (led_groups s) p)
+
+  -- ---- calls
+
+  on_fault : {s : Core} (client : List ℕ) (fault : GsFault) → P s → P (refuse_call s client fault)
+  unfolding refuse_call
+  on_fault {s} client fault p = k.records s (happened.Refused s.views.me client fault) tt p
+
+  on_changed : {s : Core} (client : List ℕ) (r : Result SessionState GsFault) → P s → P (changed s client r)
+  unfolding changed
+  on_changed client (Ok t) p = on_sessions P k t p
+  on_changed client (Err fault) p = on_fault client fault p
+
+  on_last_asked : {s : Core} (o : Option Request) → P s → P (ask_last s o)
+  unfolding ask_last
+  on_last_asked None p = p
+  on_last_asked {s} (Some q) p = on_request_sent q (k.records s (happened.Asked q.p q.r q.group q.proposal) tt p)
+
+  on_proposed : {s : Core} (client : List ℕ) (r : Result SessionState GsFault) → P s → P (proposed s client r)
+  unfolding proposed
+  on_proposed client (Ok t) p = on_last_asked (last_or None t.requests) (on_sessions P k t p)
+  on_proposed client (Err fault) p = on_fault client fault p
+
+  on_last_cast : {s : Core} (o : Option KeptBallot) → P s → P (cast_last s o)
+  unfolding cast_last record_ballot ballot_sent_if
+  on_last_cast None p = p
+  on_last_cast {s} (Some b) p = sends (frozen s)
+    where
+      recorded_too : (o : Option Filled) → P (record_ballot s b o)
+      recorded_too None = p
+      recorded_too (Some x) = k.records s (happened.Cast b.p b.proto b.phase x.vote x.value x.message) tt p
+
+      sends : (c : Bool) → P (ballot_sent_if (record_ballot s b b.ballot.filled) b c)
+      sends true = recorded_too b.ballot.filled
+      sends false = on_kept_sent b (recorded_too b.ballot.filled)
+
+  on_given : {s : Core} (client : List ℕ) (r : Result SessionState GsFault) → P s → P (give_ballot s client r)
+  unfolding give_ballot
+  on_given client (Ok t) p = on_last_cast (last_or None t.kept) (on_sessions P k t p)
+  on_given client (Err fault) p = on_fault client fault p
+
+  on_all_gone : {s : Core} (ended : List Provider) → P s → P (send_all_gone s ended)
+  unfolding send_all_gone send_gone
+  on_all_gone {s} ended p =
+      on_either P k (frozen s) p (on_fold P k send_gone (λ t x h. on_known P k (leader_of t x.group) (body.Gone t.views.view x.group x.p) tt h) ended p)
+
+  on_said : {s : Core} (client : List ℕ) (ended : List Provider) (r : Result SessionState GsFault) → P s → P (goodbye_said s client ended r)
+  unfolding goodbye_said
+  on_said client ended (Ok t) p = on_all_gone ended (on_sessions P k t p)
+  on_said client ended (Err fault) p = on_fault client fault p
+
+  pub on_call : {s : Core} (x : CallLine) → P s → P (take_call s x)
+  unfolding take_call
+  on_call (call.Init node name votes) p = on_changed name _ p
+  on_call (call.Join client g instance attrs) p = on_proposed client _ p
+  on_call (call.Leave client g phases) p = on_proposed client _ p
+  on_call (call.Expel client g phases out) p = on_proposed client _ p
+  on_call (call.ChangeState client g phases value) p = on_proposed client _ p
+  on_call (call.SendMessage client g phases bytes) p = on_proposed client _ p
+  on_call (call.ChangeAttributes client g phases attrs) p = on_proposed client _ p
+  on_call (call.Vote client g v value) p = on_given client _ p
+  on_call (call.Subscribe client g) p = on_changed client _ p
+  on_call (call.Unsubscribe client g) p = on_changed client _ p
+  on_call {s} (call.Goodbye client) p = on_said client _ _ p

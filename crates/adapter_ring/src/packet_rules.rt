@@ -1,6 +1,6 @@
 //! What a ring does with a packet.
 ghost use Rattle.std.specs.Prelude.{◌≡◌, OnOk};
-ghost use Rattle.adapter_ring.specs.Rings.{heartbeat_row, answers_proclaim, proclaim_row, is_lower, all_lower, takes_join, join_row, may_promise, ptc_row, ack_row, is_promised, commit_row, packet_row};
+ghost use Rattle.adapter_ring.specs.Rings.{heartbeat_rule, answers_proclaim, proclaim_rule, is_lower, all_lower, takes_join, join_rule, may_promise, ptc_rule, ack_rule, is_promised, commit_rule, packet_rule};
 
 use crate::packet::RingPacket;
 use crate::ring::{Gathering, Ring};
@@ -73,18 +73,18 @@ fn is_promised(promised: Option<RingId>, id: RingId) -> bool
 
 impl RingWork {
     /// The upstream neighbour of this ring is alive.
-    #[tactic(auto, unfolding(crate::specs::Rings::heartbeat_row))]
-    fn heartbeat_row(&mut self, from: u8, id: RingId)
-        ensures { self.new ≡ heartbeat_row self.old from id }
+    #[tactic(auto, unfolding(crate::specs::Rings::heartbeat_rule))]
+    fn heartbeat_rule(&mut self, from: u8, id: RingId)
+        ensures { self.new ≡ heartbeat_rule self.old from id }
     {
         if id == self.ring.id && self.ring.is_shared() && from == self.ring.upstream() {
             self.ring.silent = 0;
         }
     }
 
-    #[tactic(auto, unfolding(crate::specs::Rings::proclaim_row))]
-    fn proclaim_row(&mut self, from: u8) -> Result<(), NoMemory>
-        ensures { OnOk result (self.new ≡ proclaim_row self.old from) }
+    #[tactic(auto, unfolding(crate::specs::Rings::proclaim_rule))]
+    fn proclaim_rule(&mut self, from: u8) -> Result<(), NoMemory>
+        ensures { OnOk result (self.new ≡ proclaim_rule self.old from) }
     {
         if !self.ring.answers_proclaim(from) {
             return Ok(());
@@ -97,9 +97,9 @@ impl RingWork {
         )
     }
 
-    #[tactic(auto, unfolding(crate::specs::Rings::join_row))]
-    fn join_row(&mut self, alloc: Global, from: u8, members: Mask) -> Result<(), NoMemory>
-        ensures { OnOk result (self.new ≡ join_row self.old from members) }
+    #[tactic(auto, unfolding(crate::specs::Rings::join_rule))]
+    fn join_rule(&mut self, alloc: Global, from: u8, members: Mask) -> Result<(), NoMemory>
+        ensures { OnOk result (self.new ≡ join_rule self.old from members) }
     {
         if !self.ring.takes_join(from, members) {
             return Ok(());
@@ -108,9 +108,9 @@ impl RingWork {
     }
 
     /// A promise ends a gathering of one's own.
-    #[tactic(auto, unfolding(crate::specs::Rings::ptc_row))]
-    fn ptc_row(&mut self, from: u8, inc: u32, id: RingId, members: Mask) -> Result<(), NoMemory>
-        ensures { OnOk result (self.new ≡ ptc_row self.old from inc id members) }
+    #[tactic(auto, unfolding(crate::specs::Rings::ptc_rule))]
+    fn ptc_rule(&mut self, from: u8, inc: u32, id: RingId, members: Mask) -> Result<(), NoMemory>
+        ensures { OnOk result (self.new ≡ ptc_rule self.old from inc id members) }
     {
         if !self.ring.may_promise(from, inc, id, members) {
             return Ok(());
@@ -120,9 +120,9 @@ impl RingWork {
         self.send(from, RingPacket::PtcAck { ring: id })
     }
 
-    #[tactic(auto, unfolding(crate::specs::Rings::ack_row, crate::specs::Rings::ack_row_of))]
-    fn ack_row(&mut self, alloc: Global, from: u8, id: RingId) -> Result<(), NoMemory>
-        ensures { OnOk result (self.new ≡ ack_row self.old from id) }
+    #[tactic(auto, unfolding(crate::specs::Rings::ack_rule, crate::specs::Rings::ack_rule_of))]
+    fn ack_rule(&mut self, alloc: Global, from: u8, id: RingId) -> Result<(), NoMemory>
+        ensures { OnOk result (self.new ≡ ack_rule self.old from id) }
     {
         let Some(gathering) = self.ring.gathering else {
             return Ok(());
@@ -141,39 +141,39 @@ impl RingWork {
         )
     }
 
-    #[tactic(auto, unfolding(crate::specs::Rings::commit_row))]
-    fn commit_row(&mut self, from: u8, id: RingId, members: Mask)
-        ensures { self.new ≡ commit_row self.old from id members }
+    #[tactic(auto, unfolding(crate::specs::Rings::commit_rule))]
+    fn commit_rule(&mut self, from: u8, id: RingId, members: Mask)
+        ensures { self.new ≡ commit_rule self.old from id members }
     {
         if is_promised(self.ring.promised, id) && members.has(self.ring.me) && from == id.leader {
             self.set_ring(id, members);
         }
     }
 
-    #[tactic(auto, unfolding(crate::specs::Rings::packet_row))]
-    pub(crate) fn packet_row(
+    #[tactic(auto, unfolding(crate::specs::Rings::packet_rule))]
+    pub(crate) fn packet_rule(
         &mut self,
         alloc: Global,
         from: u8,
         inc: u32,
         packet: RingPacket,
     ) -> Result<(), NoMemory>
-        ensures { OnOk result (self.new ≡ packet_row self.old from inc packet) }
+        ensures { OnOk result (self.new ≡ packet_rule self.old from inc packet) }
     {
         match packet {
             RingPacket::Heartbeat { ring } => {
-                self.heartbeat_row(from, ring);
+                self.heartbeat_rule(from, ring);
                 Ok(())
             }
-            RingPacket::Proclaim { .. } => self.proclaim_row(from),
-            RingPacket::Join { mask } => self.join_row(alloc, from, mask),
-            RingPacket::Ptc { ring, mask } => self.ptc_row(from, inc, ring, mask),
-            RingPacket::PtcAck { ring } => self.ack_row(alloc, from, ring),
+            RingPacket::Proclaim { .. } => self.proclaim_rule(from),
+            RingPacket::Join { mask } => self.join_rule(alloc, from, mask),
+            RingPacket::Ptc { ring, mask } => self.ptc_rule(from, inc, ring, mask),
+            RingPacket::PtcAck { ring } => self.ack_rule(alloc, from, ring),
             RingPacket::Commit { ring, mask } => {
-                self.commit_row(from, ring, mask);
+                self.commit_rule(from, ring, mask);
                 Ok(())
             }
-            RingPacket::Death { ring, node } => self.death_row(alloc, ring, node),
+            RingPacket::Death { ring, node } => self.death_rule(alloc, ring, node),
         }
     }
 }

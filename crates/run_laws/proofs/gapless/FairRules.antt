@@ -1,6 +1,6 @@
--- The rows of a step, but for those of rings, keep what holds of a node's rings.
-use Rattle.std.proofs.Common.{ℕ, ◌+◌, ◌-◌, List, [], ◌∷◌, take, drop, Option, Some, None, Bool, true, false, refl}
-use Rattle.std.specs.Prelude.{◌==◌, ◌&&◌, filter, nat_lt, nat_le, Result, Ok, Err}
+-- The rules of a step, but for those of rings and of views, keep what the walk keeps: no refusal is that a group was dissolved.
+use Rattle.std.proofs.Common.{◌≡◌, ℕ, ◌+◌, ◌-◌, List, [], ◌∷◌, ◌++◌, take, drop, Option, Some, None, Bool, true, false, refl}
+use Rattle.std.specs.Prelude.{not, ◌==◌, ◌&&◌, filter, length, nat_lt, nat_le, is_none, Result, Ok, Err}
 use Rattle.std.specs.Option.{unwrap_or}
 use Rattle.std.specs.List.{last_or}
 use Rattle.rsct_packet.specs.declared.ids.ProviderId.{ProviderId}
@@ -8,6 +8,7 @@ use Rattle.rsct_packet.specs.declared.ids.ProtoId.{ProtoId}
 use Rattle.rsct_packet.specs.Providers.{among}
 use Rattle.group_attr.specs.declared.attrs.Attrs.{Attrs}
 use Rattle.group_attr.specs.declared.attrs.Phases.{Phases}
+use Rattle.group_attr.specs.Agree.{agree}
 use Rattle.proposal_core.specs.declared.proposal.Cause.TheVariants.{Gone}
 use Rattle.proposal_core.specs.declared.proposal.Proposal.{Proposal}
 use Rattle.proposal_core.specs.declared.proposal.Proposal.TheVariants.{Join, Leave, Fail, Expel, State, Message, Attributes, Reflect}
@@ -15,11 +16,12 @@ use Rattle.proposal_core.specs.declared.entry.Vote.{Vote}
 use Rattle.proposal_core.specs.declared.entry.Entry.{Entry}
 use Rattle.proposal_core.specs.declared.entry.Entry.TheVariants.{Late}
 use Rattle.proposal_core.specs.declared.group_state.Running.{Running}
-use Rattle.proposal_core.specs.Fold.{runs, present}
+use Rattle.proposal_core.specs.declared.group_state.GroupState.{GroupState}
+use Rattle.proposal_core.specs.Fold.{max_providers, runs, present}
 use Rattle.proposal_core.specs.GroupView.{GroupView}
-use Rattle.proposal_core.specs.Lists.{state_in}
+use Rattle.proposal_core.specs.Lists.{is_at_limit, state_in}
 use Rattle.vote_phases.specs.Tally.{TallyView, tally_fail, open_voters, expires}
-use Rattle.batch_rules.specs.Waiting.{add_failure, waits_join, drop_join}
+use Rattle.batch_rules.specs.Waiting.{has_instance, add_failure, waits_join, drop_join}
 use Rattle.name_server.specs.Names as names
 use Rattle.client_callbacks.specs.declared.told.Why.{Why}
 use Rattle.client_callbacks.specs.declared.told.Why.TheVariants as why
@@ -30,23 +32,75 @@ use Rattle.session_state.specs.declared.state.Request.{Request}
 use Rattle.session_state.specs.declared.state.KeptBallot.{KeptBallot}
 use Rattle.session_state.specs.declared.state.SessionState.{SessionState}
 use Rattle.session_state.specs.State.{outstanding}
-use Rattle.session_state.specs.HandOn.{is_numbered, take_telling}
+use Rattle.session_state.specs.HandOn.{is_dissolved, is_numbered, take_telling}
 use Rattle.node_state.specs.declared.call.CallLine.{CallLine}
 use Rattle.node_state.specs.declared.call.CallLine.TheVariants as call
 use Rattle.node_state.specs.declared.group.Decision.{Decision}
 use Rattle.node_state.specs.declared.group.GroupRow.{GroupRow}
+use Rattle.node_state.specs.declared.group.Led.{Led}
 use Rattle.node_state.specs.declared.happened.Happened.TheVariants as happened
 use Rattle.node_state.specs.declared.packet.Body.TheVariants as body
 use Rattle.node_state.specs.declared.state.Core.{Core}
-use Rattle.node_state.specs.State.{row_of, led_of, with_led, state_of, len_of, holds, held_rows, fits_at_end, frozen, coordinates, leader_of, leads, set_leader, led_groups, others, least_acked, acked_by, acked_raised, decision_of}
+use Rattle.node_state.specs.State.{row_of, led_of, with_led, list_of, state_of, len_of, holds, held_rows, fits_at_end, frozen, coordinates, leader_of, leads, set_leader, led_groups, others, least_acked, acked_by, acked_raised, decision_of}
 use Rattle.node_state.specs.Sending.{sent, send_if_known, send_request_to, send_request, send_requests, vote_of, send_kept_to, send_kept, kept_sent_if, kept_sent_again, send_votes_again}
 use Rattle.node_state.specs.HandOn.{Answering}
 use Rattle.node_state.specs.Leading.{put_and_hand}
-use Rattle.node_state.specs.Deciding.{join_refusal, is_idle_empty, keep_attrs, wait_join, decide_join, decide_change, decided}
+use Rattle.node_state.specs.Deciding.{lacks_source, source_len, is_idle_empty, meant_attrs, join_refusal, keep_attrs, wait_join, decide_join, has_other_source, is_no_member, full_refusal, collide_refusal, other_refusal, decide_change, decided}
 use Rattle.node_state.specs.Following.{take_lookup, told_if, take_tell, requests_of, named, is_name_used, take_name, tell_again, decide_new, request_after, request_at, is_group_refused, take_request, entry_next, entry_elsewhere, take_entry, acked, take_ack, vote_cast, take_vote, tally_failed, wait_gone, marked, gone_present, gone_of, take_gone}
 use Rattle.node_state.specs.Ticks.{is_lost, lost_told, tick_owed, late_appended, announced, ticked_in, tally_ticks, entries_sent, list_sent_again, sent_again, tick_group, tick_led}
 use Rattle.node_state.specs.Calls.{refuse_call, changed, ask_last, proposed, record_ballot, ballot_sent_if, cast_last, give_ballot, send_gone, send_all_gone, goodbye_said, take_call}
-use Rattle.run_laws.proofs.ring_runs.Leading.{Keeps, on_either, on_fold, on_row, on_led, on_sessions, on_sent, on_known, on_put_handed, on_forgets, on_forgets_least, on_waiting, on_appended_if, on_tally, on_closes, on_begins, on_kept, on_refused}
+use Rattle.run_laws.proofs.gapless.FairWalk.{Fairly, alike_groups, Keeps, on_either, on_fold, on_row, on_led, on_sessions, on_sent, on_known, on_put_handed, on_forgets, on_forgets_least, on_waiting, on_appended_if, on_tally, on_closes, on_begins, on_kept, on_refused}
+
+-- a ballot leaves the decisions as they are
+cast_decided : (l : Led) (q : ProviderId) (v : Vote) (value message : Option (List ℕ)) (o : Option TallyView) → (vote_cast l q v value message o).decided ≡ l.decided
+unfolding vote_cast
+cast_decided l q v value message None = refl
+cast_decided l q v value message (Some t) = refl
+
+-- ---- why requests are refused
+
+join_fair : (s : Core) (g : List ℕ) (q : ProviderId) (a : Attrs) → Fairly (join_refusal s g q a)
+unfolding join_refusal
+join_fair s g q a =
+    by (not idle && not (agree a st.attrs)) (has_instance here q) (lacks_source s source q.node) (nat_le max_providers (length here)) (is_none st.running && is_at_limit (list_of s g))
+  where
+    st : GroupState
+    st = state_of s g
+
+    idle : Bool
+    idle = is_idle_empty st
+
+    here : List ProviderId
+    here = present st ++ (led_of s g).waiting.joins
+
+    source : Option (List ℕ)
+    source = (meant_attrs st a idle).source
+
+    by : (b0 b1 b2 b3 b4 : Bool) → Fairly (elim b0 as (λ _. Option Why) [ true ↦ Some why.BadAttributes | false ↦ elim b1 as (λ _. Option Why) [ true ↦ Some why.DuplicateInstance | false ↦ elim b2 as (λ _. Option Why) [ true ↦ Some (why.NoSource (source_len s source)) | false ↦ elim b3 as (λ _. Option Why) [ true ↦ Some (why.GroupFull 64) | false ↦ elim b4 as (λ _. Option Why) [ true ↦ Some (why.ListFull (list_of s g).len (list_of s g).bytes) | false ↦ None ] ] ] ] ])
+    by true b1 b2 b3 b4 = refl
+    by false true b2 b3 b4 = refl
+    by false false true b3 b4 = refl
+    by false false false true b4 = refl
+    by false false false false true = refl
+    by false false false false false = tt
+
+full_fair : (s : Core) (g : List ℕ) (o : Option Running) → Fairly (collide_refusal s g o)
+unfolding collide_refusal full_refusal
+full_fair s g (Some run) = refl
+full_fair s g None = by (is_at_limit (list_of s g))
+  where
+    by : (b : Bool) → Fairly (elim b as (λ _. Option Why) [ true ↦ Some (why.ListFull (list_of s g).len (list_of s g).bytes) | false ↦ None ])
+    by true = refl
+    by false = tt
+
+other_fair : (s : Core) (g : List ℕ) (q : ProviderId) (x : Proposal) → Fairly (other_refusal s g q x)
+unfolding other_refusal
+other_fair s g q x = by (is_no_member (state_of s g) (led_of s g).gone q x) (has_other_source (state_of s g).attrs x)
+  where
+    by : (a b : Bool) → Fairly (elim a as (λ _. Option Why) [ true ↦ Some why.NotAMember | false ↦ elim b as (λ _. Option Why) [ true ↦ Some why.BadAttributes | false ↦ collide_refusal s g (state_of s g).running ] ])
+    by true b = refl
+    by false true = refl
+    by false false = full_fair s g (state_of s g).running
 
 module _ (P : Core → Type 0) (k : Keeps P) where
   -- ---- what is owed is sent
@@ -98,29 +152,29 @@ module _ (P : Core → Type 0) (k : Keeps P) where
 
   pub on_led_by : {s : Core} (g : List ℕ) (n : ℕ) → P s → P (set_leader s g n)
   unfolding set_leader
-  on_led_by g n p = on_row P k g (λ row. record row { leader = Some n }) p
+  on_led_by g n p = on_row P k g (λ row. record row { leader = Some n }) (λ row. refl) p
 
-  on_decided_join : {s : Core} (g : List ℕ) (q : ProviderId) (r : ℕ) (a : Attrs) (o : Option Why) → P s → P (decide_join s g q r a o)
+  on_decided_join : {s : Core} (g : List ℕ) (q : ProviderId) (r : ℕ) (a : Attrs) (o : Option Why) → Fairly o → P s → P (decide_join s g q r a o)
   unfolding decide_join wait_join
-  on_decided_join {s} g q r a None p =
-      on_led P k g (λ l. record l { waiting = waits_join q l.waiting; join_attrs = keep_attrs l.join_attrs q a (is_idle_empty (state_of s g)) }) (on_kept P k g q r None p)
-  on_decided_join g q r a (Some y) p = on_refused P k g q r y p
+  on_decided_join {s} g q r a None fair p =
+      on_led P k g (λ l. record l { waiting = waits_join q l.waiting; join_attrs = keep_attrs l.join_attrs q a (is_idle_empty (state_of s g)) }) (λ l. refl) (on_kept P k g q r None tt p)
+  on_decided_join g q r a (Some y) fair p = on_refused P k g q r y fair p
 
-  on_decided_other : (f : Answering) {s : Core} (g : List ℕ) (q : ProviderId) (r : ℕ) (phases : Phases) (x : Proposal) (o : Option Why) → P s → P (decide_change f s g q r phases x o)
+  on_decided_other : (f : Answering) {s : Core} (g : List ℕ) (q : ProviderId) (r : ℕ) (phases : Phases) (x : Proposal) (o : Option Why) → Fairly o → P s → P (decide_change f s g q r phases x o)
   unfolding decide_change
-  on_decided_other f g q r phases x None p = on_begins P k f g x phases (on_kept P k g q r None p)
-  on_decided_other f g q r phases x (Some y) p = on_refused P k g q r y p
+  on_decided_other f g q r phases x None fair p = on_begins P k f g x phases (on_kept P k g q r None tt p)
+  on_decided_other f g q r phases x (Some y) fair p = on_refused P k g q r y fair p
 
   on_decided : (f : Answering) {s : Core} (g : List ℕ) (q : ProviderId) (r : ℕ) (phases : Phases) (x : Proposal) → P s → P (decided f s g q r phases x)
   unfolding decided
-  on_decided f {s} g q r phases (Join ps a n) p = on_decided_join g q r a (join_refusal s g q a) p
-  on_decided f g q r phases (Leave a b) p = on_decided_other f g q r phases (Leave a b) _ p
-  on_decided f g q r phases (Fail out) p = on_decided_other f g q r phases (Fail out) _ p
-  on_decided f g q r phases (Expel a b out) p = on_decided_other f g q r phases (Expel a b out) _ p
-  on_decided f g q r phases (State a b value) p = on_decided_other f g q r phases (State a b value) _ p
-  on_decided f g q r phases (Message a b bytes) p = on_decided_other f g q r phases (Message a b bytes) _ p
-  on_decided f g q r phases (Attributes a b attrs) p = on_decided_other f g q r phases (Attributes a b attrs) _ p
-  on_decided f g q r phases (Reflect v i value) p = on_decided_other f g q r phases (Reflect v i value) _ p
+  on_decided f {s} g q r phases (Join ps a n) p = on_decided_join g q r a (join_refusal s g q a) (join_fair s g q a) p
+  on_decided f {s} g q r phases (Leave a b) p = on_decided_other f g q r phases (Leave a b) (other_refusal s g q (Leave a b)) (other_fair s g q (Leave a b)) p
+  on_decided f {s} g q r phases (Fail out) p = on_decided_other f g q r phases (Fail out) (other_refusal s g q (Fail out)) (other_fair s g q (Fail out)) p
+  on_decided f {s} g q r phases (Expel a b out) p = on_decided_other f g q r phases (Expel a b out) (other_refusal s g q (Expel a b out)) (other_fair s g q (Expel a b out)) p
+  on_decided f {s} g q r phases (State a b value) p = on_decided_other f g q r phases (State a b value) (other_refusal s g q (State a b value)) (other_fair s g q (State a b value)) p
+  on_decided f {s} g q r phases (Message a b bytes) p = on_decided_other f g q r phases (Message a b bytes) (other_refusal s g q (Message a b bytes)) (other_fair s g q (Message a b bytes)) p
+  on_decided f {s} g q r phases (Attributes a b attrs) p = on_decided_other f g q r phases (Attributes a b attrs) (other_refusal s g q (Attributes a b attrs)) (other_fair s g q (Attributes a b attrs)) p
+  on_decided f {s} g q r phases (Reflect v i value) p = on_decided_other f g q r phases (Reflect v i value) (other_refusal s g q (Reflect v i value)) (other_fair s g q (Reflect v i value)) p
 
   -- ---- packets of a view
 
@@ -134,46 +188,46 @@ module _ (P : Core → Type 0) (k : Keeps P) where
       by : (b : Bool) → P (elim b as (λ _. Core) [ false ↦ s | true ↦ sent t from (body.Name s.views.view g (unwrap_or (names.looked_up g from s.names) 0)) ])
       by false = p
       by true =
-          on_sent P k from (body.Name s.views.view g (unwrap_or (names.looked_up g from s.names) 0)) tt (k.alike s t (record { rings = refl; me = refl; inc = refl; sends = refl; records = refl }) p)
+          on_sent P k from (body.Name s.views.view g (unwrap_or (names.looked_up g from s.names) 0)) tt (k.alike s t (alike_groups s t refl refl refl) p)
 
-  pub on_tell : {s : Core} (q : ProviderId) (r : ℕ) (y : Why) → P s → P (take_tell s q r y)
+  pub on_tell : {s : Core} (q : ProviderId) (r : ℕ) (y : Why) → is_dissolved y ≡ false → P s → P (take_tell s q r y)
   unfolding take_tell told_if
-  on_tell {s} q r y p = by (is_numbered r (outstanding s.sessions q))
+  on_tell {s} q r y fair p = by (is_numbered r (outstanding s.sessions q))
     where
       by : (b : Bool) → P (told_if s q r y b)
       by false = p
-      by true = k.records _ (happened.Told q r y) tt (on_sessions P k (take_telling s.sessions q r y) p)
+      by true = k.records _ (happened.Told q r y) fair (on_sessions P k (take_telling s.sessions q r y) p)
 
   pub on_name : {s : Core} (g : List ℕ) (n : ℕ) → P s → P (take_name s g n)
   unfolding take_name named
   on_name {s} g n p = on_either P k (is_name_used s g n) (by (n == 0)) p
     where
       by : (b : Bool) → P (named s g n b)
-      by true = on_fold P k (λ t (q : Request). take_tell t q.p q.r (why.GroupsFull 64)) (λ t q h. on_tell q.p q.r (why.GroupsFull 64) h) (requests_of s g) p
+      by true = on_fold P k (λ t (q : Request). take_tell t q.p q.r (why.GroupsFull 64)) (λ t q h. on_tell q.p q.r (why.GroupsFull 64) refl h) (requests_of s g) p
       by false = on_fold P k send_request (λ t q h. on_request_sent q h) (requests_of s g) (on_led_by g n p)
 
   on_request_new : (f : Answering) {s : Core} (g : List ℕ) (q : ProviderId) (r : ℕ) (phases : Phases) (x : Proposal) → P s → P (decide_new f s g q r phases x)
   unfolding decide_new
   on_request_new f {s} g q r phases x p = on_decided f g q r phases x (on_led_by g s.views.me p)
 
-  on_request_at : (f : Answering) {s : Core} (g : List ℕ) (q : ProviderId) (r : ℕ) (phases : Phases) (x : Proposal) (o : Option Decision) → P s → P (request_at f s g q r phases x o)
+  on_request_at : (f : Answering) {s : Core} (g : List ℕ) (q : ProviderId) (r : ℕ) (phases : Phases) (x : Proposal) (o : Option Decision) → decision_of (led_of s g) q ≡ o → P s → P (request_at f s g q r phases x o)
   unfolding request_at tell_again request_after
-  on_request_at f g q r phases x None p = on_request_new f g q r phases x p
-  on_request_at f {s} g q r phases x (Some d) p = by (nat_lt r d.r) (r == d.r)
+  on_request_at f g q r phases x None e p = on_request_new f g q r phases x p
+  on_request_at f {s} g q r phases x (Some d) e p = by (nat_lt r d.r) (r == d.r)
     where
-      told : (o : Option Why) → P (tell_again s g q r o)
-      told None = p
-      told (Some y) = on_sent P k q.node (body.Tell s.views.view g q r y) tt p
+      told : (o : Option Why) → Fairly o → P (tell_again s g q r o)
+      told None fair = p
+      told (Some y) fair = on_sent P k q.node (body.Tell s.views.view g q r y) fair p
 
       by : (a b : Bool) → P (request_after f s g q r phases x d a b)
       by true b = p
-      by false true = told d.why
+      by false true = told d.why (k.knows s g q d e p)
       by false false = on_request_new f g q r phases x p
 
   pub on_request : (f : Answering) {s : Core} (from : ℕ) (g : List ℕ) (q : ProviderId) (r : ℕ) (phases : Phases) (x : Proposal) → P s → P (take_request f s from g q r phases x)
   unfolding take_request
   on_request f {s} from g q r phases x p =
-      on_either P k (is_group_refused s g) (on_sent P k from (body.Name s.views.view g 0) tt p) (on_request_at f g q r phases x (decision_of (led_of s g) q) p)
+      on_either P k (is_group_refused s g) (on_sent P k from (body.Name s.views.view g 0) tt p) (on_request_at f g q r phases x (decision_of (led_of s g) q) refl p)
 
   on_entry_next : (f : Answering) {s : Core} (from : ℕ) (g : List ℕ) (stable : ℕ) (e : Entry) (b : Bool) → P s → P (entry_next f s from g stable e b)
   unfolding entry_next
@@ -195,12 +249,12 @@ module _ (P : Core → Type 0) (k : Keeps P) where
   pub on_ack : {s : Core} (from : ℕ) (g : List ℕ) (n : ℕ) → P s → P (take_ack s from g n)
   unfolding take_ack acked
   on_ack {s} from g n p =
-      on_either P k (leads s g && nat_le n (len_of s g)) (on_forgets_least P k g (on_led P k g (λ l. record l { acked = acked_raised from n l.acked }) p)) p
+      on_either P k (leads s g && nat_le n (len_of s g)) (on_forgets_least P k g (on_led P k g (λ l. record l { acked = acked_raised from n l.acked }) (λ l. refl) p)) p
 
   pub on_vote : (f : Answering) {s : Core} (g : List ℕ) (proto : ProtoId) (phase : ℕ) (q : ProviderId) (v : Vote) (value message : Option (List ℕ)) → P s → P (take_vote f s g proto phase q v value message)
   unfolding take_vote
   on_vote f {s} g proto phase q v value message p =
-      on_either P k (leads s g && runs proto phase (state_of s g).running) (on_closes P k f g (on_led P k g (λ l. vote_cast l q v value message l.tally) p)) p
+      on_either P k (leads s g && runs proto phase (state_of s g).running) (on_closes P k f g (on_led P k g (λ l. vote_cast l q v value message l.tally) (λ l. cast_decided l q v value message l.tally) p)) p
 
   on_gone_present : (f : Answering) {s : Core} (g : List ℕ) (q : ProviderId) → P s → P (gone_present f s g q)
   unfolding gone_present wait_gone tally_failed
@@ -213,7 +267,7 @@ module _ (P : Core → Type 0) (k : Keeps P) where
       t = with_led s g (λ l. record l { gone = marked l.gone q })
 
       at : P t
-      at = on_led P k g (λ l. record l { gone = marked l.gone q }) p
+      at = on_led P k g (λ l. record l { gone = marked l.gone q }) (λ l. refl) p
 
       failed : (o : Option TallyView) → P (tally_failed f t g q o)
       failed None = at

@@ -3,7 +3,7 @@ ghost use Rattle.std.specs.Prelude.{◌≡◌, ◌==◌, ◌&&◌, true, not, On
 ghost use Rattle.rsct_packet.specs.Ids.{same_view, view_lt};
 ghost use Rattle.rsct_packet.specs.Mask.{has_node};
 ghost use Rattle.view_exchange.specs.InPlace.{answer_in};
-ghost use Rattle.view_state.specs.Views.{ask_others, ask_row, answered, prepare, prepare_row, answer_row, refuse_row, install_row, taken_row};
+ghost use Rattle.view_state.specs.Views.{ask_others, ask_rule, answered, prepare, prepare_rule, answer_rule, refuse_rule, install_rule, taken_rule};
 
 use crate::lists::OwnLists;
 use crate::work::{
@@ -67,14 +67,14 @@ fn ask_others<L: OwnLists>(
 
 /// An order to ask these nodes for a view. The node promises it, and its own answer is the first. An own answer
 /// without a spelling leaves the promise, and nobody is asked.
-#[tactic(auto, unfolding(view_state::specs::Views::ask_row, view_state::specs::Views::ask_if, view_state::specs::Views::ask_others, view_state::specs::Views::may_ask))]
-pub(crate) fn ask_row<L: OwnLists>(
+#[tactic(auto, unfolding(view_state::specs::Views::ask_rule, view_state::specs::Views::ask_if, view_state::specs::Views::ask_others, view_state::specs::Views::may_ask))]
+pub(crate) fn ask_rule<L: OwnLists>(
     work: &mut ViewWork,
     alloc: Global,
     mask: Mask,
     lists: &L,
 ) -> Result<(), NoMemory>
-    ensures { OnOk result (work.new ≡ ask_row work.old mask (L.parts_of lists.now)) }
+    ensures { OnOk result (work.new ≡ ask_rule work.old mask (L.parts_of lists.now)) }
 {
     if !may_ask(&work.views, mask) {
         return Ok(());
@@ -134,8 +134,8 @@ fn prepare<L: OwnLists>(
 
 /// PREPARE, from a node in an incarnation: only the coordinator of the view asks for it, and only the nodes of the
 /// set.
-#[tactic(auto, unfolding(view_state::specs::Views::prepare_row))]
-pub(crate) fn prepare_row<L: OwnLists>(
+#[tactic(auto, unfolding(view_state::specs::Views::prepare_rule))]
+pub(crate) fn prepare_rule<L: OwnLists>(
     work: &mut ViewWork,
     alloc: Global,
     from: u8,
@@ -144,7 +144,7 @@ pub(crate) fn prepare_row<L: OwnLists>(
     mask: Mask,
     lists: &L,
 ) -> Result<(), NoMemory>
-    ensures { OnOk result (work.new ≡ prepare_row work.old from inc view mask
+    ensures { OnOk result (work.new ≡ prepare_rule work.old from inc view mask
         (L.parts_of lists.now)) }
 {
     let asked = how_asked(&work.views, from, inc, view, mask);
@@ -152,8 +152,8 @@ pub(crate) fn prepare_row<L: OwnLists>(
 }
 
 /// ANSWER: the first of a node that was asked for the view counts.
-#[tactic(auto, unfolding(view_state::specs::Views::answer_row, view_state::specs::Views::answer_to, view_state::specs::Views::gather_on, view_state::specs::Views::gathered, view_state::specs::Views::gathering_set, view_state::specs::Answers::add_answer))]
-pub(crate) fn answer_row(
+#[tactic(auto, unfolding(view_state::specs::Views::answer_rule, view_state::specs::Views::answer_to, view_state::specs::Views::gather_on, view_state::specs::Views::gathered, view_state::specs::Views::gathering_set, view_state::specs::Answers::add_answer))]
+pub(crate) fn answer_rule(
     work: &mut ViewWork,
     alloc: Global,
     node: u8,
@@ -161,7 +161,7 @@ pub(crate) fn answer_row(
     view: ViewId,
     answer: &AnswerRef,
 ) -> Result<(), NoMemory>
-    ensures { OnOk result (work.new ≡ answer_row work.old view (answer_in node inc answer.now)) }
+    ensures { OnOk result (work.new ≡ answer_rule work.old view (answer_in node inc answer.now)) }
 {
     let Some(mut g) = work.views.gathering.take() else {
         return Ok(());
@@ -174,9 +174,9 @@ pub(crate) fn answer_row(
 }
 
 /// REFUSE of the view that is gathered for: the gathering is dropped, and a later view has a number above.
-#[tactic(auto, unfolding(view_state::specs::Views::refuse_row, view_state::specs::Views::refuse_to, view_state::specs::Views::refused_by))]
-pub(crate) fn refuse_row(work: &mut ViewWork, view: ViewId, number: u32)
-    ensures { work.new ≡ refuse_row work.old view number }
+#[tactic(auto, unfolding(view_state::specs::Views::refuse_rule, view_state::specs::Views::refuse_to, view_state::specs::Views::refused_by))]
+pub(crate) fn refuse_rule(work: &mut ViewWork, view: ViewId, number: u32)
+    ensures { work.new ≡ refuse_rule work.old view number }
 {
     if let Some(g) = &work.views.gathering {
         if g.view == view {
@@ -188,9 +188,9 @@ pub(crate) fn refuse_row(work: &mut ViewWork, view: ViewId, number: u32)
 
 /// INSTALL: of the view that the node is in it says TAKEN again; of its promise, where it is a member with its
 /// incarnation, it is to be applied.
-#[tactic(auto, unfolding(view_state::specs::Views::install_row, view_state::specs::Views::installed))]
-pub(crate) fn install_row(work: &mut ViewWork, install: Install) -> Result<(), NoMemory>
-    ensures { OnOk result (work.new ≡ install_row work.old install) }
+#[tactic(auto, unfolding(view_state::specs::Views::install_rule, view_state::specs::Views::installed))]
+pub(crate) fn install_rule(work: &mut ViewWork, install: Install) -> Result<(), NoMemory>
+    ensures { OnOk result (work.new ≡ install_rule work.old install) }
 {
     let view = install.view;
     if work.views.view == view {
@@ -203,9 +203,9 @@ pub(crate) fn install_row(work: &mut ViewWork, install: Install) -> Result<(), N
 }
 
 /// TAKEN, also while frozen.
-#[tactic(auto, unfolding(view_state::specs::Views::taken_row))]
-pub(crate) fn taken_row(work: &mut ViewWork, from: u8, view: ViewId)
-    ensures { work.new ≡ taken_row work.old from view }
+#[tactic(auto, unfolding(view_state::specs::Views::taken_rule))]
+pub(crate) fn taken_rule(work: &mut ViewWork, from: u8, view: ViewId)
+    ensures { work.new ≡ taken_rule work.old from view }
 {
     if work.views.view == view {
         work.views.taken = work.views.taken.with(from);

@@ -1,4 +1,4 @@
--- The rows of views, but for an install.
+-- The rules of views, but for an install.
 use Rattle.std.proofs.Common.{◌≡◌, ◌<◌, ℕ, List, ◌++◌, length, Option, Some, None, Bool, true, false, refl, sym, ap, ◌∙◌, subst, inl, ⊎_elim, arith}
 use Rattle.std.specs.Prelude.{◌==◌, ◌&&◌, not, nat_le, max}
 use Rattle.std.proofs.lemmas.Bool.Decides.{nat_tests}
@@ -13,7 +13,7 @@ use Rattle.view_state.specs.declared.exchange.Exchange.{Exchange}
 use Rattle.view_state.specs.Answers.{max_parts}
 use Rattle.view_state.specs.declared.packet.ViewPacket.TheVariants as view
 use Rattle.view_state.specs.declared.views.Views.{Views}
-use Rattle.view_state.specs.Views.{view_sent, promised, answered, prepare, prepare_row, refused_by, refuse_to, refuse_row, taken_row, views_at_work}
+use Rattle.view_state.specs.Views.{view_sent, promised, answered, prepare, prepare_rule, refused_by, refuse_to, refuse_rule, taken_rule, views_at_work}
 use Rattle.node_state.specs.declared.packet.Body.TheVariants as body
 use Rattle.node_state.specs.declared.packet.Packet.{Packet}
 use Rattle.node_state.specs.declared.state.Core.{Core}
@@ -22,7 +22,7 @@ use Rattle.node_state.specs.State.{row_of, held_rows}
 use Rattle.node_state.specs.Sending.{sent, send_on, packet_on, network_to}
 use Rattle.node_state.specs.HandOn.{Answering}
 use Rattle.node_state.specs.Applying.{own_parts, apply_install, views_taken}
-use Rattle.node_state.specs.Step.{view_row, take_body}
+use Rattle.node_state.specs.Step.{view_rule, take_body}
 use Rattle.run_safety.specs.ViewOrder.{is_before, Lt, Le}
 use Rattle.run_safety.specs.Group.{Standing, Reply}
 use Rattle.run_safety.specs.Group as group
@@ -31,7 +31,7 @@ use Rattle.run_safety.proofs.Order.{lt_refl, lt_le, le_lt_trans, le_antisym}
 use Rattle.run_safety.proofs.Whole.{Whole}
 use Rattle.run_safety.proofs.Lives.{whole}
 use Rattle.step_refinement.specs.Ghost.{Ghost, Goes, part_of, Gathers, GathersIf}
-use Rattle.step_refinement.specs.Rows.{at_node}
+use Rattle.step_refinement.specs.Rules.{at_node}
 use Rattle.step_refinement.specs.Tied.{ShowsBody, Shows, Stands, NodeOf, Scene, opening_of, Tied}
 use Rattle.step_refinement.proofs.Goes.{Spares, sound_on, spares_same, carries_on, shows_on, rest_on, node_on}
 use Rattle.step_refinement.proofs.Changed.{set_here, set_there, changes, incs_set, has_pushed}
@@ -114,8 +114,8 @@ module _ (g : List ℕ) (w : Scene) (n : ℕ) (s : Core) (t : Tied g w n s) wher
 
 module _ (g : List ℕ) (w : Scene) (n : ℕ) (f : Answering) (s : Core) (t : Tied g w n s) where
   -- what is noted of views alone
-  pub taken_tied : (from inc : ℕ) (v : ViewId) → Tied g w n (view_row f s from inc (view.Taken v))
-  unfolding view_row views_taken apply_install taken_row
+  pub taken_tied : (from inc : ℕ) (v : ViewId) → Tied g w n (view_rule f s from inc (view.Taken v))
+  unfolding view_rule views_taken apply_install taken_rule
   taken_tied from inc v = by (same_view s.views.view v)
     where
       by : (b : Bool) → Tied g w n (views_taken f s (elim b [ true ↦ record (views_at_work s.views) { views = record (s.views) { taken = with_node s.views.taken from } } | false ↦ views_at_work s.views ]))
@@ -124,8 +124,8 @@ module _ (g : List ℕ) (w : Scene) (n : ℕ) (f : Answering) (s : Core) (t : Ti
           tied_views g w n s t (record (s.views) { taken = with_node s.views.taken from }) (rest_on t.ghost t.ghost n (spares_same t.ghost n) g (is_fixed s.config.mode) s.views (record (s.views) { taken = with_node s.views.taken from }) (row_of s g) s.groups s.sessions s.names (record { me = h.stands.me; up = h.stands.up; inc = h.stands.inc; view = h.stands.view; promise = h.stands.promise; seated = h.stands.seated }) refl refl refl refl h.gathering h) refl
       by false = t
 
-  pub refuse_tied : (from inc : ℕ) (v : ViewId) (k : ℕ) → Tied g w n (view_row f s from inc (view.Refuse v k))
-  unfolding view_row views_taken apply_install refuse_row refuse_to refused_by
+  pub refuse_tied : (from inc : ℕ) (v : ViewId) (k : ℕ) → Tied g w n (view_rule f s from inc (view.Refuse v k))
+  unfolding view_rule views_taken apply_install refuse_rule refuse_to refused_by
   refuse_tied from inc v k = at s.views.gathering t.own.0.gathering
     where
       by : (e : Exchange) (b : Bool) → Gathers t.ghost g n s.views.inc s.views.view s.views.promise e → Tied g w n (views_taken f s (elim b [ true ↦ refused_by (views_at_work s.views) k | false ↦ views_at_work s.views ]))
@@ -139,8 +139,8 @@ module _ (g : List ℕ) (w : Scene) (n : ℕ) (f : Answering) (s : Core) (t : Ti
       at None h = t
       at (Some e) h = by e (same_view e.view v) h
 
-  pub prepare_tied : t.ghost.asks ≡ true → (from inc : ℕ) (v : ViewId) (mask : Mask) → Tied g w n (view_row f s from inc (view.Prepare v mask))
-  unfolding view_row prepare_row prepare answered promised view_sent views_taken apply_install row_of own_parts held_rows
+  pub prepare_tied : t.ghost.asks ≡ true → (from inc : ℕ) (v : ViewId) (mask : Mask) → Tied g w n (view_rule f s from inc (view.Prepare v mask))
+  unfolding view_rule prepare_rule prepare answered promised view_sent views_taken apply_install row_of own_parts held_rows
   prepare_tied asks from inc v mask =
       let asked : Bool = v.coord == from && v.inc == inc && has_node mask s.views.me in
       by asked (asked && view_lt s.views.promise v) (asked && same_view v s.views.promise && not (same_view v s.views.view)) (view_lt v s.views.promise) refl refl
@@ -173,10 +173,10 @@ module _ (g : List ℕ) (w : Scene) (n : ℕ) (f : Answering) (s : Core) (t : Ti
       by asked false false true e q = tied_sent g w n s t v.coord (body.View (view.Refuse v s.views.promise.number)) tt
       by asked false false false e q = t
 
-pub taken_is_tied : (v : ViewId) (g : List ℕ) (w : Scene) (n : ℕ) (f : Answering) (s : Core) (from inc : ℕ) → Tied g w n s → Tied g w n (view_row f s from inc (view.Taken v))
+pub taken_is_tied : (v : ViewId) (g : List ℕ) (w : Scene) (n : ℕ) (f : Answering) (s : Core) (from inc : ℕ) → Tied g w n s → Tied g w n (view_rule f s from inc (view.Taken v))
 taken_is_tied v g w n f s from inc t = taken_tied g w n f s t from inc v
 
-pub refuse_is_tied : (v : ViewId) (k : ℕ) (g : List ℕ) (w : Scene) (n : ℕ) (f : Answering) (s : Core) (from inc : ℕ) → Tied g w n s → Tied g w n (view_row f s from inc (view.Refuse v k))
+pub refuse_is_tied : (v : ViewId) (k : ℕ) (g : List ℕ) (w : Scene) (n : ℕ) (f : Answering) (s : Core) (from inc : ℕ) → Tied g w n s → Tied g w n (view_rule f s from inc (view.Refuse v k))
 refuse_is_tied v k g w n f s from inc t = refuse_tied g w n f s t from inc v k
 
 pub prepare_is_tied : (v : ViewId) (mask : Mask) (g : List ℕ) (w : Scene) (n : ℕ) (f : Answering) (s : Core) (p : Packet) → p.body ≡ body.View (view.Prepare v mask) → Has p w.sent → Tied g w n s → Tied g w n (take_body f s p (body.View (view.Prepare v mask)))

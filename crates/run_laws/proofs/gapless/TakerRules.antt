@@ -1,0 +1,265 @@
+-- The rules of a step, but for calls, keep what the walk keeps.
+use Rattle.std.proofs.Common.{ℕ, ◌+◌, ◌-◌, List, [], ◌∷◌, take, drop, Option, Some, None, Bool, true, false, refl}
+use Rattle.std.specs.Prelude.{◌==◌, ◌&&◌, filter, nat_lt, nat_le}
+use Rattle.std.specs.Option.{unwrap_or}
+use Rattle.rsct_packet.specs.declared.ids.ProviderId.{ProviderId}
+use Rattle.rsct_packet.specs.declared.ids.ProtoId.{ProtoId}
+use Rattle.rsct_packet.specs.Providers.{among}
+use Rattle.group_attr.specs.declared.attrs.Attrs.{Attrs}
+use Rattle.group_attr.specs.declared.attrs.Phases.{Phases}
+use Rattle.proposal_core.specs.declared.proposal.Cause.TheVariants.{Gone}
+use Rattle.proposal_core.specs.declared.proposal.Proposal.{Proposal}
+use Rattle.proposal_core.specs.declared.proposal.Proposal.TheVariants.{Join, Leave, Fail, Expel, State, Message, Attributes, Reflect}
+use Rattle.proposal_core.specs.declared.entry.Vote.{Vote}
+use Rattle.proposal_core.specs.declared.entry.Entry.{Entry}
+use Rattle.proposal_core.specs.declared.entry.Entry.TheVariants.{Late}
+use Rattle.proposal_core.specs.declared.group_state.Running.{Running}
+use Rattle.proposal_core.specs.Fold.{runs, present}
+use Rattle.proposal_core.specs.GroupView.{GroupView}
+use Rattle.proposal_core.specs.Lists.{state_in}
+use Rattle.vote_phases.specs.Tally.{TallyView, tally_fail, open_voters, expires}
+use Rattle.batch_rules.specs.Waiting.{add_failure, waits_join, drop_join}
+use Rattle.name_server.specs.Names as names
+use Rattle.client_callbacks.specs.declared.told.Why.{Why}
+use Rattle.client_callbacks.specs.declared.told.Why.TheVariants as why
+use Rattle.client_callbacks.specs.declared.ballot.Filled.{Filled}
+use Rattle.session_state.specs.declared.state.Request.{Request}
+use Rattle.session_state.specs.declared.state.KeptBallot.{KeptBallot}
+use Rattle.session_state.specs.State.{outstanding}
+use Rattle.session_state.specs.HandOn.{is_numbered}
+use Rattle.node_state.specs.declared.group.Decision.{Decision}
+use Rattle.node_state.specs.declared.group.GroupRow.{GroupRow}
+use Rattle.node_state.specs.declared.packet.Body.TheVariants as body
+use Rattle.node_state.specs.declared.state.Core.{Core}
+use Rattle.node_state.specs.State.{row_of, led_of, with_led, state_of, len_of, holds, held_rows, fits_at_end, frozen, coordinates, leader_of, leads, set_leader, led_groups, others, least_acked, acked_by, acked_raised, decision_of}
+use Rattle.node_state.specs.Sending.{sent, send_if_known, send_request_to, send_request, send_requests, vote_of, send_kept_to, send_kept, kept_sent_if, kept_sent_again, send_votes_again}
+use Rattle.node_state.specs.HandOn.{Answering}
+use Rattle.node_state.specs.Leading.{put_and_hand}
+use Rattle.node_state.specs.Deciding.{join_refusal, is_idle_empty, keep_attrs, wait_join, decide_join, decide_change, decided}
+use Rattle.node_state.specs.Following.{take_lookup, told_if, take_tell, requests_of, named, is_name_used, take_name, tell_again, decide_new, request_after, request_at, is_group_refused, take_request, entry_next, entry_elsewhere, take_entry, acked, take_ack, vote_cast, take_vote, tally_failed, wait_gone, marked, gone_present, gone_of, take_gone}
+use Rattle.node_state.specs.Ticks.{is_lost, lost_told, tick_owed, late_appended, announced, ticked_in, tally_ticks, entries_sent, list_sent_again, sent_again, tick_group, tick_led}
+use Rattle.run_laws.proofs.gapless.TakerWalk.{Keeps, on_either, on_fold, on_sends, on_row, on_led, on_sent, on_known, on_put_handed, on_forgets, on_forgets_least, on_waiting, on_appended_if, on_tally, on_closes, on_begins, on_kept, on_refused}
+
+module _ (P : Core → Type 0) (k : Keeps P) where
+  -- ---- what is owed is sent
+
+  on_request_sent : {s : Core} (q : Request) → P s → P (send_request s q)
+  unfolding send_request send_request_to
+  on_request_sent {s} q p = on_either P k (frozen s) p (by (leader_of s q.group))
+    where
+      by : (o : Option ℕ) → P (send_request_to s q o)
+      by None = on_sent P k s.views.view.coord (body.Lookup s.views.view q.group) p
+      by (Some n) = on_sent P k n (body.Request s.views.view q.group q.p q.r q.phases q.proposal) p
+
+  pub on_requests : {s : Core} → P s → P (send_requests s)
+  unfolding send_requests
+  on_requests {s} p = on_fold P k send_request (λ t q h. on_request_sent q h) s.sessions.requests p
+
+  on_kept_sent : {s : Core} (b : KeptBallot) → P s → P (send_kept s b)
+  unfolding send_kept send_kept_to vote_of
+  on_kept_sent {s} b p = by b.ballot.filled
+    where
+      by : (o : Option Filled) → P (send_kept_to s b (leader_of s b.group) o)
+      by None = p
+      by (Some x) = on_known P k (leader_of s b.group) _ p
+
+  on_kept_again : {s : Core} (b : KeptBallot) → P s → P (kept_sent_again s b)
+  unfolding kept_sent_again kept_sent_if
+  on_kept_again {s} b p = by (runs b.proto b.phase (state_of s b.group).running)
+    where
+      by : (c : Bool) → P (kept_sent_if s b c)
+      by false = p
+      by true = on_kept_sent b p
+
+  pub on_votes : {s : Core} → P s → P (send_votes_again s)
+  unfolding send_votes_again
+  on_votes {s} p = on_fold P k kept_sent_again (λ t b h. on_kept_again b h) s.sessions.kept p
+
+  on_lost : {s : Core} (row : GroupRow) → P s → P (lost_told s row)
+  unfolding lost_told
+  on_lost {s} row p =
+      on_fold P k (λ t q. send_if_known t (leader_of t row.name) (body.Gone t.views.view row.name q)) (λ t q h. on_known P k (leader_of t row.name) (body.Gone t.views.view row.name q) h) (filter (is_lost s) (present (state_in row.list))) p
+
+  pub on_owed_part : {s : Core} → P s → P (tick_owed s)
+  unfolding tick_owed
+  on_owed_part {s} p =
+      let t : Core = send_requests s in
+      on_either P k (frozen s) p (on_votes (on_fold P k lost_told (λ u row h. on_lost row h) (held_rows t) (on_requests p)))
+
+  -- ---- requests are decided
+
+  pub on_led_by : {s : Core} (g : List ℕ) (n : ℕ) → P s → P (set_leader s g n)
+  unfolding set_leader
+  on_led_by g n p = on_row P k g (λ row. record row { leader = Some n }) (λ x. refl) (λ row. refl) (λ row. refl) p
+
+  on_decided_join : {s : Core} (g : List ℕ) (q : ProviderId) (r : ℕ) (a : Attrs) (o : Option Why) → P s → P (decide_join s g q r a o)
+  unfolding decide_join wait_join
+  on_decided_join {s} g q r a None p =
+      on_led P k g (λ l. record l { waiting = waits_join q l.waiting; join_attrs = keep_attrs l.join_attrs q a (is_idle_empty (state_of s g)) }) (on_kept P k g q r None p)
+  on_decided_join g q r a (Some y) p = on_refused P k g q r y p
+
+  on_decided_other : (f : Answering) {s : Core} (g : List ℕ) (q : ProviderId) (r : ℕ) (phases : Phases) (x : Proposal) (o : Option Why) → P s → P (decide_change f s g q r phases x o)
+  unfolding decide_change
+  on_decided_other f g q r phases x None p = on_begins P k f g x phases (on_kept P k g q r None p)
+  on_decided_other f g q r phases x (Some y) p = on_refused P k g q r y p
+
+  on_decided : (f : Answering) {s : Core} (g : List ℕ) (q : ProviderId) (r : ℕ) (phases : Phases) (x : Proposal) → P s → P (decided f s g q r phases x)
+  unfolding decided
+  on_decided f {s} g q r phases (Join ps a n) p = on_decided_join g q r a (join_refusal s g q a) p
+  on_decided f g q r phases (Leave a b) p = on_decided_other f g q r phases (Leave a b) _ p
+  on_decided f g q r phases (Fail out) p = on_decided_other f g q r phases (Fail out) _ p
+  on_decided f g q r phases (Expel a b out) p = on_decided_other f g q r phases (Expel a b out) _ p
+  on_decided f g q r phases (State a b value) p = on_decided_other f g q r phases (State a b value) _ p
+  on_decided f g q r phases (Message a b bytes) p = on_decided_other f g q r phases (Message a b bytes) _ p
+  on_decided f g q r phases (Attributes a b attrs) p = on_decided_other f g q r phases (Attributes a b attrs) _ p
+  on_decided f g q r phases (Reflect v i value) p = on_decided_other f g q r phases (Reflect v i value) _ p
+
+  -- ---- packets of a view
+
+  pub on_lookup : {s : Core} (from : ℕ) (g : List ℕ) → P s → P (take_lookup s from g)
+  unfolding take_lookup
+  on_lookup {s} from g p = by (coordinates s)
+    where
+      t : Core
+      t = record s { names = names.lookup g from s.names }
+
+      by : (b : Bool) → P (elim b as (λ _. Core) [ false ↦ s | true ↦ sent t from (body.Name s.views.view g (unwrap_or (names.looked_up g from s.names) 0)) ])
+      by false = p
+      by true =
+          on_sent P k from (body.Name s.views.view g (unwrap_or (names.looked_up g from s.names) 0)) (on_sends P k {s = s} {t = t} (record { groups = refl; views = refl; sessions = refl; records = refl }) p)
+
+  pub on_tell : {s : Core} (q : ProviderId) (r : ℕ) (y : Why) → P s → P (take_tell s q r y)
+  unfolding take_tell told_if
+  on_tell {s} q r y p = by (is_numbered r (outstanding s.sessions q))
+    where
+      by : (b : Bool) → P (told_if s q r y b)
+      by false = p
+      by true = k.tells s q r y p
+
+  pub on_name : {s : Core} (g : List ℕ) (n : ℕ) → P s → P (take_name s g n)
+  unfolding take_name named
+  on_name {s} g n p = on_either P k (is_name_used s g n) (by (n == 0)) p
+    where
+      by : (b : Bool) → P (named s g n b)
+      by true = on_fold P k (λ t (q : Request). take_tell t q.p q.r (why.GroupsFull 64)) (λ t q h. on_tell q.p q.r (why.GroupsFull 64) h) (requests_of s g) p
+      by false = on_fold P k send_request (λ t q h. on_request_sent q h) (requests_of s g) (on_led_by g n p)
+
+  on_request_new : (f : Answering) {s : Core} (g : List ℕ) (q : ProviderId) (r : ℕ) (phases : Phases) (x : Proposal) → P s → P (decide_new f s g q r phases x)
+  unfolding decide_new
+  on_request_new f {s} g q r phases x p = on_decided f g q r phases x (on_led_by g s.views.me p)
+
+  on_request_at : (f : Answering) {s : Core} (g : List ℕ) (q : ProviderId) (r : ℕ) (phases : Phases) (x : Proposal) (o : Option Decision) → P s → P (request_at f s g q r phases x o)
+  unfolding request_at tell_again request_after
+  on_request_at f g q r phases x None p = on_request_new f g q r phases x p
+  on_request_at f {s} g q r phases x (Some d) p = by (nat_lt r d.r) (r == d.r)
+    where
+      told : (o : Option Why) → P (tell_again s g q r o)
+      told None = p
+      told (Some y) = on_sent P k q.node (body.Tell s.views.view g q r y) p
+
+      by : (a b : Bool) → P (request_after f s g q r phases x d a b)
+      by true b = p
+      by false true = told d.why
+      by false false = on_request_new f g q r phases x p
+
+  pub on_request : (f : Answering) {s : Core} (from : ℕ) (g : List ℕ) (q : ProviderId) (r : ℕ) (phases : Phases) (x : Proposal) → P s → P (take_request f s from g q r phases x)
+  unfolding take_request
+  on_request f {s} from g q r phases x p =
+      on_either P k (is_group_refused s g) (on_sent P k from (body.Name s.views.view g 0) p) (on_request_at f g q r phases x (decision_of (led_of s g) q) p)
+
+  on_entry_next : (f : Answering) {s : Core} (from : ℕ) (g : List ℕ) (stable : ℕ) (e : Entry) (b : Bool) → P s → P (entry_next f s from g stable e b)
+  unfolding entry_next
+  on_entry_next f from g stable e false p = p
+  on_entry_next f {s} from g stable e true p =
+      let t : Core = put_and_hand f s (Some from) g e in
+      on_forgets P k g stable (on_led_by g from (on_sent P k from (body.Ack t.views.view g (len_of t g)) (on_put_handed P k f (Some from) g e p)))
+
+  on_entry_elsewhere : {s : Core} (from : ℕ) (g : List ℕ) (stable : ℕ) (b : Bool) → P s → P (entry_elsewhere s from g stable b)
+  unfolding entry_elsewhere
+  on_entry_elsewhere {s} from g stable true p = on_forgets P k g stable (on_sent P k from (body.Ack s.views.view g (len_of s g)) p)
+  on_entry_elsewhere {s} from g stable false p = on_either P k (holds s g) (on_forgets P k g stable p) p
+
+  pub on_entry : (f : Answering) {s : Core} (from : ℕ) (g : List ℕ) (place stable : ℕ) (e : Entry) → P s → P (take_entry f s from g place stable e)
+  unfolding take_entry
+  on_entry f {s} from g place stable e p =
+      on_either P k (place == len_of s g) (on_entry_next f from g stable e (fits_at_end s g e) p) (on_entry_elsewhere from g stable (nat_lt place (len_of s g)) p)
+
+  pub on_ack : {s : Core} (from : ℕ) (g : List ℕ) (n : ℕ) → P s → P (take_ack s from g n)
+  unfolding take_ack acked
+  on_ack {s} from g n p =
+      on_either P k (leads s g && nat_le n (len_of s g)) (on_forgets_least P k g (on_led P k g (λ l. record l { acked = acked_raised from n l.acked }) p)) p
+
+  pub on_vote : (f : Answering) {s : Core} (g : List ℕ) (proto : ProtoId) (phase : ℕ) (q : ProviderId) (v : Vote) (value message : Option (List ℕ)) → P s → P (take_vote f s g proto phase q v value message)
+  unfolding take_vote
+  on_vote f {s} g proto phase q v value message p =
+      on_either P k (leads s g && runs proto phase (state_of s g).running) (on_closes P k f g (on_led P k g (λ l. vote_cast l q v value message l.tally) p)) p
+
+  on_gone_present : (f : Answering) {s : Core} (g : List ℕ) (q : ProviderId) → P s → P (gone_present f s g q)
+  unfolding gone_present wait_gone tally_failed
+  on_gone_present f {s} g q p =
+      let u : Core = tally_failed f t g q (led_of t g).tally in
+      let h : P u = failed (led_of t g).tally in
+      on_either P k (among (state_of u g).members q) (on_waiting P k g (add_failure q Gone) h) h
+    where
+      t : Core
+      t = with_led s g (λ l. record l { gone = marked l.gone q })
+
+      at : P t
+      at = on_led P k g (λ l. record l { gone = marked l.gone q }) p
+
+      failed : (o : Option TallyView) → P (tally_failed f t g q o)
+      failed None = at
+      failed (Some x) = on_closes P k f g (on_tally P k g (Some (tally_fail q x)) at)
+
+  pub on_gone : (f : Answering) {s : Core} (g : List ℕ) (q : ProviderId) → P s → P (take_gone f s g q)
+  unfolding take_gone gone_of
+  on_gone f {s} g q p = on_either P k (leads s g) (by (among (present (state_of s g)) q) (among (led_of s g).waiting.joins q)) p
+    where
+      by : (a b : Bool) → P (gone_of f s g q a b)
+      by true b = on_gone_present f g q p
+      by false true = on_waiting P k g (drop_join q) p
+      by false false = p
+
+  -- ---- the tick of what is led
+
+  on_late : (f : Answering) {s : Core} (g : List ℕ) (t : TallyView) (o : Option Running) → P s → P (late_appended f s g t o)
+  unfolding late_appended
+  on_late f g t None p = p
+  on_late f {s} g t (Some run) p =
+      on_appended_if P k f g (Late run.proto run.phase (open_voters t)) (fits_at_end s g (Late run.proto run.phase (open_voters t))) p
+
+  on_announced : (f : Answering) {s : Core} (g : List ℕ) (t : TallyView) (b : Bool) → P s → P (announced f s g t b)
+  unfolding announced
+  on_announced f g t false p = p
+  on_announced f {s} g t true p = on_late f g t (state_of s g).running p
+
+  on_tally_ticks : (f : Answering) {s : Core} (g : List ℕ) (o : Option TallyView) → P s → P (tally_ticks f s g o)
+  unfolding tally_ticks
+  on_tally_ticks f g None p = p
+  on_tally_ticks f {s} g (Some t) p =
+      let u : Core = announced f s g t (s.sessions.level == 2 && expires t) in
+      on_closes P k f g (on_tally P k g (ticked_in (led_of u g).tally) (on_announced f g t (s.sessions.level == 2 && expires t) p))
+
+  on_entries_sent : (to : ℕ) (g : List ℕ) (stable : ℕ) (es : List Entry) (i : ℕ) (s : Core) → P s → P (entries_sent to g i stable es s)
+  unfolding entries_sent
+  on_entries_sent to g stable [] i s p = p
+  on_entries_sent to g stable (e ∷ es) i s p =
+      on_entries_sent to g stable es (i + 1) (sent s to (body.Entry s.views.view g i stable e)) (on_sent P k to (body.Entry s.views.view g i stable e) p)
+
+  on_again : {s : Core} (g : List ℕ) (n : ℕ) → P s → P (sent_again g s n)
+  unfolding sent_again list_sent_again
+  on_again {s} g n p = by (row_of s g).list
+    where
+      by : (o : Option GroupView) → P (list_sent_again s g n (acked_by s (row_of s g) n) o)
+      by None = p
+      by (Some l) = on_entries_sent n g (least_acked s g) (take 16 (drop (acked_by s (row_of s g) n - l.start) l.entries)) (acked_by s (row_of s g) n) s p
+
+  on_group_ticks : (f : Answering) {s : Core} (g : List ℕ) → P s → P (tick_group f s g)
+  unfolding tick_group
+  on_group_ticks f {s} g p =
+      let t : Core = tally_ticks f s g (led_of s g).tally in
+      on_fold P k (sent_again g) (λ u n h. on_again g n h) (others t) (on_tally_ticks f g (led_of s g).tally p)
+
+  pub on_led_part : (f : Answering) {s : Core} → P s → P (tick_led f s)
+  unfolding tick_led
+  on_led_part f {s} p = on_either P k (frozen s) p (on_fold P k (tick_group f) (λ t g h. on_group_ticks f g h) (led_groups s) p)
