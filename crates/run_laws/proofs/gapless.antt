@@ -4,8 +4,6 @@ pub mod Growing
 pub mod Standing
 pub mod Putting
 pub mod TakerWalk
-pub mod TakerRules
-pub mod TakerWalking
 pub mod Keeping
 pub mod Calls
 pub mod Adding

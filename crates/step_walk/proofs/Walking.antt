@@ -28,7 +28,7 @@ use Rattle.std.proofs.lemmas.Bool.{eqb-true}
 use Rattle.node_state.specs.Ticks.{tick_owed, tick_led}
 use Rattle.node_state.specs.Ending.{end_step}
 use Rattle.node_state.specs.Calls.{take_call}
-use Rattle.step_walk.proofs.Changes.{Any, Viewing, Asks, Prepares, Answers, Refuses, Installs, Takes, Gathers, Reminds, viewing, Keeps, KeepsRules, KeepsRings, KeepsViews, KeepsCalls}
+use Rattle.step_walk.proofs.Changes.{Any, Whatever, Viewing, Asks, Prepares, Answers, Refuses, Installs, Takes, Gathers, Reminds, viewing, Keeps, KeepsRules, KeepsRings, KeepsViews, KeepsCalls}
 use Rattle.step_walk.proofs.Leading.{on_either, on_fold}
 use Rattle.step_walk.proofs.Ending.{on_ended}
 use Rattle.step_walk.proofs.Rules.{on_owed_part, on_led_part}
@@ -60,6 +60,13 @@ stepped_is f s step.Garbage = refl
 abbrev pub GivenBy : (Packet → Type 0) → NodeEvent → Type 0
 GivenBy Given (step.Given q) = Given q
 GivenBy Given _ = Unit {0}
+
+pub whatever : (e : NodeEvent) → GivenBy Whatever e
+whatever step.Ticks = tt
+whatever (step.Asks mask) = tt
+whatever (step.Given q) = tt
+whatever (step.Calls c) = tt
+whatever step.Garbage = tt
 
 module _ (P : Core → Type 0) (Given : Packet → Type 0) (rules : KeepsRules P Given) (rings : KeepsRings P Given) (views : KeepsViews P) where
   k : Keeps P Any
