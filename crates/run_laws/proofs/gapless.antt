@@ -10,9 +10,6 @@ pub mod Adding
 pub mod Resting
 pub mod Stepping
 pub mod TakerLaw
-pub mod FairWalk
-pub mod FairRules
-pub mod FairWalking
 pub mod Fair
 pub mod Tellings
 pub mod Moving
