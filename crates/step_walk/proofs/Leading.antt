@@ -179,7 +179,7 @@ module _ (P : Core → Type 0) (Ok : List ℕ → Type 0) (k : Keeps P Ok) where
   on_waits_if g ok q false true p = on_waiting g ok (add_failure q Gone) (fails_few q Gone) p
   on_waits_if g ok q false false p = p
 
-  on_new_members : {s : Core} (g : List ℕ) (ok : Ok g) (before after : GroupState) → P s → P (new_members_wait s g before after)
+  pub on_new_members : {s : Core} (g : List ℕ) (ok : Ok g) (before after : GroupState) → P s → P (new_members_wait s g before after)
   unfolding new_members_wait
   on_new_members {s} g ok before after p =
       on_fold (λ t q. wait_if t g q (among after.failed q) (among (led_of s g).gone q)) (λ t q h. on_waits_if g ok q (among after.failed q) (among (led_of s g).gone q) h) (filter (λ q. not (among before.members q)) after.members) p

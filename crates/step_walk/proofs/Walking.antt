@@ -40,15 +40,15 @@ abbrev pub called : Core → NodeEvent → Core
 called s (step.Calls c) = take_call s c
 called s _ = s
 
--- a step before its end, from the call on
+-- a step before its end
 abbrev pub before_end : Answering → Core → NodeEvent → Core
 before_end f s step.Ticks = tick_led f (tick_owed (tick_views f (tick_rings s)))
 before_end f s (step.Asks mask) = take_order f s mask
 before_end f s (step.Given q) = packet_rule f s q
-before_end f s (step.Calls c) = s
+before_end f s (step.Calls c) = take_call s c
 before_end f s step.Garbage = s
 
-pub stepped_is : (f : Answering) (s : Core) (e : NodeEvent) → stepped f s e ≡ end_step f (before_end f (called (at_work s) e) e)
+pub stepped_is : (f : Answering) (s : Core) (e : NodeEvent) → stepped f s e ≡ end_step f (before_end f (at_work s) e)
 unfolding stepped event_rule tick_rule
 stepped_is f s step.Ticks = refl
 stepped_is f s (step.Asks mask) = refl
@@ -133,16 +133,16 @@ module _ (P : Core → Type 0) (Given : Packet → Type 0) (rules : KeepsRules P
       by true e = on_body P Given rules rings f q q.body given (eqb-true q.to s.views.me e) refl (λ y is. on_view f q.from q.inc y p) p
       by false e = p
 
-  pub on_before_end : (f : Answering) {s : Core} (e : NodeEvent) → GivenBy Given e → P s → P (before_end f s e)
-  on_before_end f {s} step.Ticks given p = on_led_part P Given rules f (on_owed_part P Given rules (on_views_part f (rings.ticks s p)))
-  on_before_end f (step.Asks mask) given p = on_order f mask p
-  on_before_end f (step.Given q) given p = on_packet f q given p
-  on_before_end f (step.Calls c) given p = p
-  on_before_end f step.Garbage given p = p
+  -- what holds after the call of a step, or before any other step, holds before its end, and after it
+  pub on_before_end : (f : Answering) (s : Core) (e : NodeEvent) → GivenBy Given e → P (called s e) → P (before_end f s e)
+  on_before_end f s step.Ticks given p = on_led_part P Given rules f (on_owed_part P Given rules (on_views_part f (rings.ticks s p)))
+  on_before_end f s (step.Asks mask) given p = on_order f mask p
+  on_before_end f s (step.Given q) given p = on_packet f q given p
+  on_before_end f s (step.Calls c) given p = p
+  on_before_end f s step.Garbage given p = p
 
-  -- what holds after the call of a step, or before any other step, holds after it
   pub on_stepped : (f : Answering) (s : Core) (e : NodeEvent) → GivenBy Given e → P (called (at_work s) e) → P (stepped f s e)
-  on_stepped f s e given p = subst P (sym (stepped_is f s e)) (on_ended P k f (on_before_end f e given p))
+  on_stepped f s e given p = subst P (sym (stepped_is f s e)) (on_ended P k f (on_before_end f (at_work s) e given p))
 
   pub on_called : KeepsCalls P → {s : Core} (e : NodeEvent) → P s → P (called s e)
   on_called calls (step.Calls c) p = on_call P Given rules calls c p

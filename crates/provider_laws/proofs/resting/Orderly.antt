@@ -31,9 +31,7 @@ use Rattle.node_state.specs.Following.{vote_cast}
 use Rattle.node_state.specs.Applying.{base_row}
 use Rattle.node_state.proofs.NameOrder.{KeepsName, row_here, rows_ordered}
 use Rattle.step_refinement.proofs.BaseOrder.{bases_ordered}
-
-abbrev pub Few : WaitingView → Type 0
-Few w = (length w.joins ≤ 64) × (length w.failures ≤ 64)
+use Rattle.step_walk.proofs.Waiting.{Few}
 
 abbrev pub FewIn : List GroupRow → Type 0
 FewIn rows = (row : GroupRow) → Has row rows → Few row.led.waiting
@@ -41,9 +39,6 @@ FewIn rows = (row : GroupRow) → Has row rows → Few row.led.waiting
 pub record Orderly (s : Core) : Type 0 where
   pub order : InNameOrder s.groups
   pub few : FewIn s.groups
-
-abbrev pub MildWaits : (WaitingView → WaitingView) → Type 0
-MildWaits f = (w : WaitingView) → Few w → Few (f w)
 
 abbrev pub MildLed : (Led → Led) → Type 0
 MildLed f = (l : Led) → Few l.waiting → Few (f l).waiting
@@ -96,49 +91,6 @@ on_row {s} g f m p = on_row_at {s = s} g f m.0 (m.1 (row_of s g) (row_few s g p.
 pub on_led : {s : Core} (g : List ℕ) (f : Led → Led) → MildLed f → Orderly s → Orderly (with_led s g f)
 unfolding with_led
 on_led g f m p = on_row g (λ row. record row { led = f row.led }) (λ x. refl, λ x w. m x.led w) p
-
--- ---- what waits
-
-pub fails_few : (q : ProviderId) (c : Cause) → MildWaits (add_failure q c)
-fails_few q c w k = by (is_failing q w) (nat_lt (length w.failures) 64) refl
-  where
-    more : WaitingView
-    more = record w { failures = w.failures ++ record { p = q; cause = c } ∷ [] }
-
-    by : (a b : Bool) → nat_lt (length w.failures) 64 ≡ b → Few (if not a && b then more else w)
-    by true b e = k
-    by false false e = k
-    by false true e = (k.0, let z : length w.failures < 64 = ltb-true (length w.failures) 64 e in omega (arith, z, length-append w.failures (record { p = q; cause = c } ∷ [])))
-
-pub dropped_few : (q : ProviderId) → MildWaits (drop_join q)
-dropped_few q w k = (let z = shorter w.joins in omega (arith, z, k.0), k.1)
-  where
-    shorter : (ps : List ProviderId) → length (without ps q) ≤ length ps
-    shorter ps = filtered _ ps
-      where
-        filtered : (test : ProviderId → Bool) (xs : List ProviderId) → length (filter test xs) ≤ length xs
-        filtered test [] = omega arith
-        filtered test (x ∷ xs) = at (test x) (filtered test xs)
-          where
-            at : (b : Bool) → length (filter test xs) ≤ length xs → length (cond b (x ∷ filter test xs) (filter test xs)) ≤ length (x ∷ xs)
-            at true h = omega (arith, h)
-            at false h = omega (arith, h)
-
-left_few : {A : Type 0} (b : Bool) (xs : List A) → length xs ≤ 64 → length (left_of b xs) ≤ 64
-left_few true xs k = omega arith
-left_few false [] k = omega arith
-left_few false (x ∷ xs) k = omega (arith, k)
-
-pub failures_few : (b : Batch) → MildWaits (failures_left b)
-failures_few b w k = (k.0, left_few (batches_failures b) w.failures k.1)
-
-pub joins_few : (b : Batch) → MildWaits (joins_left b)
-joins_few b w k = (left_few (batches_joins b) w.joins k.0, k.1)
-
-pub cast_few : (l : Led) (p : ProviderId) (v : Vote) (value message : Option (List ℕ)) (t : Option TallyView) → Few l.waiting → Few (vote_cast l p v value message t).waiting
-unfolding vote_cast
-cast_few l p v value message None k = k
-cast_few l p v value message (Some t) k = k
 
 -- ---- a join that waits
 
