@@ -1,17 +1,12 @@
 -- A goodbye changes no group and no view, and puts nothing.
 use Rattle.std.proofs.Common.{◌≡◌, ℕ, List, [], ◌∷◌, ◌++◌, fold, Option, Some, None, Bool, true, false, refl, sym, subst, inl, inr}
 use Rattle.std.specs.Prelude.{filter, Result, Ok, Err}
-use Rattle.std.specs.List.{last_or}
 use Rattle.rsct_packet.specs.Search.{Has}
-use Rattle.client_callbacks.specs.declared.ballot.Filled.{Filled}
 use Rattle.session_state.specs.declared.fault.GsFault.{GsFault}
-use Rattle.session_state.specs.declared.state.KeptBallot.{KeptBallot}
 use Rattle.session_state.specs.declared.state.Provider.{Provider}
-use Rattle.session_state.specs.declared.state.Request.{Request}
 use Rattle.session_state.specs.declared.state.SessionState.{SessionState}
 use Rattle.session_state.specs.State.{is_client_of, client_token}
 use Rattle.session_state.specs.Calls.{goodbye_taken}
-use Rattle.node_state.specs.declared.call.CallLine.{CallLine}
 use Rattle.node_state.specs.declared.call.CallLine.TheVariants as call
 use Rattle.node_state.specs.declared.happened.Happened.{Happened}
 use Rattle.node_state.specs.declared.happened.Happened.TheVariants as happened
@@ -20,7 +15,7 @@ use Rattle.node_state.specs.declared.packet.Body.TheVariants as body
 use Rattle.node_state.specs.declared.state.Core.{Core}
 use Rattle.node_state.specs.State.{frozen, leader_of, recorded, with_sessions}
 use Rattle.node_state.specs.Sending.{send_on, sent, send_if_known}
-use Rattle.node_state.specs.Calls.{refuse_call, changed, ask_last, proposed, record_ballot, ballot_sent_if, cast_last, give_ballot, send_gone, send_all_gone, goodbye_said, take_call}
+use Rattle.node_state.specs.Calls.{refuse_call, send_gone, send_all_gone, goodbye_said, take_call}
 
 abbrev pub NoPut : Happened → Type 0
 NoPut (happened.Put n v g i e) = ⊥

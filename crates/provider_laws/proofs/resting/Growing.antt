@@ -1,13 +1,10 @@
 -- Changes of a row that keep its name and its leader, do not shorten its list, and let few joins and failures wait.
-use Rattle.std.proofs.Common.{◌≡◌, ◌≤◌, ℕ, Option, Some, None, Bool, true, false, refl, arith}
-use Rattle.std.specs.Prelude.{nat_le, max, drop, ◌-◌, if◌then◌else◌}
+use Rattle.std.proofs.Common.{◌≡◌, ◌≤◌, Some, refl, arith}
 use Rattle.rsct_packet.specs.declared.ids.ViewId.{ViewId}
 use Rattle.proposal_core.specs.declared.entry.Entry.{Entry}
-use Rattle.proposal_core.specs.GroupView.{GroupView}
-use Rattle.proposal_core.specs.Lists.{list_or_new, len_in, with_entry, forgotten}
+use Rattle.proposal_core.specs.Lists.{list_or_new, len_in, with_entry}
 use Rattle.node_state.specs.declared.group.GroupRow.{GroupRow}
 use Rattle.node_state.specs.declared.group.Led.{Led}
-use Rattle.node_state.specs.State.{list_forgotten}
 use Rattle.node_state.proofs.NameOrder.{KeepsName}
 use Rattle.step_walk.proofs.Waiting.{Few}
 use Rattle.step_walk.proofs.Changes.{Mild}

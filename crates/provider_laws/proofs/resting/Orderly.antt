@@ -1,23 +1,18 @@
 -- The groups of a node stand in the order of their names, and in each at most 64 joins and 64 failures wait.
-use Rattle.std.proofs.Common.{◌≡◌, ◌≤◌, ◌<◌, ℕ, List, [], ◌∷◌, ◌++◌, length, Option, Some, None, Bool, true, false, cond, refl, sym, subst, inl, inr, arith, length-append}
-use Rattle.std.specs.Prelude.{◌&&◌, not, find, map, filter, nat_lt, nat_le, is_none, if◌then◌else◌}
+use Rattle.std.proofs.Common.{◌≡◌, ◌<◌, ℕ, List, [], ◌∷◌, ◌++◌, length, Option, Some, None, Bool, true, false, cond, refl, sym, subst, inl, inr, arith, length-append}
+use Rattle.std.specs.Prelude.{◌&&◌, not, find, map, nat_le, is_none}
 use Rattle.std.specs.Str.{bytes_eq}
-use Rattle.std.proofs.lemmas.Bool.{ltb-true, leb-false}
+use Rattle.std.proofs.lemmas.Bool.{leb-false}
 use Rattle.rsct_packet.specs.declared.ids.ProviderId.{ProviderId}
 use Rattle.rsct_packet.specs.Text.{name_lt}
 use Rattle.rsct_packet.specs.Search.{Has}
-use Rattle.rsct_packet.specs.Providers.{without}
 use Rattle.rsct_packet.proofs.HasLaws.{find_has, has_map}
 use Rattle.group_attr.specs.declared.attrs.Attrs.{Attrs}
-use Rattle.group_attr.specs.declared.attrs.Batch.{Batch}
 use Rattle.group_attr.specs.Agree.{agree}
-use Rattle.proposal_core.specs.declared.proposal.Cause.{Cause}
-use Rattle.proposal_core.specs.declared.entry.Vote.{Vote}
 use Rattle.proposal_core.specs.declared.group_state.GroupState.{GroupState}
 use Rattle.proposal_core.specs.Fold.{max_providers, present}
 use Rattle.proposal_core.specs.Lists.{is_at_limit}
-use Rattle.vote_phases.specs.Tally.{TallyView}
-use Rattle.batch_rules.specs.Waiting.{WaitingView, has_instance, waits_join, is_failing, add_failure, drop_join, batches_joins, batches_failures, left_of, failures_left, joins_left}
+use Rattle.batch_rules.specs.Waiting.{WaitingView, has_instance, waits_join}
 use Rattle.client_callbacks.specs.declared.told.Why.{Why}
 use Rattle.client_callbacks.specs.declared.told.Why.TheVariants as why
 use Rattle.view_state.specs.declared.install.Install.{Install}
@@ -27,7 +22,6 @@ use Rattle.node_state.specs.declared.group.Led.{Led}
 use Rattle.node_state.specs.declared.state.Core.{Core}
 use Rattle.node_state.specs.State.{InNameOrder, nothing_led, new_row, row_found, row_of, rows_with, with_row, with_led, led_of, list_of, state_of, decisions_with, has_name}
 use Rattle.node_state.specs.Deciding.{keep_decision, lacks_source, source_len, is_idle_empty, meant_attrs, join_refusal, keep_attrs, wait_join}
-use Rattle.node_state.specs.Following.{vote_cast}
 use Rattle.node_state.specs.Applying.{base_row}
 use Rattle.node_state.proofs.NameOrder.{KeepsName, row_here, rows_ordered}
 use Rattle.step_refinement.proofs.BaseOrder.{bases_ordered}

@@ -1,13 +1,12 @@
 -- In a whole step, up to its end, groups stay in the order of their names, and few joins and failures wait.
-use Rattle.std.proofs.Common.{Option, Some, refl}
+use Rattle.std.proofs.Common.{Some, refl}
 use Rattle.view_state.specs.Bases.{bases_of}
 use Rattle.session_state.specs.HandOn.{take_telling, handed_on}
 use Rattle.session_state.specs.State.{outstanding}
-use Rattle.client_callbacks.specs.declared.told.Why.TheVariants.{Dissolved}
 use Rattle.node_state.specs.declared.happened.Happened.TheVariants as happened
 use Rattle.node_state.specs.declared.packet.Body.TheVariants as body
 use Rattle.node_state.specs.declared.state.Core.{Core}
-use Rattle.node_state.specs.State.{with_row, with_led, set_leader, state_of, recorded, recorded_all, with_sessions}
+use Rattle.node_state.specs.State.{with_row, set_leader, state_of, recorded, recorded_all, with_sessions}
 use Rattle.node_state.specs.Sending.{send_on}
 use Rattle.node_state.specs.HandOn.{Answering}
 use Rattle.node_state.specs.Leading.{put}
