@@ -1,5 +1,5 @@
 -- In each scene that events lead to, each place is heard once.
-use Rattle.std.proofs.Common.{◌≡◌, ℕ, ◌+◌, List, [], ◌∷◌, ◌++◌, Option, Some, None, refl, sym, ap, ◌∙◌, subst, inl, inr, append-nil}
+use Rattle.std.proofs.Common.{◌≡◌, ℕ, ◌+◌, List, [], ◌∷◌, ◌++◌, Option, Some, None, refl, sym, ap, ◌∙◌, subst, inl, inr, append-nil, arith}
 use Rattle.std.specs.Prelude.{reverse, fold}
 use Rattle.std.proofs.lemmas.List.{reverse-append}
 use Rattle.rsct_packet.specs.Search.{Has}

@@ -18,10 +18,9 @@ use Rattle.node_state.specs.declared.happened.Happened.TheVariants as happened
 use Rattle.node_state.specs.declared.packet.Body.TheVariants as body
 use Rattle.node_state.specs.declared.state.Core.{Core}
 use Rattle.node_state.specs.State.{InNameOrder, row_of, list_of, with_row, with_led, set_leader, state_of, len_of, recorded, with_sessions}
-use Rattle.node_state.specs.Sending.{send_on}
 use Rattle.node_state.specs.HandOn.{Answering}
 use Rattle.node_state.specs.Leading.{put}
-use Rattle.node_state.specs.Deciding.{keep_decision, is_idle_empty, wait_join}
+use Rattle.node_state.specs.Deciding.{keep_decision, wait_join}
 use Rattle.node_state.specs.Applying.{number_of, view_entered, dissolved}
 use Rattle.node_state.specs.Step.{NodeEvent, stepped, at_work}
 use Rattle.node_state.proofs.NameOrder.{KeepsName, cases_text, row_here, row_there, rows_ordered}
@@ -29,7 +28,7 @@ use Rattle.row_laws.specs.hearing.Changes.{Same, handing}
 use Rattle.row_laws.proofs.hearing.Changes.{Sends, same_sends, sends_on, sends_all, put_order}
 use Rattle.row_laws.proofs.failed_rows.Origin.{root_of}
 use Rattle.row_laws.proofs.failed_rows.InView.{InView, stay_asks, stay_prepares, stay_answers, stay_refuses, stay_installs, stay_takes, stay_ticks, stay_reminds}
-use Rattle.step_walk.proofs.Changes.{Any, Whatever, put_sent, Viewing, Asks, Prepares, Answers, Refuses, Installs, Takes, Gathers, Reminds, viewing, KeepsRing, KeepsRings, KeepsRules, KeepsViews}
+use Rattle.step_walk.proofs.Changes.{Whatever, put_sent, Viewing, Asks, Prepares, Answers, Refuses, Installs, Takes, Gathers, Reminds, viewing, KeepsRing, KeepsRings, KeepsRules, KeepsViews}
 use Rattle.step_walk.proofs.Ringing.{by_ring}
 use Rattle.step_walk.proofs.Walking.{whatever}
 use Rattle.step_walk.proofs.Walking as walking

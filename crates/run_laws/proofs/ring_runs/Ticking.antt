@@ -24,7 +24,7 @@ use Rattle.node_state.specs.Ticks.{ring_put, ring_taken, ring_rule_of, ring_rule
 use Rattle.step_refinement.specs.Tied.{Scene}
 use Rattle.run_laws.specs.ring_runs.Rings.{ring_settings}
 use Rattle.run_laws.proofs.ring_runs.Stepping.{own_step}
-use Rattle.step_walk.proofs.Changes.{Any, KeepsRings, KeepsRules}
+use Rattle.step_walk.proofs.Changes.{Any, KeepsRings}
 use Rattle.step_walk.proofs.Leading.{on_sent_all}
 use Rattle.run_laws.proofs.ring_runs.Finding.{is_on, nets_of, Differ, has_net, found_own, put_there}
 use Rattle.run_laws.proofs.ring_runs.Playing.{Carried, Comes, comes_on, Played, played_rules, other_taken, this_taken}
