@@ -1,6 +1,3 @@
-pub mod Walk
-pub mod Rules
-pub mod Walking
 pub mod Left
 pub mod Calling
 pub mod Comes

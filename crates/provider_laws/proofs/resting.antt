@@ -1,8 +1,5 @@
 pub mod Orderly
 pub mod Growing
-pub mod Beginning
-pub mod Walk
-pub mod Rules
 pub mod Calling
 pub mod Walking
 pub mod Onward

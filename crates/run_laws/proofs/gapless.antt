@@ -4,17 +4,12 @@ pub mod Growing
 pub mod Standing
 pub mod Putting
 pub mod TakerWalk
-pub mod TakerRules
-pub mod TakerWalking
 pub mod Keeping
 pub mod Calls
 pub mod Adding
 pub mod Resting
 pub mod Stepping
 pub mod TakerLaw
-pub mod FairWalk
-pub mod FairRules
-pub mod FairWalking
 pub mod Fair
 pub mod Tellings
 pub mod Moving

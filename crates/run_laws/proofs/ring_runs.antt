@@ -1,7 +1,4 @@
 pub mod Stepping
-pub mod Leading
-pub mod Rules
-pub mod Viewing
 pub mod Finding
 pub mod Playing
 pub mod Ticking

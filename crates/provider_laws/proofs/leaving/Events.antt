@@ -20,8 +20,7 @@ use Rattle.run_safety.specs.Past.{History, records_of, inc_now}
 use Rattle.run_safety.specs.Stays.{asks_join, joining_client, client_of, is_named, goodbye_of, is_refused, is_dissolved, ends, was_let_go}
 use Rattle.step_refinement.proofs.SessionLaws.{provider_same}
 use Rattle.row_laws.proofs.failed_rows.Living.{IsLive}
-use Rattle.provider_laws.proofs.leaving.Walk.{Known}
-use Rattle.provider_laws.proofs.leaving.Left.{Says}
+use Rattle.provider_laws.proofs.leaving.Left.{Known, Says}
 
 pub any_none : {A : Type 0} (test : A → Bool) (xs : List A) → ((x : A) → Has x xs → test x ≡ false) → list_any test xs ≡ false
 any_none test [] all = refl

@@ -4,25 +4,38 @@ use Rattle.std.specs.Prelude.{◌&&◌, ◌||◌, not, find, filter, is_some, is
 use Rattle.rsct_packet.specs.declared.ids.ProviderId.{ProviderId}
 use Rattle.rsct_packet.specs.Providers.{among, same_provider}
 use Rattle.rsct_packet.specs.Search.{Has}
-use Rattle.rsct_packet.proofs.HasLaws.{has_append, append_has_left, has_filter, find_none}
+use Rattle.rsct_packet.proofs.HasLaws.{has_append, append_has_left, has_filter, find_has, find_none}
 use Rattle.proposal_core.specs.declared.entry.Entry.{Entry}
 use Rattle.proposal_core.specs.declared.group_state.GroupState.{GroupState}
 use Rattle.client_callbacks.specs.declared.ballot.Filled.{Filled}
 use Rattle.client_callbacks.specs.declared.told.Why.{Why}
+use Rattle.client_callbacks.specs.declared.told.Why.TheVariants.{Dissolved}
+use Rattle.session_state.specs.declared.casts.Cast.{Cast}
 use Rattle.session_state.specs.declared.state.Provider.{Provider}
 use Rattle.session_state.specs.declared.state.Request.{Request}
 use Rattle.session_state.specs.declared.state.SessionState.{SessionState}
-use Rattle.session_state.specs.State.{provider_of, is_provider, outstanding, without_providers}
-use Rattle.session_state.specs.HandOn.{is_numbered, is_join_request, is_dissolved, takes_telling, told_of, take_telling, handed_on}
+use Rattle.session_state.specs.State.{provider_of, is_provider, is_asked_by, outstanding, without_providers}
+use Rattle.session_state.specs.HandOn.{hearers, casts_out, is_numbered, is_join_request, is_dissolved, takes_telling, told_of, take_telling, handed_on}
 use Rattle.node_state.specs.declared.happened.Happened.{Happened}
 use Rattle.node_state.specs.declared.happened.Happened.TheVariants as happened
 use Rattle.node_state.specs.declared.state.Core.{Core}
-use Rattle.node_state.specs.State.{recorded, with_sessions}
-use Rattle.step_refinement.proofs.SessionLaws.{provider_self, handed_later}
+use Rattle.view_state.specs.declared.install.Install.{Install}
+use Rattle.node_state.specs.declared.packet.Body.TheVariants as body
+use Rattle.node_state.specs.State.{with_row, with_led, set_leader, state_of, len_of, recorded, with_sessions}
+use Rattle.node_state.specs.Sending.{send_on}
+use Rattle.node_state.specs.HandOn.{Answering}
+use Rattle.node_state.specs.Leading.{put}
+use Rattle.node_state.specs.Deciding.{keep_decision, is_idle_empty, wait_join}
+use Rattle.node_state.specs.Applying.{level_set, number_of, dissolved}
+use Rattle.node_state.specs.Step.{NodeEvent, stepped, at_work}
+use Rattle.step_refinement.proofs.SessionLaws.{provider_self, provider_same, hearer_has, cast_has, handed_later}
 use Rattle.row_laws.proofs.failed_rows.Living.{IsLive, Slimmer, slim_same, told_slim, handed_slim}
 use Rattle.row_laws.proofs.failed_rows.Facts.{Unasked}
-use Rattle.row_laws.proofs.failed_rows.Origin.{Slim, slim_self, slim_more, slim_on}
-use Rattle.provider_laws.proofs.leaving.Walk.{Fine, Alike, Known, Keeps}
+use Rattle.row_laws.proofs.failed_rows.Origin.{Slim, slim_self, slim_more, slim_on, root_of}
+use Rattle.step_walk.proofs.Changes.{Any, Whatever, viewing, KeepsParts, KeepsRing, KeepsRules, KeepsViews}
+use Rattle.step_walk.proofs.Parts.{IsEntering, entering, on_hands, on_enters}
+use Rattle.step_walk.proofs.Ringing.{by_ring}
+use Rattle.step_walk.proofs.Walking.{whatever, on_stepped}
 
 -- ---- sessions
 
@@ -72,6 +85,29 @@ gone_told s p r y d live = by (find (is_provider p) s.providers) refl (is_number
 pub live_slim : (s t : SessionState) (p : ProviderId) → Slimmer s t → IsLive t p → IsLive s p
 live_slim s t p a k = let z = a.provs k.0 k.1 in (z.0, z.1, z.2 ∙ k.2)
 
+-- ---- who is known
+
+-- it asked for what is told of, or is a provider of the node
+abbrev pub Known : SessionState → ProviderId → Type 0
+Known t p = ((q : Request) × Has q t.requests × (q.p ≡ p)) ⊎ IsLive t p
+
+-- who has something outstanding asked for it
+asked_known : (t : SessionState) (p : ProviderId) (r : ℕ) → is_numbered r (outstanding t p) ≡ true → (q : Request) × Has q t.requests × (q.p ≡ p)
+unfolding outstanding
+asked_known t p r e = by (find (is_asked_by p) t.requests) refl e
+  where
+    by : (o : Option Request) → find (is_asked_by p) t.requests ≡ o → is_numbered r o ≡ true → (q : Request) × Has q t.requests × (q.p ≡ p)
+    by None f n = absurd (cc)
+    by (Some q) f n = let h = find_has (is_asked_by p) t.requests q f in (q, h.0, provider_same q.p p h.1)
+
+found_live : (t : SessionState) (p : ProviderId) (x : Provider) → provider_of t p ≡ Some x → IsLive t x.p
+unfolding provider_of
+found_live t p x e = (x, (find_has (is_provider p) t.providers x e).0, refl)
+
+heard_live : (t : SessionState) (g : List ℕ) (before after : GroupState) (e : Entry) (bs : List (Option Filled)) (c : Cast) → Has c (casts_out t g before after e bs) → IsLive t c.p
+unfolding casts_out
+heard_live t g before after e bs c h = hearer_has t g before e c.p (cast_has e after t.level (hearers t g before e) bs c h)
+
 -- ---- records
 
 -- what a record of a step says, of the node after its call and as it is
@@ -97,37 +133,7 @@ says_on a t u (happened.Noted n c v i told) s k = tt
 says_on a t u (happened.Refused n c fault) s k = tt
 says_on a t u (happened.Shown n line) s k = tt
 
-fine_says : (a t : SessionState) (r : Happened) → Slimmer a t → Fine t r → Says a t r
-fine_says a t (happened.Up n j) s k = k
-fine_says a t (happened.Down n) s k = k
-fine_says a t (happened.Ring n j i ms b) s k = tt
-fine_says a t (happened.In n v ms) s k = tt
-fine_says a t (happened.Base n v g old len st) s k = tt
-fine_says a t (happened.Put n v g i e) s k = tt
-fine_says a t (happened.Heard p v g i e ms value) s k = live_slim a t p s k
-fine_says a t (happened.Cast p proto phase vote value message) s k = tt
-fine_says a t (happened.Asked p r g x) s k = absurd k
-fine_says a t (happened.Told p r y) s k = absurd k
-fine_says a t (happened.Noted n c v i told) s k = tt
-fine_says a t (happened.Refused n c fault) s k = tt
-fine_says a t (happened.Shown n line) s k = tt
-
-fine_asks : (t : SessionState) (r : Happened) → Fine t r → Unasked r
-fine_asks t (happened.Up n j) k = tt
-fine_asks t (happened.Down n) k = tt
-fine_asks t (happened.Ring n j i ms b) k = tt
-fine_asks t (happened.In n v ms) k = tt
-fine_asks t (happened.Base n v g old len st) k = tt
-fine_asks t (happened.Put n v g i e) k = tt
-fine_asks t (happened.Heard q v g i e ms value) k = tt
-fine_asks t (happened.Cast q proto phase vote value message) k = tt
-fine_asks t (happened.Asked q r g x) k = absurd k
-fine_asks t (happened.Told q r y) k = tt
-fine_asks t (happened.Noted n c v i told) k = tt
-fine_asks t (happened.Refused n c fault) k = tt
-fine_asks t (happened.Shown n line) k = tt
-
--- ---- the walk
+-- ---- a step
 
 pub record Left (root s : Core) : Type 0 where
   pub slim : Slim root s.sessions s.records
@@ -170,20 +176,85 @@ module _ (root : Core) where
   told s p r y known k =
       pushed (record s { sessions = take_telling s.sessions p r y }) (happened.Told p r y) tt (known_then s p k known, gone_told s.sessions p r y) (less_on s (take_telling s.sessions p r y) (told_less s.sessions p r y) k)
 
-  noted : (s : Core) (r : Happened) → Fine s.sessions r → Left root s → Left root (recorded s r)
-  unfolding recorded
-  noted s r fine k = pushed s r (fine_asks s.sessions r fine) (fine_says root.sessions s.sessions r k.slim.sessions fine) k
+  -- ---- each change of a step
 
-  handed : (s : Core) (t : SessionState) (g : List ℕ) (before after : GroupState) (e : Entry) (bs : List (Option Filled)) → s.sessions ≡ t → Left root s → Left root (with_sessions s (handed_on t g before after e bs))
+  same : (s t : Core) → t.sessions ≡ s.sessions → t.records ≡ s.records → Left root s → Left root t
+  same s t e f k =
+      record {
+        slim = subst (λ (z : SessionState × List Happened). Slim root z.0 z.1) (λ i. (sym e i, sym f i)) k.slim;
+        last = ap (λ z. z.last_request) e ∙ k.last;
+        asked = λ q i. k.asked q (subst (λ z. Has q z.requests) e i);
+        grown = λ r i. subst (Has r) (sym f) (k.grown r i);
+        fresh = λ r i. subst (λ z. Has r root.records ⊎ Says root.sessions z r) (sym e) (k.fresh r (subst (Has r) f i));
+      }
+
+  handed : (s : Core) (g : List ℕ) (before after : GroupState) (e : Entry) (bs : List (Option Filled)) → Left root s → Left root (with_sessions s (handed_on s.sessions g before after e bs))
   unfolding with_sessions
-  handed s t g before after e bs same k =
-      let l = handed_later t g before after e bs in
-      less_on s (handed_on t g before after e bs) (subst (λ z. Less z (handed_on t g before after e bs)) (sym same) (record { slim = handed_slim t g before after e bs; last = l.last; asked = l.requests })) k
+  handed s g before after e bs k =
+      let l = handed_later s.sessions g before after e bs in
+      less_on s (handed_on s.sessions g before after e bs) (record { slim = handed_slim s.sessions g before after e bs; last = l.last; asked = l.requests }) k
 
-  alike : (s t : Core) → Alike s t → Left root s → Left root t
-  alike s t a k =
-      let m : Left root (record s { sessions = t.sessions }) = less_on s t.sessions (record { slim = slim_same s.sessions t.sessions a.providers a.names a.clients; last = a.last; asked = λ q i. subst (Has q) a.requests i }) k in
-      record { slim = subst (Slim root t.sessions) (sym a.records) m.slim; last = m.last; asked = m.asked; grown = λ r i. subst (Has r) (sym a.records) (m.grown r i); fresh = λ r i. m.fresh r (subst (Has r) a.records i) }
+  parts : KeepsParts (Left root) Any
+  unfolding send_on put with_row recorded
+  parts =
+      record {
+        sends = λ s network to b spoken k. same s (send_on s network to b) refl refl k;
+        puts = λ s g e ok k. pushed (with_row s g _) (happened.Put s.views.me s.views.view g (len_of s g) e) tt tt (same s (with_row s g _) refl refl k);
+        hears = λ s g before after e bs c i h k. pushed s (happened.Heard c.p s.views.view g i e after.members after.value) tt (live_slim root.sessions s.sessions c.p k.slim.sessions (heard_live s.sessions g before after e bs c h)) k;
+        casts = λ s p proto phase vote value message k. pushed s (happened.Cast p proto phase vote value message) tt tt k;
+        handed = handed;
+      }
 
-  pub left_keeps : Keeps (Left root)
-  left_keeps = record { alike = alike; records = noted; tells = told; hands = handed }
+  left_keeps : KeepsRules (Left root) Whatever
+  unfolding with_row with_led keep_decision wait_join set_leader recorded
+  left_keeps =
+      record {
+        keeps = record {
+          row = λ s g f ok mild k. same s (with_row s g f) refl refl k;
+          decides = λ s g q r y ok fair k. same s (keep_decision s g q r y) refl refl k;
+          sends = parts.sends;
+          notes = λ s n c v place t k. pushed s (happened.Noted n c v place t) tt tt k;
+          hands = on_hands (Left root) Any parts;
+        };
+        names = λ s ns k. same s (record s { names = ns }) refl refl k;
+        reach = λ s x k. same s (record s { reach = x }) refl refl k;
+        leads = λ s g n k. same s (set_leader s g n) refl refl k;
+        joins = λ s g q r a e k. same s (wait_join s g q r a (is_idle_empty (state_of s g))) refl refl k;
+        tells = λ s q r y telling e k. told s q r y (inl (asked_known s.sessions q r e)) k;
+      }
+
+  left_ring : KeepsRing (Left root)
+  unfolding send_on recorded
+  left_ring =
+      record {
+        rings = λ s rs k. same s (record s { rings = rs }) refl refl k;
+        sends = λ s network to x k. same s (send_on s network to (body.Ring x)) refl refl k;
+        records = λ s n network id ms b k. pushed s (happened.Ring n network id ms b) tt tt k;
+      }
+
+  entering_pushed : (s : Core) (r : Happened) → IsEntering r → Left root s → Left root (recorded s r)
+  unfolding recorded
+  entering_pushed s (happened.In n v ms) a k = pushed s (happened.In n v ms) tt tt k
+  entering_pushed s (happened.Base n v g u len st) a k = pushed s (happened.Base n v g u len st) tt tt k
+  entering_pushed s _ a k = absurd a
+
+  entered : (s : Core) (i : Install) → Left root s → Left root (entering s i)
+  unfolding level_set
+  entered s i k =
+      let t : SessionState = level_set s i.members in
+      same (record s { sessions = t }) (entering s i) refl refl (less_on s t (record { slim = slim_same s.sessions t refl refl refl; last = refl; asked = λ q h. h }) k)
+
+  left_views : KeepsViews (Left root)
+  unfolding dissolved
+  left_views =
+      record {
+        views = λ s v k. same s (record s { views = (viewing s v).views }) refl refl k;
+        enters = λ s i k. on_enters (Left root) entering_pushed s i (entered s i k);
+        dissolves = λ s q x e k. told s x.p (number_of (outstanding s.sessions x.p)) Dissolved (inr (found_live s.sessions q x e)) k;
+      }
+
+-- after the call of a step, or before any other step, providers only leave
+pub left_stepped : (f : Answering) (s : Core) (e : NodeEvent) → Left (root_of (at_work s) e) (stepped f s e)
+left_stepped f s e =
+    let root : Core = root_of (at_work s) e in
+    on_stepped (Left root) Whatever (left_keeps root) (by_ring (Left root) Whatever (left_keeps root) (left_ring root)) (left_views root) f s e (whatever e) (left_self root)

@@ -40,9 +40,7 @@ use Rattle.row_laws.proofs.failed_rows.Living.{IsLive}
 use Rattle.row_laws.proofs.failed_rows.Origin.{root_of}
 use Rattle.row_laws.proofs.failed_rows.Owners.{Owned, owned_slim}
 use Rattle.provider_laws.specs.leaving.Scenes.{IsCall}
-use Rattle.provider_laws.proofs.leaving.Walk.{Known}
-use Rattle.provider_laws.proofs.leaving.Walking.{on_stepped}
-use Rattle.provider_laws.proofs.leaving.Left.{Left, Says, left_self, left_keeps, live_slim}
+use Rattle.provider_laws.proofs.leaving.Left.{Known, Left, Says, left_stepped, live_slim}
 use Rattle.provider_laws.proofs.leaving.Calling.{Apart, Fit, CallSays, call_fits, goodbye_ends}
 use Rattle.provider_laws.proofs.leaving.Comes.{Comes, comes_does, comes_same}
 use Rattle.provider_laws.proofs.leaving.Events.{any_none, any_one, says_spares, spared}
@@ -161,7 +159,7 @@ module _ (c : Config) (w : Scene) (n : ℕ) (f : Answering) (s : Core) (e : Node
   comes = comes_of e
 
   left : Left root t
-  left = on_stepped (Left root) (left_keeps root) f s e (left_self root)
+  left = left_stepped f s e
 
   -- whoever is known after the call is of this node and incarnation, under a number that was given
   known : (p : ProviderId) → Known root.sessions p → (p.node ≡ n) × (p.inc ≡ w.incs n) × (p.join ≤ root.sessions.last_request)

@@ -1,17 +1,12 @@
--- In a call few joins and failures wait; and a goodbye changes no group and no view, and puts nothing.
+-- A goodbye changes no group and no view, and puts nothing.
 use Rattle.std.proofs.Common.{◌≡◌, ℕ, List, [], ◌∷◌, ◌++◌, fold, Option, Some, None, Bool, true, false, refl, sym, subst, inl, inr}
 use Rattle.std.specs.Prelude.{filter, Result, Ok, Err}
-use Rattle.std.specs.List.{last_or}
 use Rattle.rsct_packet.specs.Search.{Has}
-use Rattle.client_callbacks.specs.declared.ballot.Filled.{Filled}
 use Rattle.session_state.specs.declared.fault.GsFault.{GsFault}
-use Rattle.session_state.specs.declared.state.KeptBallot.{KeptBallot}
 use Rattle.session_state.specs.declared.state.Provider.{Provider}
-use Rattle.session_state.specs.declared.state.Request.{Request}
 use Rattle.session_state.specs.declared.state.SessionState.{SessionState}
 use Rattle.session_state.specs.State.{is_client_of, client_token}
 use Rattle.session_state.specs.Calls.{goodbye_taken}
-use Rattle.node_state.specs.declared.call.CallLine.{CallLine}
 use Rattle.node_state.specs.declared.call.CallLine.TheVariants as call
 use Rattle.node_state.specs.declared.happened.Happened.{Happened}
 use Rattle.node_state.specs.declared.happened.Happened.TheVariants as happened
@@ -20,74 +15,7 @@ use Rattle.node_state.specs.declared.packet.Body.TheVariants as body
 use Rattle.node_state.specs.declared.state.Core.{Core}
 use Rattle.node_state.specs.State.{frozen, leader_of, recorded, with_sessions}
 use Rattle.node_state.specs.Sending.{send_on, sent, send_if_known}
-use Rattle.node_state.specs.Calls.{refuse_call, changed, ask_last, proposed, record_ballot, ballot_sent_if, cast_last, give_ballot, send_gone, send_all_gone, goodbye_said, take_call}
-use Rattle.provider_laws.proofs.resting.Orderly.{Orderly}
-use Rattle.provider_laws.proofs.resting.Walk.{on_either, on_fold, on_known, on_record, on_sessions}
-use Rattle.provider_laws.proofs.resting.Rules.{on_request_sent, on_kept_sent}
-
-on_call_refused : {s : Core} (client : List ℕ) (fault : GsFault) → Orderly s → Orderly (refuse_call s client fault)
-unfolding refuse_call
-on_call_refused {s} client fault p = on_record (happened.Refused s.views.me client fault) p
-
-on_changed : {s : Core} (client : List ℕ) (r : Result SessionState GsFault) → Orderly s → Orderly (changed s client r)
-unfolding changed
-on_changed client (Ok t) p = on_sessions t p
-on_changed client (Err fault) p = on_call_refused client fault p
-
-on_asked : {s : Core} (o : Option Request) → Orderly s → Orderly (ask_last s o)
-unfolding ask_last
-on_asked None p = p
-on_asked (Some q) p = on_request_sent q (on_record (happened.Asked q.p q.r q.group q.proposal) p)
-
-on_proposed : {s : Core} (client : List ℕ) (r : Result SessionState GsFault) → Orderly s → Orderly (proposed s client r)
-unfolding proposed
-on_proposed client (Ok t) p = on_asked (last_or None t.requests) (on_sessions t p)
-on_proposed client (Err fault) p = on_call_refused client fault p
-
-on_ballot_recorded : {s : Core} (k : KeptBallot) (o : Option Filled) → Orderly s → Orderly (record_ballot s k o)
-unfolding record_ballot
-on_ballot_recorded k None p = p
-on_ballot_recorded k (Some b) p = on_record (happened.Cast k.p k.proto k.phase b.vote b.value b.message) p
-
-on_ballot_sent : {s : Core} (k : KeptBallot) (b : Bool) → Orderly s → Orderly (ballot_sent_if s k b)
-unfolding ballot_sent_if
-on_ballot_sent k true p = p
-on_ballot_sent k false p = on_kept_sent k p
-
-on_cast : {s : Core} (o : Option KeptBallot) → Orderly s → Orderly (cast_last s o)
-unfolding cast_last
-on_cast None p = p
-on_cast {s} (Some k) p = on_ballot_sent k (frozen s) (on_ballot_recorded k k.ballot.filled p)
-
-on_given : {s : Core} (client : List ℕ) (r : Result SessionState GsFault) → Orderly s → Orderly (give_ballot s client r)
-unfolding give_ballot
-on_given client (Ok t) p = on_cast (last_or None t.kept) (on_sessions t p)
-on_given client (Err fault) p = on_call_refused client fault p
-
-on_all_gone : {s : Core} (ended : List Provider) → Orderly s → Orderly (send_all_gone s ended)
-unfolding send_all_gone send_gone
-on_all_gone {s} ended p = on_either (frozen s) p (on_fold send_gone (λ t x q. on_known (leader_of t x.group) (body.Gone t.views.view x.group x.p) q) ended p)
-
-on_said : {s : Core} (client : List ℕ) (ended : List Provider) (r : Result SessionState GsFault) → Orderly s → Orderly (goodbye_said s client ended r)
-unfolding goodbye_said
-on_said client ended (Ok t) p = on_all_gone ended (on_sessions t p)
-on_said client ended (Err fault) p = on_call_refused client fault p
-
-pub on_call : {s : Core} (c : CallLine) → Orderly s → Orderly (take_call s c)
-unfolding take_call
-on_call (call.Init node name votes) p = on_changed name _ p
-on_call (call.Join client g instance attrs) p = on_proposed client _ p
-on_call (call.Leave client g phases) p = on_proposed client _ p
-on_call (call.Expel client g phases out) p = on_proposed client _ p
-on_call (call.ChangeState client g phases value) p = on_proposed client _ p
-on_call (call.SendMessage client g phases bytes) p = on_proposed client _ p
-on_call (call.ChangeAttributes client g phases attrs) p = on_proposed client _ p
-on_call (call.Vote client g v value) p = on_given client _ p
-on_call (call.Subscribe client g) p = on_changed client _ p
-on_call (call.Unsubscribe client g) p = on_changed client _ p
-on_call (call.Goodbye client) p = on_said client _ _ p
-
--- ---- a goodbye
+use Rattle.node_state.specs.Calls.{refuse_call, send_gone, send_all_gone, goodbye_said, take_call}
 
 abbrev pub NoPut : Happened → Type 0
 NoPut (happened.Put n v g i e) = ⊥

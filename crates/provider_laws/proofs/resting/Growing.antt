@@ -1,15 +1,14 @@
 -- Changes of a row that keep its name and its leader, do not shorten its list, and let few joins and failures wait.
-use Rattle.std.proofs.Common.{◌≡◌, ◌≤◌, ℕ, Option, Some, None, Bool, true, false, refl, arith}
-use Rattle.std.specs.Prelude.{nat_le, max, drop, ◌-◌, if◌then◌else◌}
+use Rattle.std.proofs.Common.{◌≡◌, ◌≤◌, Some, refl, arith}
 use Rattle.rsct_packet.specs.declared.ids.ViewId.{ViewId}
 use Rattle.proposal_core.specs.declared.entry.Entry.{Entry}
-use Rattle.proposal_core.specs.GroupView.{GroupView}
-use Rattle.proposal_core.specs.Lists.{list_or_new, len_in, with_entry, forgotten}
+use Rattle.proposal_core.specs.Lists.{list_or_new, len_in, with_entry}
 use Rattle.node_state.specs.declared.group.GroupRow.{GroupRow}
 use Rattle.node_state.specs.declared.group.Led.{Led}
-use Rattle.node_state.specs.State.{list_forgotten}
 use Rattle.node_state.proofs.NameOrder.{KeepsName}
-use Rattle.provider_laws.proofs.resting.Orderly.{Few, MildLed}
+use Rattle.step_walk.proofs.Waiting.{Few}
+use Rattle.step_walk.proofs.Changes.{Mild}
+use Rattle.provider_laws.proofs.resting.Orderly.{MildLed}
 
 pub record Grows (f : GroupRow → GroupRow) : Type 0 where
   pub name : KeepsName f
@@ -24,14 +23,5 @@ pub put_grows : (v : ViewId) (e : Entry) → Grows (λ row. record row { list = 
 unfolding with_entry
 put_grows v e = record { name = λ x. refl; leader = λ x. refl; few = λ row w. w; len = λ row. omega arith }
 
-pub forgets_grow : (n : ℕ) → Grows (λ row. record row { list = list_forgotten n row.list })
-unfolding forgotten
-forgets_grow n = record { name = λ x. refl; leader = λ x. refl; few = λ row w. w; len = λ row. same row.list }
-  where
-    same : (l : Option GroupView) → len_in l ≤ len_in (list_forgotten n l)
-    same None = omega arith
-    same (Some l) = by (nat_le n l.len)
-      where
-        by : (b : Bool) → l.len ≤ (if b then record l { start = max l.start n; entries = drop (n - l.start) l.entries } else l).len
-        by true = omega arith
-        by false = omega arith
+pub mild_grows : (f : GroupRow → GroupRow) → Mild f → Grows f
+mild_grows f m = record { name = m.name; leader = m.leader; few = m.few; len = λ row. (let e = m.len row in omega (arith, e)) }

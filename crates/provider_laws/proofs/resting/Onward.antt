@@ -10,11 +10,17 @@ use Rattle.view_state.specs.declared.views.Views.{Views}
 use Rattle.node_state.specs.declared.config.Config.{Config}
 use Rattle.node_state.specs.declared.group.GroupRow.{GroupRow}
 use Rattle.node_state.specs.declared.state.Core.{Core}
-use Rattle.node_state.specs.State.{AllAfter, InNameOrder, new_row, row_found, row_of, rows_with, with_row, list_of, len_of, leader_by, is_this, leader_in, leads_in, led_groups, has_name}
+use Rattle.node_state.specs.State.{AllAfter, InNameOrder, new_row, row_found, row_of, rows_with, with_row, with_led, recorded, with_sessions, list_of, len_of, leader_by, is_this, leader_in, leads_in, led_groups, has_name}
 use Rattle.node_state.proofs.NameOrder.{text_self, lt_self, name_lt_trans, cases_text, row_here, row_there}
 use Rattle.provider_laws.proofs.resting.Orderly.{Orderly, alike, on_row}
-use Rattle.provider_laws.proofs.resting.Growing.{Grows}
-use Rattle.provider_laws.proofs.resting.Beginning.{Keeps}
+use Rattle.session_state.specs.HandOn.{handed_on}
+use Rattle.node_state.specs.declared.happened.Happened.TheVariants as happened
+use Rattle.node_state.specs.Sending.{send_on}
+use Rattle.node_state.specs.Leading.{put}
+use Rattle.node_state.specs.Deciding.{keep_decision}
+use Rattle.step_walk.proofs.Changes.{Keeps, KeepsParts}
+use Rattle.step_walk.proofs.Parts.{on_hands}
+use Rattle.provider_laws.proofs.resting.Growing.{Grows, led_grows, put_grows, mild_grows}
 
 -- the names of rows, and who leads them
 abbrev pub bones_of : List GroupRow → List (List ℕ × Option ℕ)
@@ -69,30 +75,48 @@ bones_with g f m (row ∷ rows) o i = by (bytes_eq row.name g) (name_lt g row.na
         absurd (let z : name_lt row.name g ≡ true = after_named row.name g rows o.0 (there e) in let y : name_lt g g ≡ true = name_lt_trans g row.name g l z in let x : true ≡ false = sym y ∙ lt_self g in cc)
     by false false e l rest = ap (λ bs. (row.name, row.leader) ∷ bs) (rest (there e))
 
-pub keeps_onward : (s : Core) → Keeps (Onward s) (IsNamed s)
-unfolding len_of list_of row_of with_row
-keeps_onward s =
-    record {
-      alike = λ a b same v c k. record { orderly = alike a b same k.orderly; bones = ap bones_of same ∙ k.bones; views = v ∙ k.views; config = c ∙ k.config; lens = λ h. len_alike a b same h (k.lens h) };
-      row = λ a g f ok m k. record { orderly = on_row g f (m.name, m.few) k.orderly; bones = bones_row a g f ok m k; views = views_row a g f k; config = config_row a g f k; lens = λ h. lens_row a g f m k h (cases_text g h) };
-    }
-  where
-    len_alike : (a b : Core) → b.groups ≡ a.groups → (h : List ℕ) → len_of s h ≤ len_of a h → len_of s h ≤ len_of b h
-    len_alike a b same h k = subst (λ (rows : List GroupRow). len_of s h ≤ len_in (row_found h (find (has_name h) rows)).list) (sym same) k
+module _ (s : Core) where
+  len_alike : (a b : Core) → b.groups ≡ a.groups → (h : List ℕ) → len_of s h ≤ len_of a h → len_of s h ≤ len_of b h
+  unfolding len_of list_of row_of
+  len_alike a b same h k = subst (λ (rows : List GroupRow). len_of s h ≤ len_in (row_found h (find (has_name h) rows)).list) (sym same) k
 
-    bones_row : (a : Core) (g : List ℕ) (f : GroupRow → GroupRow) → IsNamed s g → Grows f → Onward s a → bones_of (with_row a g f).groups ≡ bones_of s.groups
-    bones_row a g f ok m k = bones_with g f m a.groups k.orderly.order (named_on s a g k ok) ∙ k.bones
+  lens_row : (a : Core) (g : List ℕ) (f : GroupRow → GroupRow) → Grows f → Onward s a → (h : List ℕ) → (g ≡ h) ⊎ (g ≡ h → ⊥) → len_of s h ≤ len_of (with_row a g f) h
+  unfolding len_of list_of row_of with_row
+  lens_row a g f m k h (inl e) =
+      subst (λ z. len_of s z ≤ len_of (with_row a g f) z) e (subst (λ (row : GroupRow). len_of s g ≤ len_in row.list) (sym (row_here g f m.name a k.orderly.order)) (let x = k.lens g in let y = m.len (row_of a g) in omega (arith, x, y)))
+  lens_row a g f m k h (inr ne) = subst (λ (row : GroupRow). len_of s h ≤ len_in row.list) (sym (row_there g f m.name a h ne)) (k.lens h)
 
-    views_row : (a : Core) (g : List ℕ) (f : GroupRow → GroupRow) → Onward s a → (with_row a g f).views ≡ s.views
-    views_row a g f k = k.views
+  pub onward_alike : (a b : Core) → b.groups ≡ a.groups → b.views ≡ a.views → b.config ≡ a.config → Onward s a → Onward s b
+  unfolding len_of list_of row_of
+  onward_alike a b same v c k =
+      record { orderly = alike a b same k.orderly; bones = ap bones_of same ∙ k.bones; views = v ∙ k.views; config = c ∙ k.config; lens = λ h. len_alike a b same h (k.lens h) }
 
-    config_row : (a : Core) (g : List ℕ) (f : GroupRow → GroupRow) → Onward s a → (with_row a g f).config ≡ s.config
-    config_row a g f k = k.config
+  pub onward_row : (a : Core) (g : List ℕ) (f : GroupRow → GroupRow) → IsNamed s g → Grows f → Onward s a → Onward s (with_row a g f)
+  unfolding with_row
+  onward_row a g f ok m k =
+      record { orderly = on_row g f (m.name, m.few) k.orderly; bones = bones_with g f m a.groups k.orderly.order (named_on s a g k ok) ∙ k.bones; views = k.views; config = k.config; lens = λ h. lens_row a g f m k h (cases_text g h) }
 
-    lens_row : (a : Core) (g : List ℕ) (f : GroupRow → GroupRow) → Grows f → Onward s a → (h : List ℕ) → (g ≡ h) ⊎ (g ≡ h → ⊥) → len_of s h ≤ len_of (with_row a g f) h
-    lens_row a g f m k h (inl e) =
-        subst (λ z. len_of s z ≤ len_of (with_row a g f) z) e (subst (λ (row : GroupRow). len_of s g ≤ len_in row.list) (sym (row_here g f m.name a k.orderly.order)) (let x = k.lens g in let y = m.len (row_of a g) in omega (arith, x, y)))
-    lens_row a g f m k h (inr ne) = subst (λ (row : GroupRow). len_of s h ≤ len_in row.list) (sym (row_there g f m.name a h ne)) (k.lens h)
+  pub onward_parts : KeepsParts (Onward s) (IsNamed s)
+  unfolding send_on put recorded with_sessions
+  onward_parts =
+      record {
+        sends = λ a network to b spoken k. onward_alike a (send_on a network to b) refl refl refl k;
+        puts = λ a g e ok k. onward_alike (with_row a g _) (put a g e) refl refl refl (onward_row a g _ ok (put_grows a.views.view e) k);
+        hears = λ a g before after e bs x i h k. onward_alike a (recorded a (happened.Heard x.p a.views.view g i e after.members after.value)) refl refl refl k;
+        casts = λ a p proto phase vote value message k. onward_alike a (recorded a (happened.Cast p proto phase vote value message)) refl refl refl k;
+        handed = λ a g before after e bs k. onward_alike a (with_sessions a (handed_on a.sessions g before after e bs)) refl refl refl k;
+      }
+
+  pub keeps_onward : Keeps (Onward s) (IsNamed s)
+  unfolding keep_decision with_led recorded
+  keeps_onward =
+      record {
+        row = λ a g f ok mild k. onward_row a g f ok (mild_grows f mild) k;
+        decides = λ a g q r y ok fair k. onward_row a g _ ok (led_grows _ (λ l w. w)) k;
+        sends = onward_parts.sends;
+        notes = λ a n client v place t k. onward_alike a (recorded a (happened.Noted n client v place t)) refl refl refl k;
+        hands = on_hands (Onward s) (IsNamed s) onward_parts;
+      }
 
 -- ---- what is led
 

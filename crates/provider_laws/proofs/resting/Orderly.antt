@@ -1,23 +1,18 @@
 -- The groups of a node stand in the order of their names, and in each at most 64 joins and 64 failures wait.
-use Rattle.std.proofs.Common.{◌≡◌, ◌≤◌, ◌<◌, ℕ, List, [], ◌∷◌, ◌++◌, length, Option, Some, None, Bool, true, false, cond, refl, sym, subst, inl, inr, arith, length-append}
-use Rattle.std.specs.Prelude.{◌&&◌, not, find, map, filter, nat_lt, nat_le, is_none, if◌then◌else◌}
+use Rattle.std.proofs.Common.{◌≡◌, ◌<◌, ℕ, List, [], ◌∷◌, ◌++◌, length, Option, Some, None, Bool, true, false, cond, refl, sym, subst, inl, inr, arith, length-append}
+use Rattle.std.specs.Prelude.{◌&&◌, not, find, map, nat_le, is_none}
 use Rattle.std.specs.Str.{bytes_eq}
-use Rattle.std.proofs.lemmas.Bool.{ltb-true, leb-false}
+use Rattle.std.proofs.lemmas.Bool.{leb-false}
 use Rattle.rsct_packet.specs.declared.ids.ProviderId.{ProviderId}
 use Rattle.rsct_packet.specs.Text.{name_lt}
 use Rattle.rsct_packet.specs.Search.{Has}
-use Rattle.rsct_packet.specs.Providers.{without}
 use Rattle.rsct_packet.proofs.HasLaws.{find_has, has_map}
 use Rattle.group_attr.specs.declared.attrs.Attrs.{Attrs}
-use Rattle.group_attr.specs.declared.attrs.Batch.{Batch}
 use Rattle.group_attr.specs.Agree.{agree}
-use Rattle.proposal_core.specs.declared.proposal.Cause.{Cause}
-use Rattle.proposal_core.specs.declared.entry.Vote.{Vote}
 use Rattle.proposal_core.specs.declared.group_state.GroupState.{GroupState}
 use Rattle.proposal_core.specs.Fold.{max_providers, present}
 use Rattle.proposal_core.specs.Lists.{is_at_limit}
-use Rattle.vote_phases.specs.Tally.{TallyView}
-use Rattle.batch_rules.specs.Waiting.{WaitingView, has_instance, waits_join, is_failing, add_failure, drop_join, batches_joins, batches_failures, left_of, failures_left, joins_left}
+use Rattle.batch_rules.specs.Waiting.{WaitingView, has_instance, waits_join}
 use Rattle.client_callbacks.specs.declared.told.Why.{Why}
 use Rattle.client_callbacks.specs.declared.told.Why.TheVariants as why
 use Rattle.view_state.specs.declared.install.Install.{Install}
@@ -27,13 +22,10 @@ use Rattle.node_state.specs.declared.group.Led.{Led}
 use Rattle.node_state.specs.declared.state.Core.{Core}
 use Rattle.node_state.specs.State.{InNameOrder, nothing_led, new_row, row_found, row_of, rows_with, with_row, with_led, led_of, list_of, state_of, decisions_with, has_name}
 use Rattle.node_state.specs.Deciding.{keep_decision, lacks_source, source_len, is_idle_empty, meant_attrs, join_refusal, keep_attrs, wait_join}
-use Rattle.node_state.specs.Following.{vote_cast}
 use Rattle.node_state.specs.Applying.{base_row}
 use Rattle.node_state.proofs.NameOrder.{KeepsName, row_here, rows_ordered}
 use Rattle.step_refinement.proofs.BaseOrder.{bases_ordered}
-
-abbrev pub Few : WaitingView → Type 0
-Few w = (length w.joins ≤ 64) × (length w.failures ≤ 64)
+use Rattle.step_walk.proofs.Waiting.{Few}
 
 abbrev pub FewIn : List GroupRow → Type 0
 FewIn rows = (row : GroupRow) → Has row rows → Few row.led.waiting
@@ -41,9 +33,6 @@ FewIn rows = (row : GroupRow) → Has row rows → Few row.led.waiting
 pub record Orderly (s : Core) : Type 0 where
   pub order : InNameOrder s.groups
   pub few : FewIn s.groups
-
-abbrev pub MildWaits : (WaitingView → WaitingView) → Type 0
-MildWaits f = (w : WaitingView) → Few w → Few (f w)
 
 abbrev pub MildLed : (Led → Led) → Type 0
 MildLed f = (l : Led) → Few l.waiting → Few (f l).waiting
@@ -96,49 +85,6 @@ on_row {s} g f m p = on_row_at {s = s} g f m.0 (m.1 (row_of s g) (row_few s g p.
 pub on_led : {s : Core} (g : List ℕ) (f : Led → Led) → MildLed f → Orderly s → Orderly (with_led s g f)
 unfolding with_led
 on_led g f m p = on_row g (λ row. record row { led = f row.led }) (λ x. refl, λ x w. m x.led w) p
-
--- ---- what waits
-
-pub fails_few : (q : ProviderId) (c : Cause) → MildWaits (add_failure q c)
-fails_few q c w k = by (is_failing q w) (nat_lt (length w.failures) 64) refl
-  where
-    more : WaitingView
-    more = record w { failures = w.failures ++ record { p = q; cause = c } ∷ [] }
-
-    by : (a b : Bool) → nat_lt (length w.failures) 64 ≡ b → Few (if not a && b then more else w)
-    by true b e = k
-    by false false e = k
-    by false true e = (k.0, let z : length w.failures < 64 = ltb-true (length w.failures) 64 e in omega (arith, z, length-append w.failures (record { p = q; cause = c } ∷ [])))
-
-pub dropped_few : (q : ProviderId) → MildWaits (drop_join q)
-dropped_few q w k = (let z = shorter w.joins in omega (arith, z, k.0), k.1)
-  where
-    shorter : (ps : List ProviderId) → length (without ps q) ≤ length ps
-    shorter ps = filtered _ ps
-      where
-        filtered : (test : ProviderId → Bool) (xs : List ProviderId) → length (filter test xs) ≤ length xs
-        filtered test [] = omega arith
-        filtered test (x ∷ xs) = at (test x) (filtered test xs)
-          where
-            at : (b : Bool) → length (filter test xs) ≤ length xs → length (cond b (x ∷ filter test xs) (filter test xs)) ≤ length (x ∷ xs)
-            at true h = omega (arith, h)
-            at false h = omega (arith, h)
-
-left_few : {A : Type 0} (b : Bool) (xs : List A) → length xs ≤ 64 → length (left_of b xs) ≤ 64
-left_few true xs k = omega arith
-left_few false [] k = omega arith
-left_few false (x ∷ xs) k = omega (arith, k)
-
-pub failures_few : (b : Batch) → MildWaits (failures_left b)
-failures_few b w k = (k.0, left_few (batches_failures b) w.failures k.1)
-
-pub joins_few : (b : Batch) → MildWaits (joins_left b)
-joins_few b w k = (left_few (batches_joins b) w.joins k.0, k.1)
-
-pub cast_few : (l : Led) (p : ProviderId) (v : Vote) (value message : Option (List ℕ)) (t : Option TallyView) → Few l.waiting → Few (vote_cast l p v value message t).waiting
-unfolding vote_cast
-cast_few l p v value message None k = k
-cast_few l p v value message (Some t) k = k
 
 -- ---- a join that waits
 

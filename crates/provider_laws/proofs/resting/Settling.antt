@@ -22,7 +22,8 @@ use Rattle.node_state.specs.HandOn.{Answering}
 use Rattle.node_state.specs.Leading.{with_waiting, begins}
 use Rattle.node_state.specs.Deciding.{known_state, lacks_source}
 use Rattle.node_state.specs.Ending.{Pass, quiet, begun_now, failures_begin, due_begins, source_begins, attrs_for, carried_len, source_refused, joins_begin, or_due, or_joins, may_begin, first_begins}
-use Rattle.provider_laws.proofs.resting.Orderly.{Orderly, joins_few}
+use Rattle.step_walk.proofs.Waiting.{joins_few}
+use Rattle.provider_laws.proofs.resting.Orderly.{Orderly}
 use Rattle.provider_laws.proofs.resting.Onward.{IsNamed, named_on}
 use Rattle.provider_laws.proofs.resting.Trying.{fit_of, lists_of, due_fits, SettledDue, SettledBy, Settled, Rest, Still, still_self, still_then, Held, held_source, still_waiting, waiting_here, begins_on, begins_off, count, Outcome, Grown, Rests, Failing, Ends, Nothing, after_still, begins_try, left_bound, left_fewer, left_less, nothing_long, failures_try}
 

@@ -33,10 +33,12 @@ use Rattle.node_state.specs.Leading.{put, with_waiting, appended, append_if_fits
 use Rattle.node_state.specs.Deciding.{keep_decision, refused, source_len}
 use Rattle.node_state.specs.Ending.{Pass, begun_now, failures_begin, source_refused, may_begin}
 use Rattle.node_state.proofs.NameOrder.{cases_text, row_here, row_there}
-use Rattle.provider_laws.proofs.resting.Orderly.{Orderly, MildLed, MildWaits, failures_few}
-use Rattle.provider_laws.proofs.resting.Growing.{led_grows, put_grows}
-use Rattle.provider_laws.proofs.resting.Beginning.{on_record, on_sent_all, on_handed, on_forgets_least, on_new_members, on_opened, on_closes}
-use Rattle.provider_laws.proofs.resting.Onward.{IsNamed, Onward, self, onward_then, named_on, keeps_onward}
+use Rattle.step_walk.proofs.Waiting.{MildWaits, failures_few}
+use Rattle.step_walk.proofs.Parts.{on_handing}
+use Rattle.step_walk.proofs.Leading.{on_sent_all, on_rest_handed, on_forgets_least, on_new_members, on_opened, on_closes}
+use Rattle.provider_laws.proofs.resting.Orderly.{Orderly, MildLed}
+use Rattle.provider_laws.proofs.resting.Growing.{led_grows}
+use Rattle.provider_laws.proofs.resting.Onward.{IsNamed, Onward, self, onward_then, named_on, onward_alike, onward_row, onward_parts, keeps_onward}
 
 -- ---- what rests
 
@@ -93,7 +95,7 @@ still_led : (s : Core) (g : List ℕ) (f : Led → Led) → MildLed f → Orderl
 unfolding with_led led_of
 still_led s g f m k named =
     record {
-      onward = (keeps_onward s).row s g (λ row. record row { led = f row.led }) named (led_grows f m) (self s k);
+      onward = onward_row s s g (λ row. record row { led = f row.led }) named (led_grows f m) (self s k);
       lists = λ h. same h (cases_text g h);
       others = λ h ne. ap (λ (row : GroupRow). row.led.waiting) (row_there g (λ row. record row { led = f row.led }) (λ x. refl) s h ne);
     }
@@ -116,7 +118,7 @@ waiting_here s g f k = ap (λ (l : Led). l.waiting) (led_here s g (λ l. record 
 
 still_sent : (s : Core) (g : List ℕ) (to : ℕ) (b : Body) → Orderly s → Still g s (sent s to b)
 unfolding sent send_on row_of led_of
-still_sent s g to b k = record { onward = (keeps_onward s).alike s (send_on s (network_to s to) to b) refl refl refl (self s k); lists = λ h. refl; others = λ h ne. refl }
+still_sent s g to b k = record { onward = onward_alike s s (send_on s (network_to s to) to b) refl refl refl (self s k); lists = λ h. refl; others = λ h ne. refl }
 
 -- with what waits in the group too
 pub record Held (g : List ℕ) (s t : Core) : Type 0 where
@@ -149,12 +151,11 @@ appended_more : (f : Answering) (s : Core) (g : List ℕ) (e : Entry) → Orderl
 unfolding appended put len_of list_of recorded with_row row_of with_entry
 appended_more f s g e k named =
     let t : Core = put s g e in
-    let grow : GroupRow → GroupRow = λ row. record row { list = Some (with_entry (list_or_new row.list) s.views.view e) } in
-    let a : Onward s t = on_record (Onward s) (IsNamed s) (keeps_onward s) _ ((keeps_onward s).row s g grow named (put_grows s.views.view e) (self s k)) in
+    let a : Onward s t = (onward_parts s).puts s g e named (self s k) in
     let n : IsNamed t g = named_on s t g a named in
     let one : len_of t g ≡ len_of s g + 1 = longer in
     let u : Core = send_all t (others t) (body.Entry t.views.view g (len_of s g) (least_acked t g) e) in
-    let z : Onward t (appended f s g e) = on_new_members (Onward t) (IsNamed t) (keeps_onward t) g n (state_of s g) (state_of t g) (on_forgets_least (Onward t) (IsNamed t) (keeps_onward t) g n (on_handed (Onward t) (IsNamed t) (keeps_onward t) f (leader_of u g) g (len_of s g) (state_of s g) (state_of t g) e (on_sent_all (Onward t) (IsNamed t) (keeps_onward t) (others t) (body.Entry t.views.view g (len_of s g) (least_acked t g) e) (self t a.orderly)))) in
+    let z : Onward t (appended f s g e) = on_new_members (Onward t) (IsNamed t) (keeps_onward t) g n (state_of s g) (state_of t g) (on_forgets_least (Onward t) (IsNamed t) (keeps_onward t) g n (on_rest_handed (Onward t) (IsNamed t) (keeps_onward t) f u (leader_of u g) g (len_of s g) (state_of s g) (state_of t g) e (on_handing (Onward t) (IsNamed t) (onward_parts t) u g (len_of s g) (state_of s g) (state_of t g) e _ (on_sent_all (Onward t) (IsNamed t) (keeps_onward t) (others t) (body.Entry t.views.view g (len_of s g) (least_acked t g) e) (λ z. tt) (self t a.orderly))))) in
     (onward_then s t (appended f s g e) a z, let m : len_of t g ≤ len_of (appended f s g e) g = z.lens g in omega (arith, one, m))
   where
     longer : len_of (put s g e) g ≡ len_of s g + 1

@@ -8,17 +8,42 @@ use Rattle.rsct_packet.specs.Search.{Has}
 use Rattle.rsct_packet.specs.Text.{name_lt}
 use Rattle.rsct_packet.proofs.HasLaws.{has_append, append_has_left, find_has}
 use Rattle.client_callbacks.specs.declared.told.Why.{Why}
+use Rattle.session_state.specs.HandOn.{is_dissolved, take_telling, handed_on}
+use Rattle.view_state.specs.declared.views.Views.{Views}
 use Rattle.node_state.specs.declared.group.Decision.{Decision}
 use Rattle.node_state.specs.declared.group.GroupRow.{GroupRow}
 use Rattle.node_state.specs.declared.group.Led.{Led}
 use Rattle.node_state.specs.declared.happened.Happened.{Happened}
+use Rattle.node_state.specs.declared.happened.Happened.TheVariants as happened
 use Rattle.node_state.specs.declared.packet.Body.{Body}
+use Rattle.node_state.specs.declared.packet.Body.TheVariants as body
 use Rattle.node_state.specs.declared.packet.Packet.{Packet}
 use Rattle.node_state.specs.declared.state.Core.{Core}
-use Rattle.node_state.specs.State.{new_row, row_found, row_of, rows_with, with_row, with_led, led_of, decision_of, decisions_with, recorded}
+use Rattle.node_state.specs.State.{new_row, row_found, row_of, rows_with, with_row, with_led, set_leader, led_of, len_of, decision_of, decisions_with, recorded, with_sessions}
 use Rattle.node_state.specs.Sending.{packet_on, send_on}
-use Rattle.node_state.specs.Deciding.{keep_decision}
-use Rattle.run_laws.proofs.gapless.FairWalk.{Fairly, FairBody, Mild, Alike, Keeps}
+use Rattle.node_state.specs.Leading.{put}
+use Rattle.node_state.specs.Deciding.{keep_decision, wait_join}
+use Rattle.step_walk.proofs.Changes.{Any, Fairly, Spoken, Tells, Telling, KeepsCalls, KeepsParts, KeepsRing, KeepsRings, KeepsRules}
+use Rattle.step_walk.proofs.Parts.{on_hands}
+use Rattle.step_walk.proofs.Ringing.{by_ring}
+
+-- no packet tells that a group was dissolved
+abbrev pub FairBody : Body → Type 0
+FairBody (body.Tell v g q r y) = is_dissolved y ≡ false
+FairBody _ = Unit {0}
+
+-- nor does the record, and no node starts, stops, enters a view or takes a base
+abbrev pub Mild : Happened → Type 0
+Mild (happened.Up n j) = ⊥
+Mild (happened.Down n) = ⊥
+Mild (happened.In n v ms) = ⊥
+Mild (happened.Base n v g u len s) = ⊥
+Mild (happened.Told q r y) = is_dissolved y ≡ false
+Mild _ = Unit {0}
+
+-- such a packet is given
+abbrev pub FairGiven : Packet → Type 0
+FairGiven q = FairBody q.body
 
 -- what is sent and decided
 pub record Speaks (s : Core) : Type 0 where
@@ -71,15 +96,33 @@ with_has d (x ∷ xs) z h = by (same_provider x.p d.p) h (with_has d xs z)
     by false (inl e) rest = inr (inl e)
     by false (inr j) rest = ⊎_elim (λ (e : z ≡ d). inl e) (λ (i : Has z xs). inr (inr i)) (rest j)
 
--- ---- the walk
+-- ---- each change of a step
+
+tells_fair : (b : Body) (y : Why) → FairBody b → Tells b y → is_dissolved y ≡ false
+tells_fair (body.Tell v g q r x) y fair e = subst (λ z. is_dissolved z ≡ false) (sym e) fair
+tells_fair _ y fair t = absurd t
+
+telling_fair : (y : Why) → Telling FairGiven y → is_dissolved y ≡ false
+telling_fair y (inl e) = subst (λ z. is_dissolved z ≡ false) (sym e) refl
+telling_fair y (inr t) = tells_fair (t.0).body y t.1 t.2
 
 module _ (c : Core) where
-  fair_alike : (s t : Core) → Alike s t → Fair c s → Fair c t
-  fair_alike s t a k =
+  alike : (s t : Core) → t.sends ≡ s.sends → t.records ≡ s.records → t.groups ≡ s.groups → Fair c s → Fair c t
+  alike s t sends records groups k =
       record {
-        speaks = record { spoken = λ x h. k.speaks.spoken x (subst (Has x) a.sends h); decided = λ row h d i. let z = a.decided row h d i in k.speaks.decided z.0 z.1 d z.2 };
+        speaks = record { spoken = λ x h. k.speaks.spoken x (subst (Has x) sends h); decided = λ row h d i. k.speaks.decided row (subst (Has row) groups h) d i };
         more = k.more;
-        is = a.records ∙ k.is;
+        is = records ∙ k.is;
+        mild = k.mild;
+      }
+
+  fair_row : (s : Core) (g : List ℕ) (f : GroupRow → GroupRow) → ((row : GroupRow) → (f row).led.decided ≡ row.led.decided) → Fair c s → Fair c (with_row s g f)
+  unfolding with_row
+  fair_row s g f same k =
+      record {
+        speaks = record { spoken = k.speaks.spoken; decided = rows_all (λ z. Fairly z.why) g f (λ row all d i. all d (subst (Has d) (same row) i)) s.groups k.speaks.decided };
+        more = k.more;
+        is = k.is;
         mild = k.mild;
       }
 
@@ -128,5 +171,59 @@ module _ (c : Core) where
       by None f z = absurd (cc)
       by (Some row) f z = k.speaks.decided row (find_has (λ (row : GroupRow). bytes_eq row.name g) s.groups row f).0 d (find_has (λ (d : Decision). same_provider d.p q) row.led.decided d z).0
 
-  pub fair_keeps : Keeps (Fair c)
-  fair_keeps = record { alike = fair_alike; sends = fair_sends; records = fair_records; decides = fair_decides; knows = fair_knows }
+  fair_spoken : (s : Core) (b : Body) → Fair c s → Spoken s b → FairBody b
+  fair_spoken s (body.Tell v g q r y) k (inl e) = e
+  fair_spoken s (body.Tell v g q r y) k (inr d) = subst Fairly d.4 (fair_knows s d.0 d.1 d.2 d.3 k)
+  fair_spoken s _ k a = tt
+
+  parts : KeepsParts (Fair c) Any
+  unfolding put with_sessions
+  parts =
+      record {
+        sends = λ s network to b spoken k. fair_sends s network to b (fair_spoken s b k spoken) k;
+        puts = λ s g e ok k. fair_records _ (happened.Put s.views.me s.views.view g (len_of s g) e) tt (fair_row s g _ (λ row. refl) k);
+        hears = λ s g before after e bs x i h k. fair_records s (happened.Heard x.p s.views.view g i e after.members after.value) tt k;
+        casts = λ s p proto phase vote value message k. fair_records s (happened.Cast p proto phase vote value message) tt k;
+        handed = λ s g before after e bs k. alike s (with_sessions s (handed_on s.sessions g before after e bs)) refl refl refl k;
+      }
+
+  pub fair_rules : KeepsRules (Fair c) FairGiven
+  unfolding with_led wait_join set_leader with_sessions
+  fair_rules =
+      record {
+        keeps = record {
+          row = λ s g f ok mild k. fair_row s g f mild.decided k;
+          decides = λ s g q r y ok fair k. fair_decides s g q r y fair k;
+          sends = parts.sends;
+          notes = λ s n client v place t k. fair_records s (happened.Noted n client v place t) tt k;
+          hands = on_hands (Fair c) Any parts;
+        };
+        names = λ s ns k. alike s (record s { names = ns }) refl refl refl k;
+        reach = λ s x k. alike s (record s { reach = x }) refl refl refl k;
+        leads = λ s g n k. fair_row s g _ (λ row. refl) k;
+        joins = λ s g q r a e k. fair_row (keep_decision s g q r None) g _ (λ row. refl) (fair_decides s g q r None tt k);
+        tells = λ s q r y telling e k. fair_records _ (happened.Told q r y) (telling_fair y telling) (alike s (with_sessions s (take_telling s.sessions q r y)) refl refl refl k);
+      }
+
+  pub fair_rings : KeepsRings (Fair c) FairGiven
+  fair_rings = by_ring (Fair c) FairGiven fair_rules ring
+    where
+      ring : KeepsRing (Fair c)
+      ring = record {
+        rings = λ s rs k. alike s (record s { rings = rs }) refl refl refl k;
+        sends = λ s network to x k. fair_sends s network to (body.Ring x) tt k;
+        records = λ s n network id ms b k. fair_records s (happened.Ring n network id ms b) tt k;
+      }
+
+  pub fair_calls : KeepsCalls (Fair c)
+  unfolding with_sessions
+  fair_calls =
+      record {
+        sessions = λ s t k. alike s (with_sessions s t) refl refl refl k;
+        refuses = λ s n client fault k. fair_records s (happened.Refused n client fault) tt k;
+        asks = λ s p r g x k. fair_records s (happened.Asked p r g x) tt k;
+        casts = parts.casts;
+      }
+
+  pub fair_views : (s : Core) (vs : Views) → Fair c s → Fair c (record s { views = vs })
+  fair_views s vs k = alike s (record s { views = vs }) refl refl refl k

@@ -13,7 +13,7 @@ use Rattle.node_state.specs.declared.happened.Happened.{Happened}
 use Rattle.node_state.specs.declared.happened.Happened.TheVariants as happened
 use Rattle.run_safety.specs.Stays.{Stay, stays, is_join_of, with_entry}
 use Rattle.node_state.proofs.NameOrder.{text_same}
-use Rattle.run_laws.proofs.gapless.FairWalk.{Mild}
+use Rattle.run_laws.proofs.gapless.Fair.{Mild}
 
 -- a list that is cut in two, at an element
 abbrev pub Cut : List Happened → List Happened → List Happened → Happened → List Happened → Type 0

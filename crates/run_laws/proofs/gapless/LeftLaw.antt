@@ -27,9 +27,7 @@ use Rattle.row_laws.proofs.hearing.Listening.{reverse_has, start_each}
 use Rattle.row_laws.proofs.failed_rows.Living.{IsLive}
 use Rattle.row_laws.proofs.failed_rows.Origin.{root_of}
 use Rattle.provider_laws.specs.leaving.Scenes.{Recounted, Nothing, AllStart, Starts, Stops, Steps, Notes}
-use Rattle.provider_laws.proofs.leaving.Walk.{Known}
-use Rattle.provider_laws.proofs.leaving.Walking.{on_stepped}
-use Rattle.provider_laws.proofs.leaving.Left.{Left, Says, left_self, left_keeps}
+use Rattle.provider_laws.proofs.leaving.Left.{Known, Left, Says, left_stepped}
 use Rattle.provider_laws.proofs.leaving.Law.{reached, providers_stay}
 use Rattle.run_laws.specs.gapless.Left.{ToldWereLeft, TheToldWereLeftBehind}
 use Rattle.run_laws.proofs.gapless.Moving.{Moves, Remains, Enters, NotCall}
@@ -78,7 +76,7 @@ told_lives c w k n f s e up calm p r h = by e calm h
     at e same h = said (left.fresh (happened.Told p r Dissolved) h)
       where
         left : Left (at_work s) (stepped f s e)
-        left = on_stepped (Left (at_work s)) (left_keeps (at_work s)) f s e (subst (Left (at_work s)) (sym same) (left_self (at_work s)))
+        left = subst (λ z. Left z (stepped f s e)) same (left_stepped f s e)
 
         said : Has (happened.Told p r Dissolved) [] ⊎ Says s.sessions (stepped f s e).sessions (happened.Told p r Dissolved) → was_let_go p w.before ≡ false
         said (inl z) = absurd z

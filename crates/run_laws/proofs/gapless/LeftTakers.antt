@@ -23,8 +23,9 @@ use Rattle.provider_laws.proofs.leaving.Events.{same_dissolved}
 use Rattle.run_laws.specs.seen_runs.Seen.{Seen}
 use Rattle.run_laws.proofs.seen_runs.Law.{traces_seen}
 use Rattle.run_laws.specs.gapless.Takers.{Stood, Dissolving}
-use Rattle.run_laws.proofs.gapless.TakerWalk as walk
-use Rattle.run_laws.proofs.gapless.TakerWalking as walking
+use Rattle.step_walk.proofs.Changes.{Whatever}
+use Rattle.step_walk.proofs.Entering.{on_filled}
+use Rattle.run_laws.proofs.gapless.TakerWalk.{Keeps, taker_rules, taker_rings}
 use Rattle.run_laws.proofs.gapless.Keeping.{Standing, standing_keeps}
 use Rattle.run_laws.proofs.gapless.Resting.{dissolving_gone}
 use Rattle.run_laws.proofs.gapless.Fair.{Fair}
@@ -41,15 +42,15 @@ module _ (c : Config) (w : Scene) (n : ℕ) (f : Answering) (s : Core) (e : Node
   seen : Seen (earlier (reverse d.records) w.before)
   seen = traces_seen c (ended w n v d) (Steps w n f s e v reached up arises)
 
-  keeps : walk.Keeps Stands
+  keeps : Keeps Stands
   keeps = standing_keeps n w.before p node d.records seen
 
   pub carries : Carries Stands f
   carries =
       record {
         alike = λ s t a b q. keeps.alike s t (record { same = a; order = subst InNameOrder (sym b) }) q;
-        rings = λ s q. walking.on_rings Stands keeps q;
-        fills = λ s xs q. walking.on_filled Stands keeps f xs q;
+        rings = λ s q. (taker_rings Stands keeps).ticks s q;
+        fills = λ s xs q. on_filled Stands Whatever (taker_rules Stands keeps) f xs q;
       }
 
   pub stands_takes : (t : Core) → Fair (at_work s) t → (more : List Happened) → t.records ++ more ≡ d.records → Stands t → TakesIn n w.before t p

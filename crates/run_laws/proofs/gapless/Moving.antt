@@ -2,6 +2,7 @@
 -- and a call enters no view.
 use Rattle.std.proofs.Common.{◌≡◌, ℕ, List, Option, Some, None, Bool, true, false, refl, sym, ap, ◌∙◌, subst}
 use Rattle.std.specs.Prelude.{not, ◌==◌, ◌&&◌, map, fold}
+use Rattle.std.proofs.lemmas.Bool.{eqb-true}
 use Rattle.rsct_packet.specs.declared.mask.Mask.{Mask}
 use Rattle.rsct_packet.specs.Search.{Has}
 use Rattle.rsct_packet.proofs.HasLaws.{has_map}
@@ -41,11 +42,18 @@ use Rattle.row_laws.proofs.hearing.Changes.{Sends, sends_fold, sends_one, Onward
 use Rattle.row_laws.proofs.hearing.Rules.{onward_fold, rings_onward}
 use Rattle.row_laws.proofs.hearing.Viewing.{Fit, sides_stand}
 use Rattle.row_laws.proofs.hearing.Whose.{whose_asks, whose_prepares, whose_answers, whose_refuses, whose_installs, whose_takes, whose_ticks}
-use Rattle.run_laws.proofs.gapless.FairWalk.{Fairly, FairBody, on_ended}
-use Rattle.run_laws.proofs.gapless.FairRules.{on_owed_part, on_led_part, on_call}
-use Rattle.run_laws.proofs.gapless.FairWalking.{on_filled, on_views_sent, on_rest, on_rings, on_body}
-use Rattle.run_laws.proofs.gapless.Fair.{Speaks, Fair, fair_self, fair_then, fair_keeps}
+use Rattle.step_walk.proofs.Changes.{Fairly}
+use Rattle.step_walk.proofs.Ending.{on_ended}
+use Rattle.step_walk.proofs.Rules.{on_owed_part, on_led_part}
+use Rattle.step_walk.proofs.Calling.{on_call}
+use Rattle.step_walk.proofs.Entering.{on_filled, on_views_sent, on_rest, on_body}
+use Rattle.run_laws.proofs.gapless.Fair.{FairBody, FairGiven, Speaks, Fair, fair_self, fair_then, fair_rules, fair_rings, fair_calls, fair_views}
 use Rattle.run_laws.proofs.gapless.Tellings.{sides_send}
+
+-- it is no packet of views
+abbrev NoView : Body → Type 0
+NoView (body.View x) = ⊥
+NoView _ = Unit {0}
 
 -- what holds of a node in the middle of a step, and goes on to hold up to where it enters a view
 pub record Carries (Q : Core → Type 0) (f : Answering) : Type 0 where
@@ -107,7 +115,7 @@ module _ (Q : Core → Type 0) (X : Type 0) (x : X) (f : Answering) (carries : C
       same = record { me = me; inc = inc; view = goes.view; sessions = refl; records = refl; lens = λ j. refl; states = λ j. refl }
 
       fair : Fair c u
-      fair = on_views_sent (Fair c) (fair_keeps c) w self
+      fair = on_views_sent (Fair c) FairGiven (fair_rules c) w.sends (fair_views c c w.views self)
 
       -- what is lacking is put, and the view is entered
       fills : (i : Install) (xs : List Lacking) → IsNext w.views i.view → Moves Q X c (entered f u i xs)
@@ -115,9 +123,9 @@ module _ (Q : Core → Type 0) (X : Type 0) (x : X) (f : Answering) (carries : C
           let t : Core = fill_lists f u xs in
           let filled = filled_onward f xs u (subst InNameOrder (sym sends.groups) order) in
           let there : t.views ≡ w.views = filled.views ∙ sends.views in
-          let before : Fair c t = on_filled (Fair c) (fair_keeps c) f xs fair in
+          let before : Fair c t = on_filled (Fair c) FairGiven (fair_rules c) f xs fair in
           let e : Core = entering t i in
-          Enters x t i (Then c d t (Stays c d same) (Then d u t (Stays d u (same_sends d u sends)) filled.does)) before (carries.fills u xs (carries.alike d u (same_sends d u sends) sends.groups (carries.alike c d same refl holds))) (ap (λ z. z.view) there ∙ goes.view) (subst (λ z. Lt z.view i.view) (sym there) next.above) (on_rest (Fair e) (fair_keeps e) f (bases_of i) (fair_self e (entering_speaks t i before.speaks)))
+          Enters x t i (Then c d t (Stays c d same) (Then d u t (Stays d u (same_sends d u sends)) filled.does)) before (carries.fills u xs (carries.alike d u (same_sends d u sends) sends.groups (carries.alike c d same refl holds))) (ap (λ z. z.view) there ∙ goes.view) (subst (λ z. Lt z.view i.view) (sym there) next.above) (on_rest (Fair e) FairGiven (fair_rules e) f (bases_of i) (fair_self e (entering_speaks t i before.speaks)))
 
       if_lacking : (i : Install) (o : Option (List Lacking)) → IsNext w.views i.view → Moves Q X c (entered_if f u i o)
       if_lacking i None next = Remains fair
@@ -168,29 +176,22 @@ module _ (Q : Core → Type 0) (X : Type 0) (x : X) (f : Answering) (carries : C
 
   -- ---- packets
 
-  body_moves : (p : Packet) (b : Body) → FairBody b → Moves Q X c (take_body f c p b)
+  inside : (p : Packet) (b : Body) → FairBody p.body → p.to ≡ c.views.me → p.body ≡ b → NoView b → Moves Q X c (take_body f c p b)
+  inside p b fair to is away =
+      Remains (on_body (Fair c) FairGiven (fair_rules c) (fair_rings c) f p b fair to is (λ y e. absurd (subst NoView e away)) self)
+
+  body_moves : (p : Packet) (b : Body) → FairBody p.body → p.to ≡ c.views.me → p.body ≡ b → Moves Q X c (take_body f c p b)
   unfolding take_body
-  body_moves p (body.View y) fair = view_moves p.from p.inc y
-  body_moves p (body.Ring y) fair = Remains (on_body (Fair c) (fair_keeps c) f p (body.Ring y) tt fair self)
-  body_moves p (body.Report rows) fair = Remains (on_body (Fair c) (fair_keeps c) f p (body.Report rows) tt fair self)
-  body_moves p (body.Lookup v g) fair = Remains (on_body (Fair c) (fair_keeps c) f p (body.Lookup v g) tt fair self)
-  body_moves p (body.Name v g n) fair = Remains (on_body (Fair c) (fair_keeps c) f p (body.Name v g n) tt fair self)
-  body_moves p (body.Request v g a r phases y) fair = Remains (on_body (Fair c) (fair_keeps c) f p (body.Request v g a r phases y) tt fair self)
-  body_moves p (body.Tell v g a r y) fair = Remains (on_body (Fair c) (fair_keeps c) f p (body.Tell v g a r y) tt fair self)
-  body_moves p (body.Entry v g place stable e) fair = Remains (on_body (Fair c) (fair_keeps c) f p (body.Entry v g place stable e) tt fair self)
-  body_moves p (body.Ack v g n) fair = Remains (on_body (Fair c) (fair_keeps c) f p (body.Ack v g n) tt fair self)
-  body_moves p (body.Vote v g proto phase a vote value message) fair = Remains (on_body (Fair c) (fair_keeps c) f p (body.Vote v g proto phase a vote value message) tt fair self)
-  body_moves p (body.Gone v g a) fair = Remains (on_body (Fair c) (fair_keeps c) f p (body.Gone v g a) tt fair self)
-  body_moves p (body.Query question what) fair = Remains (on_body (Fair c) (fair_keeps c) f p (body.Query question what) tt fair self)
-  body_moves p (body.Reply question text) fair = Remains (on_body (Fair c) (fair_keeps c) f p (body.Reply question text) tt fair self)
+  body_moves p (body.View y) fair to is = view_moves p.from p.inc y
+  body_moves p b fair to is = inside p b fair to is tt
 
   packet_moves : (p : Packet) → FairBody p.body → Moves Q X c (packet_rule f c p)
   unfolding packet_rule
-  packet_moves p fair = by (p.to == c.views.me)
+  packet_moves p fair = by (p.to == c.views.me) refl
     where
-      by : (b : Bool) → Moves Q X c (elim b as (λ _. Core) [ true ↦ take_body f c p p.body | false ↦ c ])
-      by true = body_moves p p.body fair
-      by false = Remains self
+      by : (b : Bool) → (p.to == c.views.me) ≡ b → Moves Q X c (elim b as (λ _. Core) [ true ↦ take_body f c p p.body | false ↦ c ])
+      by true e = body_moves p p.body fair (eqb-true p.to c.views.me e) refl
+      by false e = Remains self
 
 -- INSTALL that is sent again applies nothing
 module _ (f : Answering) (c : Core) where
@@ -213,7 +214,7 @@ module _ (f : Answering) (c : Core) where
   unfolding views_taken apply_install
   remind_fair r k =
       let w : ViewWork = install_again (views_at_work c.views) in
-      subst (λ o. Fair r (apply_install f (fold (λ t (y : ViewSend). sent t y.to (body.View y.packet)) (record c { views = w.views }) w.sends) o)) (sym reminds_only) (on_views_sent (Fair r) (fair_keeps r) w k)
+      subst (λ o. Fair r (apply_install f (fold (λ t (y : ViewSend). sent t y.to (body.View y.packet)) (record c { views = w.views }) w.sends) o)) (sym reminds_only) (on_views_sent (Fair r) FairGiven (fair_rules r) w.sends (fair_views r c w.views k))
 
 -- ---- a whole step
 
@@ -227,7 +228,7 @@ FairEvent _ = Unit {0}
 
 module _ (Q : Core → Type 0) (f : Answering) (carries : Carries Q f) where
   ended_moves : (X : Type 0) (a b : Core) → Moves Q X a b → Moves Q X a (end_step f b)
-  ended_moves X a b k = moves_after Q X a b (end_step f b) (λ r z. on_ended (Fair r) (fair_keeps r) f z) k
+  ended_moves X a b k = moves_after Q X a b (end_step f b) (λ r z. on_ended (Fair r) (fair_rules r).keeps f z) k
 
   pub step_moves : (s : Core) (e : NodeEvent) → Fit s → Speaks (at_work s) → FairEvent e → Q (at_work s) → Moves Q (NotCall e) (at_work s) (stepped f s e)
   unfolding stepped event_rule tick_rule tick_views
@@ -237,15 +238,15 @@ module _ (Q : Core → Type 0) (f : Answering) (carries : Carries Q f) where
       let t : Core = views_taken f b (gathering_ticks (views_at_work b.views) (ring_ask b) (own_parts b)) in
       let d : Core = views_taken f t (install_again (views_at_work t.views)) in
       let k = rings_onward a fit.order in
-      let rings : Fair a b = on_rings (Fair a) (fair_keeps a) (fair_self a speaks) in
+      let rings : Fair a b = (fair_rings a).ticks a (fair_self a speaks) in
       let ticks : Moves Q (Unit {0}) b t = tick_moves Q (Unit {0}) tt f carries b k.order (subst AreViews (sym k.views) fit.views) rings.speaks (carries.rings a holds) in
       let reminded : Moves Q (Unit {0}) a d = moves_after Q (Unit {0}) a t d (remind_fair f t) (moves_before Q (Unit {0}) a b t k.does (ap (λ z. z.view) k.views) rings ticks) in
-      ended_moves (Unit {0}) a (tick_led f (tick_owed d)) (moves_after Q (Unit {0}) a d (tick_led f (tick_owed d)) (λ r z. on_led_part (Fair r) (fair_keeps r) f (on_owed_part (Fair r) (fair_keeps r) z)) reminded)
+      ended_moves (Unit {0}) a (tick_led f (tick_owed d)) (moves_after Q (Unit {0}) a d (tick_led f (tick_owed d)) (λ r z. on_led_part (Fair r) FairGiven (fair_rules r) f (on_owed_part (Fair r) FairGiven (fair_rules r) z)) reminded)
   step_moves s (Asks mask) fit speaks fair holds =
       ended_moves (Unit {0}) (at_work s) (take_order f (at_work s) mask) (order_moves Q (Unit {0}) tt f carries (at_work s) fit.order fit.views speaks holds mask)
   step_moves s (Given p) fit speaks fair holds =
       ended_moves (Unit {0}) (at_work s) (packet_rule f (at_work s) p) (packet_moves Q (Unit {0}) tt f carries (at_work s) fit.order fit.views speaks holds p fair)
   step_moves s (Calls x) fit speaks fair holds =
-      Remains (on_ended (Fair (at_work s)) (fair_keeps (at_work s)) f (on_call (Fair (at_work s)) (fair_keeps (at_work s)) x (fair_self (at_work s) speaks)))
+      Remains (on_ended (Fair (at_work s)) (fair_rules (at_work s)).keeps f (on_call (Fair (at_work s)) FairGiven (fair_rules (at_work s)) (fair_calls (at_work s)) x (fair_self (at_work s) speaks)))
   step_moves s Garbage fit speaks fair holds =
-      Remains (on_ended (Fair (at_work s)) (fair_keeps (at_work s)) f (fair_self (at_work s) speaks))
+      Remains (on_ended (Fair (at_work s)) (fair_rules (at_work s)).keeps f (fair_self (at_work s) speaks))

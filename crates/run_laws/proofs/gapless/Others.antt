@@ -18,7 +18,7 @@ use Rattle.step_refinement.specs.Tied.{Scene}
 use Rattle.step_refinement.specs.Rules.{starts_too}
 use Rattle.step_refinement.specs.Runs.{IsNote}
 use Rattle.provider_laws.proofs.attending.OrderLaw.{with_is, started_stays, others_stay}
-use Rattle.run_laws.proofs.gapless.FairWalk.{Mild}
+use Rattle.run_laws.proofs.gapless.Fair.{Mild}
 
 -- no view is entered
 mild_none : (n : ℕ) (r : Happened) → Mild r → enters n r ≡ true → ⊥

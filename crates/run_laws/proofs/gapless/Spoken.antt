@@ -17,8 +17,8 @@ use Rattle.step_refinement.specs.Rules.{at_node, nothing_yet, starts_too, Arises
 use Rattle.step_refinement.specs.Runs.{Reached, Nothing, AllStart, Starts, Stops, Steps, Notes}
 use Rattle.step_refinement.proofs.Changed.{each_set}
 use Rattle.row_laws.proofs.hearing.Listening.{reached_attends}
-use Rattle.run_laws.proofs.gapless.FairWalk.{Fairly, FairBody}
-use Rattle.run_laws.proofs.gapless.Fair.{Speaks}
+use Rattle.step_walk.proofs.Changes.{Fairly}
+use Rattle.run_laws.proofs.gapless.Fair.{FairBody, Speaks}
 use Rattle.run_laws.proofs.gapless.Moving.{Carries, Moves, Remains, Enters, NotCall, FairEvent, step_moves}
 
 abbrev Decides : Core → Type 0

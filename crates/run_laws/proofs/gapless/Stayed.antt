@@ -8,7 +8,7 @@ use Rattle.node_state.specs.declared.happened.Happened.TheVariants as happened
 use Rattle.run_safety.specs.Past.{History, earlier}
 use Rattle.run_safety.specs.Stays.{Stay, stays, with_entry}
 use Rattle.row_laws.proofs.hearing.Attending.{pushed}
-use Rattle.run_laws.proofs.gapless.FairWalk.{Mild}
+use Rattle.run_laws.proofs.gapless.Fair.{Mild}
 
 -- the latest stay has the base, and those are before it
 pub record LastStay (xs : List Stay) (x : Stay) (older : List Stay) : Type 0 where

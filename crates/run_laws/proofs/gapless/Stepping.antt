@@ -59,7 +59,7 @@ use Rattle.run_laws.specs.gapless.Hears.{AllHearUnlessLetGo}
 use Rattle.run_laws.proofs.gapless.Growing.{Over}
 use Rattle.run_laws.proofs.gapless.Standing.{JoinWaits, Heard_at, Law}
 use Rattle.run_laws.proofs.gapless.Keeping.{Standing, Inv_at, standing_keeps}
-use Rattle.run_laws.proofs.gapless.TakerWalking.{on_stepped}
+use Rattle.run_laws.proofs.gapless.TakerWalk.{on_stepped}
 use Rattle.run_laws.proofs.gapless.Calls.{CallRecord, Leaves, Made, call_made}
 use Rattle.run_laws.proofs.gapless.Adding.{Walked, Added, added_keeps}
 use Rattle.run_laws.proofs.gapless.Resting.{Known, KnownIf, WaitsIf, Rested, or_false, spared_before, dissolving_gone, over_all, known_on}

@@ -54,13 +54,12 @@ use Rattle.run_laws.proofs.gapless.Keeping.{Inv_at, seen_back}
 use Rattle.run_laws.proofs.gapless.Adding.{Walked}
 use Rattle.run_laws.proofs.gapless.Resting.{Rested, dissolving_gone}
 use Rattle.run_laws.proofs.gapless.Stepping as stepping
-use Rattle.run_laws.proofs.gapless.Fair.{Fair}
+use Rattle.run_laws.proofs.gapless.Fair.{Fair, Mild}
 use Rattle.run_laws.proofs.gapless.Moving.{Moves, Remains, Enters, NotCall}
 use Rattle.run_laws.proofs.gapless.Spoken.{spoken_moves, reached_spoken}
 use Rattle.run_laws.proofs.gapless.Tellings.{Leaves}
 use Rattle.run_laws.proofs.gapless.Entered.{o, untold, told_left, not_passing}
 use Rattle.run_laws.proofs.gapless.LeftTakers.{Stands, carries}
-use Rattle.run_laws.proofs.gapless.FairWalk.{Mild}
 use Rattle.run_laws.proofs.gapless.Later.{Cut, cut_at, Later, Grown, grown, place_named}
 
 dissolved_is : (y : Why) → is_dissolved y ≡ true → y ≡ why.Dissolved

@@ -18,6 +18,8 @@ use Rattle.node_state.specs.declared.state.Core.{Core}
 use Rattle.node_state.specs.Settings.{is_fixed, addresses_on}
 use Rattle.node_state.specs.State.{with_sessions}
 use Rattle.node_state.specs.HandOn.{Answering}
+use Rattle.node_state.specs.declared.packet.Packet.{Packet}
+use Rattle.node_state.specs.Step as node_step
 use Rattle.node_state.specs.Step.{NodeEvent, started, stepped, at_work}
 use Rattle.world_model.specs.declared.event.Event.{Event}
 use Rattle.run_safety.specs.Past.{History, records_of}
@@ -27,10 +29,10 @@ use Rattle.step_refinement.specs.Runs.{IsNote, Reached, Nothing, AllStart, Start
 use Rattle.step_refinement.proofs.Changed.{each_set}
 use Rattle.run_laws.specs.ring_runs.Rings.{ring_settings, told_on, rings_told, RingsAgreeInRuns}
 use Rattle.run_laws.proofs.ring_runs.Finding.{gone_here, gone_there}
-use Rattle.run_laws.proofs.ring_runs.Playing.{ring_on, Own, Tells, comes_on, At, Played, played_keeps}
-use Rattle.run_laws.proofs.ring_runs.Ticking.{rings_part_played, ring_row_played}
+use Rattle.run_laws.proofs.ring_runs.Playing.{ring_on, Own, Tells, comes_on, At, Played, played_rules, played_views, played_calls}
+use Rattle.run_laws.proofs.ring_runs.Ticking.{played_rings}
 use Rattle.run_laws.proofs.ring_runs.Starting.{Stands, Plays, start_plays}
-use Rattle.run_laws.proofs.ring_runs.Viewing.{on_stepped}
+use Rattle.step_walk.proofs.Walking.{GivenBy, on_called, on_stepped}
 
 reverse_has : {A : Type 0} (x : A) (xs : List A) → Has x (reverse xs) → Has x xs
 reverse_has x [] h = h
@@ -158,8 +160,20 @@ module _ (net : ℕ) where
   step_stands : (w : Scene) (n : ℕ) (f : Answering) (s : Core) (e : NodeEvent) (v : Event) → w.cores n ≡ Some s → Arises w e → PlaysIn net w → PlaysIn net (ended w n v (stepped f s e))
   step_stands w n f s e v up arises p =
       let begun : Played net w n (at_work s) = (p.0, p.1, begin_at w n s p.0 up p.2) in
-      let done : Played net w n (stepped f s e) = on_stepped (Played net w n) (played_keeps net w n) w (rings_part_played net w n) (ring_row_played net w n) f s e arises begun in
+      let rules = played_rules net w n in
+      let called = on_called (Played net w n) Given rules (played_rings net w n) (played_views net w n) (played_calls net w n) e begun in
+      let done : Played net w n (stepped f s e) = on_stepped (Played net w n) Given rules (played_rings net w n) (played_views net w n) f s e (given e arises) called in
       (done.0, done.1, end_stands w n v (stepped f s e) done.0 p.2.own done.2)
+    where
+      Given : Packet → Type 0
+      Given q = Has q w.sent
+
+      given : (e : NodeEvent) → Arises w e → GivenBy Given e
+      given node_step.Ticks a = tt
+      given (node_step.Asks mask) a = tt
+      given (node_step.Given q) a = a
+      given (node_step.Calls c) a = tt
+      given node_step.Garbage a = tt
 
   -- ---- no node changes
 

@@ -19,15 +19,27 @@ use Rattle.node_state.specs.declared.packet.Body.{Body}
 use Rattle.node_state.specs.declared.packet.Body.TheVariants as body
 use Rattle.node_state.specs.declared.packet.Packet.{Packet}
 use Rattle.node_state.specs.declared.state.Core.{Core}
-use Rattle.node_state.specs.State.{recorded, recorded_all}
+use Rattle.node_state.specs.State.{with_row, with_led, set_leader, state_of, len_of, recorded, recorded_all, with_sessions}
 use Rattle.node_state.specs.Sending.{packet_on, send_on}
 use Rattle.node_state.specs.Ticks.{ring_put, set_records, ring_taken}
 use Rattle.run_safety.specs.Past.{records_of}
+use Rattle.rsct_packet.specs.declared.ids.ProviderId.{ProviderId}
+use Rattle.client_callbacks.specs.declared.told.Why.{Why}
+use Rattle.client_callbacks.specs.declared.told.Why.TheVariants.{Dissolved}
+use Rattle.session_state.specs.declared.state.SessionState.{SessionState}
+use Rattle.session_state.specs.State.{outstanding}
+use Rattle.session_state.specs.HandOn.{take_telling, handed_on}
+use Rattle.view_state.specs.Views.{views_entered, views_at_work}
+use Rattle.node_state.specs.Leading.{put}
+use Rattle.node_state.specs.Deciding.{keep_decision, is_idle_empty, wait_join}
+use Rattle.node_state.specs.Applying.{number_of, dissolved}
+use Rattle.row_laws.proofs.hearing.Whose.{Whose, whose_asks, whose_prepares, whose_answers, whose_refuses, whose_installs, whose_takes, whose_ticks, whose_reminds}
+use Rattle.step_walk.proofs.Changes.{Any, Spoken, Viewing, Asks, Prepares, Answers, Refuses, Installs, Takes, Gathers, Reminds, viewing, KeepsCalls, KeepsParts, KeepsRules, KeepsViews}
+use Rattle.step_walk.proofs.Parts.{IsEntering, entering, on_hands, on_enters}
 use Rattle.step_refinement.specs.Tied.{Scene}
 use Rattle.step_refinement.proofs.Changed.{has_pushed}
 use Rattle.run_laws.specs.ring_runs.Rings.{ring_settings}
 use Rattle.run_laws.proofs.ring_runs.Stepping.{OwnWork, own_step}
-use Rattle.run_laws.proofs.ring_runs.Leading.{NoRing, Aside, Keeps}
 use Rattle.run_laws.proofs.ring_runs.Finding.{is_on, nets_of, Differ, put_has, put_nets, put_here, put_there, with_here, with_there}
 
 -- the ring of the network that a node has
@@ -72,13 +84,9 @@ pub comes_on : (net : ℕ) (s : RingSettings) (v : Network) (e : Happening) → 
 unfolding after
 comes_on net s v e c = (c.0 ++ e ∷ [], fold-append happens (quiet net s) c.0 (e ∷ []) ∙ ap (λ z. happens z e) c.1)
 
-no_ring_carried : (net : ℕ) (v : Network) (p : Packet) (b : Body) → NoRing b → Carried net v p b
-no_ring_carried net v p (body.Ring x) away = absurd away
-no_ring_carried net v p _ away = tt
-
-aside_tells : (net : ℕ) (v : Network) (r : Happened) → Aside r → Tells net v r
-aside_tells net v (happened.Ring n network id ms b) away = absurd away
-aside_tells net v _ away = tt
+spoken_carried : (net : ℕ) (v : Network) (s : Core) (p : Packet) (b : Body) → Spoken s b → Carried net v p b
+spoken_carried net v s p (body.Ring x) away = absurd away
+spoken_carried net v s p _ away = tt
 
 -- what was sent stays sent, and what was told stays told
 pub record Grows (v x : Network) : Type 0 where
@@ -154,13 +162,85 @@ module _ (net : ℕ) (w : Scene) (n : ℕ) where
   abbrev pub Played : Core → Type 0
   Played s = (v : Network) × Comes net (ring_settings w.config net) v × At net w n v s
 
-  pub played_keeps : Keeps Played
+  abbrev Given : Packet → Type 0
+  Given p = Has p w.sent
+
+  alike : (s t : Core) → t.rings ≡ s.rings → t.views.me ≡ s.views.me → t.views.inc ≡ s.views.inc → t.sends ≡ s.sends → t.records ≡ s.records → Played s → Played t
+  alike s t rings me inc sends records p = (p.0, p.1, at_alike p.0 s t rings me inc sends records p.2)
+
+  -- it says nothing of rings
+  told : (s : Core) (r : Happened) → ((v : Network) → Tells net v r) → Played s → Played (recorded s r)
   unfolding recorded recorded_all
-  played_keeps =
+  told s r aside p =
+      (p.0, p.1, at_recorded_all p.0 s (r ∷ []) (λ q h. ⊎_elim (λ (e : q ≡ r). subst (Tells net p.0) (sym e) (aside p.0)) (λ (z : ⊥). absurd z) h) p.2)
+
+  entered : (s : Core) (r : Happened) → IsEntering r → Played s → Played (recorded s r)
+  entered s (happened.In m v ms) a p = told s (happened.In m v ms) (λ z. tt) p
+  entered s (happened.Base m v g u len st) a p = told s (happened.Base m v g u len st) (λ z. tt) p
+  entered s _ a p = absurd a
+
+  refused : (s : Core) (p : ProviderId) (r : ℕ) (y : Why) → Played s → Played (recorded (with_sessions s (take_telling s.sessions p r y)) (happened.Told p r y))
+  unfolding with_sessions
+  refused s p r y k =
+      let t : SessionState = take_telling s.sessions p r y in
+      told (with_sessions s t) (happened.Told p r y) (λ z. tt) (alike s (with_sessions s t) refl refl refl refl refl k)
+
+  whose_in : (s : Core) (v : Viewing) → Whose (views_at_work s.views) (viewing s v)
+  whose_in s (Asks mask) = whose_asks (views_at_work s.views) mask _
+  whose_in s (Prepares from inc v mask) = whose_prepares (views_at_work s.views) from inc v mask _
+  whose_in s (Answers v a) = whose_answers (views_at_work s.views) v a
+  whose_in s (Refuses v n) = whose_refuses (views_at_work s.views) v n
+  whose_in s (Installs i) = whose_installs (views_at_work s.views) i
+  whose_in s (Takes from v) = whose_takes (views_at_work s.views) from v
+  whose_in s Gathers = whose_ticks (views_at_work s.views) _ _
+  whose_in s Reminds = whose_reminds (views_at_work s.views)
+
+  parts : KeepsParts Played Any
+  unfolding put with_row with_sessions
+  parts =
       record {
-        alike = λ s t k p. (p.0, p.1, at_alike p.0 s t k.rings k.me k.inc k.sends k.records p.2);
-        sends = λ s network to b away p. (p.0, p.1, at_sent_on p.0 s network to b (no_ring_carried net p.0 (packet_on s network to b) b away) p.2);
-        records = λ s r away p. (p.0, p.1, at_recorded_all p.0 s (r ∷ []) (λ q h. ⊎_elim (λ (e : q ≡ r). subst (Tells net p.0) (sym e) (aside_tells net p.0 r away)) (λ (z : ⊥). absurd z) h) p.2);
+        sends = λ s network to b spoken p. (p.0, p.1, at_sent_on p.0 s network to b (spoken_carried net p.0 s (packet_on s network to b) b spoken) p.2);
+        puts = λ s g e ok p. told (with_row s g _) (happened.Put s.views.me s.views.view g (len_of s g) e) (λ z. tt) (alike s (with_row s g _) refl refl refl refl refl p);
+        hears = λ s g before after e bs c i h p. told s (happened.Heard c.p s.views.view g i e after.members after.value) (λ z. tt) p;
+        casts = λ s q proto phase vote value message p. told s (happened.Cast q proto phase vote value message) (λ z. tt) p;
+        handed = λ s g before after e bs p. alike s (with_sessions s (handed_on s.sessions g before after e bs)) refl refl refl refl refl p;
+      }
+
+  pub played_rules : KeepsRules Played Given
+  unfolding with_row with_led keep_decision wait_join set_leader
+  played_rules =
+      record {
+        keeps = record {
+          row = λ s g f ok mild p. alike s (with_row s g f) refl refl refl refl refl p;
+          decides = λ s g q r y ok fair p. alike s (keep_decision s g q r y) refl refl refl refl refl p;
+          sends = parts.sends;
+          notes = λ s m c v place t p. told s (happened.Noted m c v place t) (λ z. tt) p;
+          hands = on_hands Played Any parts;
+        };
+        names = λ s ns p. alike s (record s { names = ns }) refl refl refl refl refl p;
+        reach = λ s x p. alike s (record s { reach = x }) refl refl refl refl refl p;
+        leads = λ s g m p. alike s (set_leader s g m) refl refl refl refl refl p;
+        joins = λ s g q r a e p. alike s (wait_join s g q r a (is_idle_empty (state_of s g))) refl refl refl refl refl p;
+        tells = λ s q r y telling e p. refused s q r y p;
+      }
+
+  pub played_views : KeepsViews Played
+  unfolding views_entered dissolved
+  played_views =
+      record {
+        views = λ s v p. (let whose = whose_in s v in alike s (record s { views = (viewing s v).views }) refl whose.0 whose.1 refl refl p);
+        enters = λ s i p. on_enters Played entered s i (alike s (entering s i) refl refl refl refl refl p);
+        dissolves = λ s q x e p. refused s x.p (number_of (outstanding s.sessions x.p)) Dissolved p;
+      }
+
+  pub played_calls : KeepsCalls Played
+  unfolding with_sessions
+  played_calls =
+      record {
+        sessions = λ s t p. alike s (with_sessions s t) refl refl refl refl refl p;
+        refuses = λ s m client fault p. told s (happened.Refused m client fault) (λ z. tt) p;
+        asks = λ s q r g x p. told s (happened.Asked q r g x) (λ z. tt) p;
+        casts = parts.casts;
       }
 
   -- ---- what a ring's step leaves

@@ -24,9 +24,10 @@ use Rattle.node_state.specs.Ticks.{ring_put, ring_taken, ring_rule_of, ring_rule
 use Rattle.step_refinement.specs.Tied.{Scene}
 use Rattle.run_laws.specs.ring_runs.Rings.{ring_settings}
 use Rattle.run_laws.proofs.ring_runs.Stepping.{own_step}
-use Rattle.run_laws.proofs.ring_runs.Leading.{on_sent_all, Keeps}
+use Rattle.step_walk.proofs.Changes.{Any, KeepsRings}
+use Rattle.step_walk.proofs.Leading.{on_sent_all}
 use Rattle.run_laws.proofs.ring_runs.Finding.{is_on, nets_of, Differ, has_net, found_own, put_there}
-use Rattle.run_laws.proofs.ring_runs.Playing.{Carried, Comes, comes_on, Played, played_keeps, other_taken, this_taken}
+use Rattle.run_laws.proofs.ring_runs.Playing.{Carried, Comes, comes_on, Played, played_rules, other_taken, this_taken}
 
 -- what is in a list can be got from it
 has_get : {A : Type 0} (x : A) (xs : List A) → Has x xs → (k : ℕ) × (slice_get xs k ≡ Some x)
@@ -78,11 +79,10 @@ module _ (net : ℕ) (w : Scene) (n : ℕ) where
   reported : (s : Core) (m : Mask) → P s → P (send_report s m)
   unfolding send_report
   reported s m p =
-      let k : Keeps (Played net w n) = played_keeps net w n in
       let t : Core = record s { reach = reach.set_own s.reach m } in
-      on_sent_all (Played net w n) k {s = t} (filter (λ n. not (n == s.views.me)) (nodes_of m)) (body.Report (report_of t.reach)) tt (k.alike s t (record { rings = refl; me = refl; inc = refl; sends = refl; records = refl }) p)
+      on_sent_all (Played net w n) Any (played_rules net w n).keeps (filter (λ n. not (n == s.views.me)) (nodes_of m)) (body.Report (report_of t.reach)) (λ u. tt) ((played_rules net w n).reach s (reach.set_own s.reach m) p)
 
-  pub rings_part_played : (s : Core) → Played net w n s → Played net w n (tick_rings s)
+  rings_part_played : (s : Core) → Played net w n s → Played net w n (tick_rings s)
   unfolding tick_rings rings_tick
   rings_part_played s p = by (is_rings s.config.mode)
     where
@@ -94,7 +94,7 @@ module _ (net : ℕ) (w : Scene) (n : ℕ) where
       by false = p
 
   -- a packet that was sent is given to the ring of its network
-  pub ring_row_played : (s : Core) (p : Packet) (x : RingPacket) → Has p w.sent → p.to ≡ s.views.me → p.body ≡ body.Ring x → Played net w n s → Played net w n (ring_rule s p.network p.from p.inc x)
+  ring_row_played : (s : Core) (p : Packet) (x : RingPacket) → Has p w.sent → p.to ≡ s.views.me → p.body ≡ body.Ring x → Played net w n s → Played net w n (ring_rule s p.network p.from p.inc x)
   unfolding ring_rule ring_rule_of happens given_in stepped_in
   ring_row_played s p x sent to is h = by (find (is_on p.network) s.rings) refl
     where
@@ -124,3 +124,6 @@ module _ (net : ℕ) (w : Scene) (n : ℕ) where
             where
               was : (q : Packet) → Has q w.sent → Has q (s.sends ++ w.sent)
               was q i = append_has_right q s.sends w.sent i
+
+  pub played_rings : KeepsRings (Played net w n) (λ p. Has p w.sent)
+  played_rings = record { ticks = rings_part_played; takes = ring_row_played }

@@ -1,9 +1,11 @@
--- What appending, closing and beginning keep of the rows of groups.
-use Rattle.std.proofs.Common.{◌≡◌, ℕ, zero, suc, List, [], ◌∷◌, length, Option, Some, None, Bool, true, false, refl}
-use Rattle.std.specs.Prelude.{not, map, filter, fold, flat_map}
+-- What keeps each change keeps sending, recording, putting and handing on, appending, closing, beginning and refusing.
+use Rattle.std.proofs.Common.{◌≡◌, ℕ, zero, suc, List, [], ◌∷◌, length, Option, Some, None, Bool, true, false, refl, sym, subst, inl, inr, append_assoc, append-nil}
+use Rattle.std.specs.Prelude.{◌-◌, drop, max, nat_le, if◌then◌else◌, not, map, filter, fold, flat_map}
 use Rattle.rsct_packet.specs.declared.ids.ProviderId.{ProviderId}
 use Rattle.rsct_packet.specs.declared.ids.ProtoId.{ProtoId}
 use Rattle.rsct_packet.specs.Providers.{among}
+use Rattle.rsct_packet.specs.Search.{Has}
+use Rattle.rsct_packet.proofs.HasLaws.{has_map}
 use Rattle.group_attr.specs.declared.attrs.Phases.{Phases}
 use Rattle.group_attr.specs.declared.attrs.Phases.TheVariants.{One, Many}
 use Rattle.proposal_core.specs.declared.proposal.Cause.TheVariants.{Died, Gone}
@@ -12,7 +14,8 @@ use Rattle.proposal_core.specs.declared.entry.Entry.{Entry}
 use Rattle.proposal_core.specs.declared.entry.Entry.TheVariants.{Once, Begin}
 use Rattle.proposal_core.specs.declared.group_state.GroupState.{GroupState}
 use Rattle.proposal_core.specs.Fold.{max_phases}
-use Rattle.proposal_core.specs.Lists.{list_or_new, with_entry}
+use Rattle.proposal_core.specs.GroupView.{GroupView}
+use Rattle.proposal_core.specs.Lists.{len_in, state_in, forgotten}
 use Rattle.batch_rules.specs.Waiting.{WaitingView, add_failure}
 use Rattle.vote_phases.specs.Tally.{TallyView}
 use Rattle.subscribe_core.specs.Subs.{is_of_group, differs}
@@ -21,28 +24,44 @@ use Rattle.client_callbacks.specs.declared.ballot.Filled.{Filled}
 use Rattle.client_callbacks.specs.Ballots.{BallotView}
 use Rattle.session_state.specs.declared.casts.Cast.{Cast}
 use Rattle.session_state.specs.declared.state.SessionState.{SessionState}
-use Rattle.session_state.specs.HandOn.{hearers, casts_out, take_telling}
+use Rattle.session_state.specs.HandOn.{hearers, casts_out, is_dissolved}
 use Rattle.session_state.specs.HandOn as session
-use Rattle.node_state.specs.declared.group.GroupRow.{GroupRow}
 use Rattle.node_state.specs.declared.group.Led.{Led}
 use Rattle.node_state.specs.declared.happened.Happened.{Happened}
 use Rattle.node_state.specs.declared.happened.Happened.TheVariants as happened
 use Rattle.node_state.specs.declared.packet.Body.{Body}
 use Rattle.node_state.specs.declared.packet.Body.TheVariants as body
 use Rattle.node_state.specs.declared.state.Core.{Core}
-use Rattle.node_state.specs.State.{with_row, with_led, led_of, state_of, len_of, list_forgotten, fits_at_end, forget_below, frozen, leader_of, others, least_acked, decisions_with, recorded, recorded_all, with_sessions}
-use Rattle.node_state.specs.Sending.{send_on, sent, send_all, send_if_known, network_to, vote_of}
+use Rattle.node_state.specs.State.{with_led, led_of, state_of, len_of, list_forgotten, fits_at_end, forget_below, frozen, leader_of, others, least_acked, recorded, recorded_all, with_sessions}
+use Rattle.node_state.specs.Sending.{sent, send_all, send_if_known, network_to, vote_of}
 use Rattle.node_state.specs.HandOn.{Answering, fills, heard, note_of, notes, noted, ballot_sent, cast_sent_of, casts_sent, hand_on}
 use Rattle.node_state.specs.Leading.{put, put_and_hand, forget_least, with_waiting, wait_if, new_members_wait, appended, append_if_fits, with_tally, tally_set, tally_for, tally_opened, closing_entry, is_phase, closes_from, closes, begin_many, begins}
-use Rattle.node_state.specs.Deciding.{keep_decision, refused}
-use Rattle.provider_laws.proofs.resting.Orderly.{MildLed, MildWaits, fails_few}
-use Rattle.provider_laws.proofs.resting.Growing.{Grows, led_grows, put_grows, forgets_grow}
+use Rattle.node_state.specs.Deciding.{refused}
+use Rattle.step_walk.proofs.Waiting.{Few, MildWaits, fails_few}
+use Rattle.step_walk.proofs.Changes.{Spoken, put_sent, handing, Keeps}
 
--- what is said of a node in the middle of a step depends on its view, its config and its groups alone, and is kept by such changes of
--- the rows that are spoken of
-pub record Keeps (P : Core → Type 0) (Ok : List ℕ → Type 0) : Type 0 where
-  pub alike : (s t : Core) → t.groups ≡ s.groups → t.views ≡ s.views → t.config ≡ s.config → P s → P t
-  pub row : (s : Core) (g : List ℕ) (f : GroupRow → GroupRow) → Ok g → Grows f → P s → P (with_row s g f)
+-- what a subscriber is told
+abbrev pub IsNote : Happened → Type 0
+IsNote (happened.Noted n c v i told) = Unit {0}
+IsNote _ = ⊥
+
+forgotten_len : (m : ℕ) (l : Option GroupView) → len_in (list_forgotten m l) ≡ len_in l
+unfolding forgotten
+forgotten_len m None = refl
+forgotten_len m (Some l) = by (nat_le m l.len)
+  where
+    by : (b : Bool) → (if b then record l { start = max l.start m; entries = drop (m - l.start) l.entries } else l).len ≡ l.len
+    by true = refl
+    by false = refl
+
+forgotten_state : (m : ℕ) (l : Option GroupView) → state_in (list_forgotten m l) ≡ state_in l
+unfolding forgotten
+forgotten_state m None = refl
+forgotten_state m (Some l) = by (nat_le m l.len)
+  where
+    by : (b : Bool) → (if b then record l { start = max l.start m; entries = drop (m - l.start) l.entries } else l).state ≡ l.state
+    by true = refl
+    by false = refl
 
 module _ (P : Core → Type 0) (Ok : List ℕ → Type 0) (k : Keeps P Ok) where
   pub on_either : {s t : Core} (b : Bool) → P s → P t → P (elim b as (λ _. Core) [ true ↦ s | false ↦ t ])
@@ -55,45 +74,35 @@ module _ (P : Core → Type 0) (Ok : List ℕ → Type 0) (k : Keeps P Ok) where
 
   -- ---- what is sent and recorded
 
-  pub on_sent_on : {s : Core} (network to : ℕ) (b : Body) → P s → P (send_on s network to b)
-  unfolding send_on
-  on_sent_on {s} network to b p = k.alike s (send_on s network to b) refl refl refl p
-
-  pub on_sent : {s : Core} (to : ℕ) (b : Body) → P s → P (sent s to b)
+  pub on_sent : {s : Core} (to : ℕ) (b : Body) → Spoken s b → P s → P (sent s to b)
   unfolding sent
-  on_sent {s} to b p = on_sent_on (network_to s to) to b p
+  on_sent {s} to b spoken p = k.sends s (network_to s to) to b spoken p
 
-  pub on_sent_all : {s : Core} (ns : List ℕ) (b : Body) → P s → P (send_all s ns b)
+  pub on_sent_all : {s : Core} (ns : List ℕ) (b : Body) → ((t : Core) → Spoken t b) → P s → P (send_all s ns b)
   unfolding send_all
-  on_sent_all ns b p = on_fold (λ t n. sent t n b) (λ t n q. on_sent n b q) ns p
+  on_sent_all ns b spoken p = on_fold (λ t n. sent t n b) (λ t n q. on_sent n b (spoken t) q) ns p
 
-  pub on_known : {s : Core} (to : Option ℕ) (b : Body) → P s → P (send_if_known s to b)
+  pub on_known : {s : Core} (to : Option ℕ) (b : Body) → Spoken s b → P s → P (send_if_known s to b)
   unfolding send_if_known
-  on_known None b p = p
-  on_known (Some n) b p = on_sent n b p
+  on_known None b spoken p = p
+  on_known (Some n) b spoken p = on_sent n b spoken p
 
-  pub on_records : {s : Core} (rs : List Happened) → P s → P (recorded_all s rs)
-  unfolding recorded_all
-  on_records {s} rs p = k.alike s (recorded_all s rs) refl refl refl p
+  note_kept : {s : Core} (r : Happened) → IsNote r → P s → P (recorded s r)
+  note_kept {s} (happened.Noted n c v i t) a p = k.notes s n c v i t p
+  note_kept _ a p = absurd a
 
-  pub on_record : {s : Core} (r : Happened) → P s → P (recorded s r)
-  unfolding recorded
-  on_record {s} r p = k.alike s (recorded s r) refl refl refl p
-
-  pub on_sessions : {s : Core} (t : SessionState) → P s → P (with_sessions s t)
-  unfolding with_sessions
-  on_sessions {s} t p = k.alike s (with_sessions s t) refl refl refl p
+  pub on_notes : (rs : List Happened) {s : Core} → ((r : Happened) → Has r rs → IsNote r) → P s → P (recorded_all s rs)
+  unfolding recorded recorded_all
+  on_notes [] {s} all p = subst (λ z. P (record s { records = z })) (sym (append-nil s.records)) p
+  on_notes (r ∷ rs) {s} all p =
+      subst (λ z. P (record s { records = z })) (append_assoc s.records (r ∷ []) rs) (on_notes rs (λ q h. all q (inr h)) (note_kept r (all r (inl refl)) p))
 
   -- ---- handing on
-
-  on_noted : {s : Core} (g : List ℕ) (i : ℕ) (before after : GroupState) → P s → P (noted s g i before after)
-  unfolding noted notes
-  on_noted {s} g i before after p = on_either (differs before after) (on_records (map (note_of s g (Some i) after) (filter (is_of_group g) s.sessions.subs.live)) p) p
 
   on_ballot : {s : Core} (g : List ℕ) (to : Option ℕ) (p : ProviderId) (proto : ProtoId) (phase : ℕ) (b : Option Filled) → P s → P (ballot_sent s g to p proto phase b)
   unfolding ballot_sent vote_of
   on_ballot g to p proto phase None q = q
-  on_ballot g to p proto phase (Some b) q = on_known to _ q
+  on_ballot g to p proto phase (Some b) q = on_known to _ tt q
 
   on_cast : {s : Core} (g : List ℕ) (to : Option ℕ) (p : ProviderId) (o : Option (ProtoId × ℕ × BallotView)) → P s → P (cast_sent_of s g to p o)
   unfolding cast_sent_of
@@ -105,36 +114,56 @@ module _ (P : Core → Type 0) (Ok : List ℕ → Type 0) (k : Keeps P Ok) where
   on_casts {s} g to cs p =
       on_either (frozen s) p (on_fold (λ t (c : Cast). cast_sent_of t g to c.p c.cast) (λ t c q. on_cast g to c.p c.cast q) cs p)
 
-  pub on_handed : (f : Answering) {s : Core} (to : Option ℕ) (g : List ℕ) (i : ℕ) (before after : GroupState) (e : Entry) → P s → P (hand_on f s to g i before after e)
-  unfolding hand_on
-  on_handed f {s} to g i before after e p =
-      let bs : List (Option Filled) = fills f (length s.records) s.sessions e after (hearers s.sessions g before e) in
-      let cs : List Cast = casts_out s.sessions g before after e bs in
-      on_casts g to cs (on_sessions (session.handed_on s.sessions g before after e bs) (on_noted g i before after (on_records (flat_map (heard s g i e after) cs) p)))
+  -- what follows after an entry was heard
+  pub on_rest_handed : (f : Answering) (c : Core) (to : Option ℕ) (g : List ℕ) (i : ℕ) (before after : GroupState) (e : Entry) → P (handing c g i before after e (fills f (length c.records) c.sessions e after (hearers c.sessions g before e))) → P (hand_on f c to g i before after e)
+  unfolding hand_on noted notes note_of recorded_all with_sessions
+  on_rest_handed f c to g i before after e p = on_casts {s = d1} g to cs (told (differs before after))
+    where
+      bs : List (Option Filled)
+      bs = fills f (length c.records) c.sessions e after (hearers c.sessions g before e)
+
+      cs : List Cast
+      cs = casts_out c.sessions g before after e bs
+
+      rs : List Happened
+      rs = flat_map (heard c g i e after) cs
+
+      u : SessionState
+      u = session.handed_on c.sessions g before after e bs
+
+      d0 : Core
+      d0 = with_sessions (recorded_all c rs) u
+
+      d1 : Core
+      d1 = with_sessions (noted (recorded_all c rs) g i before after) u
+
+      told : (b : Bool) → P (with_sessions (elim b as (λ _. Core) [ true ↦ notes (recorded_all c rs) g (Some i) after | false ↦ recorded_all c rs ]) u)
+      told false = p
+      told true =
+          let live = filter (is_of_group g) c.sessions.subs.live in
+          let ns : List Happened = map (note_of (recorded_all c rs) g (Some i) after) live in
+          on_notes ns {s = d0} (λ r j. (let q = has_map (note_of (recorded_all c rs) g (Some i) after) r live j in subst IsNote (sym q.2) tt)) p
 
   -- ---- a row changes
 
-  pub on_row : {s : Core} (g : List ℕ) (ok : Ok g) (f : GroupRow → GroupRow) → Grows f → P s → P (with_row s g f)
-  on_row {s} g ok f m p = k.row s g f ok m p
-
-  pub on_led : {s : Core} (g : List ℕ) (ok : Ok g) (f : Led → Led) → MildLed f → P s → P (with_led s g f)
+  pub on_led : {s : Core} (g : List ℕ) (ok : Ok g) (f : Led → Led) → ((l : Led) → (f l).decided ≡ l.decided) → ((l : Led) → Few l.waiting → Few (f l).waiting) → P s → P (with_led s g f)
   unfolding with_led
-  on_led g ok f m p = on_row g ok (λ row. record row { led = f row.led }) (led_grows f m) p
+  on_led {s} g ok f decided few p =
+      k.row s g (λ row. record row { led = f row.led }) ok (record { name = λ x. refl; leader = λ x. refl; len = λ x. refl; state = λ x. refl; decided = λ x. decided x.led; few = λ x w. few x.led w }) p
 
   -- ---- appending
 
-  on_put : {s : Core} (g : List ℕ) (ok : Ok g) (e : Entry) → P s → P (put s g e)
-  unfolding put
-  on_put {s} g ok e p =
-      on_record (happened.Put s.views.me s.views.view g (len_of s g) e) (on_row g ok (λ row. record row { list = Some (with_entry (list_or_new row.list) s.views.view e) }) (put_grows s.views.view e) p)
-
   pub on_put_handed : (f : Answering) {s : Core} (to : Option ℕ) (g : List ℕ) (ok : Ok g) (e : Entry) → P s → P (put_and_hand f s to g e)
-  unfolding put_and_hand
-  on_put_handed f {s} to g ok e p = on_handed f to g (len_of s g) (state_of s g) (state_of (put s g e) g) e (on_put g ok e p)
+  unfolding put_and_hand send_all
+  on_put_handed f {s} to g ok e p =
+      let t : Core = put s g e in
+      let bs : List (Option Filled) = fills f (length t.records) t.sessions e (state_of t g) (hearers t.sessions g (state_of s g) e) in
+      on_rest_handed f t to g (len_of s g) (state_of s g) (state_of t g) e (k.hands s g e [] 0 bs ok p)
 
   pub on_forgets : {s : Core} (g : List ℕ) (ok : Ok g) (n : ℕ) → P s → P (forget_below s g n)
   unfolding forget_below
-  on_forgets g ok n p = on_row g ok (λ row. record row { list = list_forgotten n row.list }) (forgets_grow n) p
+  on_forgets {s} g ok n p =
+      k.row s g (λ row. record row { list = list_forgotten n row.list }) ok (record { name = λ x. refl; leader = λ x. refl; len = λ x. forgotten_len n x.list; state = λ x. forgotten_state n x.list; decided = λ x. refl; few = λ x w. w }) p
 
   pub on_forgets_least : {s : Core} (g : List ℕ) (ok : Ok g) → P s → P (forget_least s g)
   unfolding forget_least
@@ -142,7 +171,7 @@ module _ (P : Core → Type 0) (Ok : List ℕ → Type 0) (k : Keeps P Ok) where
 
   pub on_waiting : {s : Core} (g : List ℕ) (ok : Ok g) (f : WaitingView → WaitingView) → MildWaits f → P s → P (with_waiting s g f)
   unfolding with_waiting
-  on_waiting g ok f m p = on_led g ok (λ l. record l { waiting = f l.waiting }) (λ l w. m l.waiting w) p
+  on_waiting g ok f m p = on_led g ok (λ l. record l { waiting = f l.waiting }) (λ l. refl) (λ l w. m l.waiting w) p
 
   on_waits_if : {s : Core} (g : List ℕ) (ok : Ok g) (q : ProviderId) (a b : Bool) → P s → P (wait_if s g q a b)
   unfolding wait_if
@@ -159,8 +188,9 @@ module _ (P : Core → Type 0) (Ok : List ℕ → Type 0) (k : Keeps P Ok) where
   unfolding appended
   on_appended f {s} g ok e p =
       let t : Core = put s g e in
-      let u : Core = send_all t (others t) (body.Entry t.views.view g (len_of s g) (least_acked t g) e) in
-      on_new_members g ok (state_of s g) (state_of t g) (on_forgets_least g ok (on_handed f (leader_of u g) g (len_of s g) (state_of s g) (state_of t g) e (on_sent_all (others t) (body.Entry t.views.view g (len_of s g) (least_acked t g) e) (on_put g ok e p))))
+      let u : Core = put_sent s g e (others t) (least_acked t g) in
+      let bs : List (Option Filled) = fills f (length u.records) u.sessions e (state_of t g) (hearers u.sessions g (state_of s g) e) in
+      on_new_members g ok (state_of s g) (state_of t g) (on_forgets_least g ok (on_rest_handed f u (leader_of u g) g (len_of s g) (state_of s g) (state_of t g) e (k.hands s g e (others t) (least_acked t g) bs ok p)))
 
   pub on_appended_if : (f : Answering) {s : Core} (g : List ℕ) (ok : Ok g) (e : Entry) (b : Bool) → P s → P (append_if_fits f s g e b)
   unfolding append_if_fits
@@ -171,11 +201,11 @@ module _ (P : Core → Type 0) (Ok : List ℕ → Type 0) (k : Keeps P Ok) where
 
   pub on_tally : {s : Core} (g : List ℕ) (ok : Ok g) (t : Option TallyView) → P s → P (with_tally s g t)
   unfolding with_tally
-  on_tally g ok t p = on_led g ok (λ l. record l { tally = t }) (λ l w. w) p
+  on_tally g ok t p = on_led g ok (λ l. record l { tally = t }) (λ l. refl) (λ l w. w) p
 
   on_tally_set : {s : Core} (g : List ℕ) (ok : Ok g) (t : Option TallyView) → P s → P (tally_set s g t)
   unfolding tally_set
-  on_tally_set g ok t p = on_led g ok (λ l. record l { tally = t; given = [] }) (λ l w. w) p
+  on_tally_set g ok t p = on_led g ok (λ l. record l { tally = t; given = [] }) (λ l. refl) (λ l w. w) p
 
   pub on_opened : {s : Core} (g : List ℕ) (ok : Ok g) → P s → P (tally_opened s g)
   unfolding tally_opened
@@ -210,10 +240,6 @@ module _ (P : Core → Type 0) (Ok : List ℕ → Type 0) (k : Keeps P Ok) where
 
   -- ---- deciding
 
-  pub on_kept : {s : Core} (g : List ℕ) (ok : Ok g) (q : ProviderId) (r : ℕ) (y : Option Why) → P s → P (keep_decision s g q r y)
-  unfolding keep_decision
-  on_kept g ok q r y p = on_led g ok (λ l. record l { decided = decisions_with (record { p = q; r = r; why = y }) l.decided }) (λ l w. w) p
-
-  pub on_refused : {s : Core} (g : List ℕ) (ok : Ok g) (q : ProviderId) (r : ℕ) (y : Why) → P s → P (refused s g q r y)
+  pub on_refused : {s : Core} (g : List ℕ) (ok : Ok g) (q : ProviderId) (r : ℕ) (y : Why) → is_dissolved y ≡ false → P s → P (refused s g q r y)
   unfolding refused
-  on_refused {s} g ok q r y p = on_sent q.node (body.Tell s.views.view g q r y) (on_kept g ok q r (Some y) p)
+  on_refused {s} g ok q r y fair p = on_sent q.node (body.Tell s.views.view g q r y) (inl fair) (k.decides s g q r (Some y) ok fair p)

@@ -1,0 +1,10 @@
+pub mod Waiting
+pub mod Changes
+pub mod Parts
+pub mod Leading
+pub mod Ending
+pub mod Rules
+pub mod Calling
+pub mod Ringing
+pub mod Entering
+pub mod Walking
