@@ -35,7 +35,8 @@ use Rattle.step_refinement.proofs.RunLaw.{reached_rests}
 use Rattle.entry_laws.specs.closing_rows.Rows.{RowsAreAlwaysVoters, TallyFits, TalliesAreOfVoters}
 use Rattle.entry_laws.proofs.closing_rows.Told.{Told, told_of, within_told, within_all}
 use Rattle.entry_laws.proofs.closing_rows.Lists.{puts_all, fresh_before, state_rest}
-use Rattle.entry_laws.proofs.closing_rows.Entered.{since_within, PutsNone, note_puts_none, started_puts_none, within_nothing, with_nothing}
+use Rattle.run_induction.proofs.Quiet.{PutsNone, note_puts_none, started_puts_none, within_nothing, with_nothing}
+use Rattle.entry_laws.proofs.closing_rows.Entered.{since_within}
 use Rattle.entry_laws.proofs.closing_rows.Evident.{Evident, ToldNow, told_less, rows_right, again_evident}
 use Rattle.entry_laws.proofs.closing_rows.At.{found, leads_row, RowIs, FreshIn, Fresh, RecordFact, Facts, StateIs, At}
 use Rattle.entry_laws.proofs.closing_rows.Ending.{Every, NoGroup}
