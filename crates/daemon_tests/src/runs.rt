@@ -182,6 +182,7 @@ pub(crate) fn ended<C: Callbacks, H: Hosts<C>, K: Sink, L: Link, M: Clock>(
         me: 1,
         incarnation: 5,
         turns,
+        remote: false,
     };
     let served = serve::<C, H, K, L, M>(alloc, script, serving, out, link, clock, hosts);
     served.status

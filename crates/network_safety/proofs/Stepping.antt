@@ -20,7 +20,7 @@ use Rattle.piece_link.specs.Pieces.{Message, pieces_of}
 use Rattle.piece_link.specs.Answers.{Among, SameKey}
 use Rattle.piece_link.proofs.OnceLaw.{among_append}
 use Rattle.daemon_model.specs.Sent.{goes_out, sent_calls, number_after}
-use Rattle.daemon_model.specs.Daemon.{Daemon, left_by, stepped_by}
+use Rattle.daemon_model.specs.Daemon.{Daemon, stepped_by, left_for, stepped_for}
 use Rattle.network_model.specs.Network.{Net, datagrams_of, sent_since, noted_since, went_on}
 use Rattle.network_safety.proofs.Quiet.{IsTalk, step_rests}
 use Rattle.network_safety.proofs.Messages.{among_left, among_right, messages_of, IsOne, each_one, after_le, one_fits, own_distinct, distinct_both, sent_pieces}
@@ -31,12 +31,12 @@ use Rattle.network_safety.proofs.Standing.{IsCore, stands_on, IsKnown, IsBefore,
 
 -- what a step adds
 pub step_more : (f : Answering) (e : NodeEvent) (d : Daemon) → More d (stepped_by f e d)
-unfolding stepped_by left_by
+unfolding stepped_for left_for
 step_more f e d = record { calls = sent_calls d.me d.incarnation d.number (stepped f d.core e).sends; called = refl; records = (stepped f d.core e).records; recorded = refl }
 
 -- which daemon it is stays
 pub step_who : (f : Answering) (e : NodeEvent) (d : Daemon) → ((stepped_by f e d).me ≡ d.me) × ((stepped_by f e d).incarnation ≡ d.incarnation)
-unfolding stepped_by left_by
+unfolding stepped_for left_for
 step_who f e d = (refl, refl)
 
 module _ (c : Config) (net : Net) (es : List Answered) (w : World) (k : Stand c net es w) (n : ℕ) (d : Daemon) (at : net.daemons n ≡ Some d) where
@@ -137,7 +137,7 @@ module _ (c : Config) (net : Net) (es : List Answered) (w : World) (k : Stand c 
               record { most = u.most; fits = u.fits; me = u.me; incarnation = u.incarnation; rests = u.rests; joined = more_joined new k.wires.messages g.joining u.joined }
 
       pub step_stands : Stand c (went_on n d (stepped_by f e d) net) (es ++ a ∷ []) (goes_on w a)
-      unfolding went_on stepped_by left_by
+      unfolding went_on stepped_for left_for
       step_stands =
           record {
             world = stands_on c net es w k.world a s.may n (Some (stepped_by f e d)) (Some y) (inc_at w.starts n) y.records y.sends s.leaves s.core (went_on n d (stepped_by f e d) net) refl (k.world.incs n) (λ m ne. refl) (ap (λ xs. net.records ++ xs) (noted_is d (stepped_by f e d) t.records refl ∙ sym s.records));

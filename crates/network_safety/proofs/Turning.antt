@@ -20,7 +20,7 @@ use Rattle.piece_link.specs.Joining.{Joining, Joined, taken}
 use Rattle.piece_link.specs.Answers.{Among}
 use Rattle.piece_link.proofs.UnchangedLaw.{unchanged, answered_at_once}
 use Rattle.daemon_model.specs.Sent.{as_sent, goes_out}
-use Rattle.daemon_model.specs.Daemon.{Daemon, Opening, Turn, left_by, stepped_by, opened, is_due, ticked_if, ticked, joined_by, received, given, heard, turned}
+use Rattle.daemon_model.specs.Daemon.{Daemon, Opening, Turn, stepped_by, opened, is_due, ticked_if, ticked, joined_by, received, given, heard, turned, left_for, stepped_for}
 use Rattle.network_model.specs.Network.{Net, datagrams_of, went_on}
 use Rattle.network_model.specs.Packets.{tick_packets, given_packets, turn_packets}
 use Rattle.network_model.specs.Fits.{IsQuestion, AsksAtMost, IsOfClient, MayCome, MayTurn}
@@ -53,7 +53,7 @@ pub record Went (c : Config) (net : Net) (es : List Answered) : Type 0 where
 
 tick_goes : (c : Config) (net : Net) (es : List Answered) (w : World) → Stand c net es w → (n : ℕ) (d : Daemon) → net.daemons n ≡ Some d → (b : Bool) (moment : ℕ) (f : Answering)
     → ((p : Packet) → Has p (tick_packets b moment f d) → goes_out p ≡ true → packet_of (bytes_of p) ≡ Some p) → (ticked_if b moment f d).number ≤ 2 ^ 64 → Went c (went_on n d (ticked_if b moment f d) net) (es ++ tick_events b n f)
-unfolding stepped_by left_by
+unfolding stepped_for left_for
 tick_goes c net es w k n d at false moment f spelled few =
     record { world = w; stand = subst (λ zs. Stand c (went_on n d d net) zs w) (sym (append-nil es)) (none_given c net es w k n d at) }
 tick_goes c net es w k n d at true moment f spelled few =
@@ -135,7 +135,7 @@ turn_more d t =
     more_on d e (turned d t) (tick_more (is_due d.last t.moment) t.moment t.tick d) (more_on e (received t.got e) (turned d t) (received_more t.got e) (given_more (joined_by t.got e.joining).message t.answers (received t.got e)))
 
 given_later : (message : Option (List ℕ)) (f : Answering) (d : Daemon) → d.number ≤ (given message f d).number
-unfolding given stepped_by left_by
+unfolding given stepped_for left_for
 given_later None f d = omega arith
 given_later (Some message) f d = after_le d.number _
 

@@ -1,5 +1,5 @@
 -- A network of daemons that `serve` ran.
-use Rattle.std.specs.Prelude.{ℕ, ◌≡◌, List, Option, Some, map}
+use Rattle.std.specs.Prelude.{ℕ, ◌≡◌, false, List, Option, Some, map}
 use Rattle.hags_io.specs.declared.link.LinkCall.{LinkCall}
 use Rattle.node_state.specs.declared.config.Config.{Config}
 use Rattle.node_state.specs.declared.state.Core.{Core}
@@ -13,9 +13,9 @@ use Rattle.network_safety.specs.Safe.{IsSafeNetwork}
 
 -- what the clauses of `serve` say of a daemon that it ran: its status was 0, or 6 after the link was open, or 3 or 5
 pub data IsServed (script : Script) (me incarnation turns : ℕ) (a b : Option (List LinkCall)) (x y : Option (List ℕ)) (u v : Option (List ℕ)) : Type 0 where
-  Done : (core : Core) → ServesAs script me incarnation turns core a b x y u v → IsServed script me incarnation turns a b x y u v
-  Ended : ServesTo script me incarnation turns a b x y u v → IsServed script me incarnation turns a b x y u v
-  Broken : ServesFront script me incarnation turns a b x y u v → IsServed script me incarnation turns a b x y u v
+  Done : (core : Core) → ServesAs script me incarnation false turns core a b x y u v → IsServed script me incarnation turns a b x y u v
+  Ended : ServesTo script me incarnation false turns a b x y u v → IsServed script me incarnation turns a b x y u v
+  Broken : ServesFront script me incarnation false turns a b x y u v → IsServed script me incarnation turns a b x y u v
 
 -- a daemon of a node, in the domain of these settings, over a link that tells: what link, sink and clock told before and after
 pub record Served (c : Config) (n : ℕ) : Type 0 where
