@@ -1,8 +1,9 @@
 -- What a daemon does: a fold over what comes to it from outside, turn by turn.
-use Rattle.std.specs.Prelude.{ℕ, ◌+◌, ◌-◌, ◌==◌, min, nat_le, Bool, true, false, List, [], ◌∷◌, ◌++◌, map, fold, flat_map, Option, Some, None, if◌then◌else◌}
+use Rattle.std.specs.Prelude.{ℕ, ◌+◌, ◌-◌, ◌==◌, min, nat_le, Bool, true, false, List, [], ◌∷◌, ◌++◌, not, map, fold, flat_map, Option, Some, None, option_map, if◌then◌else◌}
 use Rattle.hags_io.specs.declared.link.LinkCall.{LinkCall}
 use Rattle.hags_io.specs.declared.link.LinkCall.TheVariants as call
 use Rattle.piece_link.specs.Joining.{Joining, Joined, taken}
+use Rattle.piece_link.specs.Pieces.{can_cut}
 use Rattle.node_state.specs.declared.call.CallLine.{CallLine}
 use Rattle.node_state.specs.declared.config.Config.{Config}
 use Rattle.node_state.specs.declared.happened.Happened.{Happened}
@@ -14,11 +15,16 @@ use Rattle.world_model.specs.declared.event.Event.TheVariants as event
 use Rattle.world_model.specs.declared.script.Line.{Line}
 use Rattle.world_model.specs.declared.script.Line.TheVariants as line
 use Rattle.world_model.specs.Text.{line_of}
-use Rattle.daemon_model.specs.Sent.{as_sent, sent_calls, number_after}
+use Rattle.remote_session.specs.Messages.{down_text}
+use Rattle.remote_session.specs.Daemon.{SeenUp, NotUp, KeysFull, KnownKey, CallMade, up_seen, up_taken, down_for}
+use Rattle.remote_clients.specs.declared.sessions.Sessions.{Sessions}
+use Rattle.remote_clients.specs.Sessions.{sessions_new, noted_all, call_for, is_refused, finished, turned_down}
+use Rattle.daemon_model.specs.Sent.{as_sent, number_if, message_calls, sent_calls, number_after}
 
 -- Where a daemon stands, and what it did: which node it is, in which incarnation; its node, at work; the moment of its
 -- last tick, or of its start; what it joins; the number of the next message that it cuts; how many receives failed in a
--- row, up to 16; what it received and sent so far, with each send as if it went out; and what its node recorded so far.
+-- row, up to 16; what it received and sent so far, with each send as if it went out; what its node recorded so far; and the
+-- sessions of clients on other machines, where it serves them.
 pub record Daemon : Type 0 where
   pub me : ℕ
   pub incarnation : ℕ
@@ -29,25 +35,39 @@ pub record Daemon : Type 0 where
   pub failed : ℕ
   pub calls : List LinkCall
   pub records : List Happened
+  pub sessions : Option Sessions
 
--- what a step of the node leaves is sent, and recorded
-unfoldable pub left_by : Daemon → Core → Daemon
-left_by d s = record d {
+-- What a step of the node leaves is sent, and recorded; and each line of its records goes to the client on another machine
+-- that is to hear it. The step was a call of this key, or of none.
+unfoldable pub left_for : Option ℕ → Daemon → Core → Daemon
+left_for calling d s = record d {
   core = at_work s;
   number = number_after d.number s.sends;
   calls = d.calls ++ sent_calls d.me d.incarnation d.number s.sends;
   records = d.records ++ s.records;
+  sessions = option_map (noted_all calling s.records) d.sessions;
 }
 
--- an event happens to the node, whose clients answer like this
-unfoldable pub stepped_by : Answering → NodeEvent → Daemon → Daemon
-stepped_by f e d = left_by d (stepped f d.core e)
+abbrev pub left_by : Daemon → Core → Daemon
+left_by d s = left_for None d s
+
+-- an event happens to the node, whose clients answer like this; it is a call of this key, or of none
+unfoldable pub stepped_for : Option ℕ → Answering → NodeEvent → Daemon → Daemon
+stepped_for calling f e d = left_for calling d (stepped f d.core e)
+
+abbrev pub stepped_by : Answering → NodeEvent → Daemon → Daemon
+stepped_by f e d = stepped_for None f e d
 
 -- ---- the start
 
--- before its node starts
-abbrev pub fresh : Config → ℕ → ℕ → ℕ → Daemon
-fresh c me incarnation moment = record {
+-- the sessions of clients on other machines, where they are served
+abbrev pub sessions_if : Bool → ℕ → Option Sessions
+sessions_if true incarnation = Some (sessions_new incarnation)
+sessions_if false incarnation = None
+
+-- before its node starts; whether it serves clients on other machines
+abbrev pub fresh : Bool → Config → ℕ → ℕ → ℕ → Daemon
+fresh remote c me incarnation moment = record {
   me = me;
   incarnation = incarnation;
   core = started c me incarnation;
@@ -57,10 +77,15 @@ fresh c me incarnation moment = record {
   failed = 0;
   calls = [];
   records = [];
+  sessions = sessions_if remote incarnation;
 }
 
-unfoldable pub begun : Config → ℕ → ℕ → ℕ → Daemon
-begun c me incarnation moment = left_by (fresh c me incarnation moment) (started c me incarnation)
+unfoldable pub begun_for : Bool → Config → ℕ → ℕ → ℕ → Daemon
+begun_for remote c me incarnation moment = left_by (fresh remote c me incarnation moment) (started c me incarnation)
+
+-- one that serves no clients on other machines
+abbrev pub begun : Config → ℕ → ℕ → ℕ → Daemon
+begun c me incarnation moment = begun_for false c me incarnation moment
 
 -- a call of the settings, and what the clients answer at it
 pub record Opening : Type 0 where
@@ -119,14 +144,67 @@ received got d = record d {
   calls = d.calls ++ as_sent got ∷ [];
 }
 
--- What a whole message is to a daemon: one for its node, a packet or bytes that are none. A message of another kind is a
--- case more here.
+-- a whole message that is one for the node: a packet, or bytes that are none
 unfoldable pub given : Option (List ℕ) → Answering → Daemon → Daemon
 given None f d = d
 given (Some message) f d = stepped_by f (event_of message) d
 
+-- ---- clients on other machines
+
+-- what a message is to the sessions; where none are served it is no Up
+abbrev pub up_in : Option Sessions → List ℕ → SeenUp
+up_in None message = NotUp
+up_in (Some s) message = up_seen s.remote message
+
+abbrev pub with_up : List ℕ → Daemon → Daemon
+with_up message d = record d { sessions = option_map (λ (s : Sessions). record s { remote = up_taken s.remote message }) d.sessions }
+
+-- the call of the node that a key's line is, if it is one
+abbrev pub call_in : Option Sessions → ℕ → ℕ → List ℕ → Option CallLine
+call_in None me key line = None
+call_in (Some s) me key line = call_for s me key line
+
+-- a call of the key is a step, whose records say whether it was refused
+abbrev pub key_called : ℕ → CallLine → Core → Daemon → Daemon
+key_called key a s d = record (left_for (Some key) d s) { sessions = option_map (finished key a (not (is_refused s.records))) (left_for (Some key) d s).sessions }
+
+-- a line of the key: a call of the node, or refused without a step
+abbrev pub line_carried : ℕ → Option CallLine → Answering → Daemon → Daemon
+line_carried key None f d = record d { sessions = option_map (turned_down key) d.sessions }
+line_carried key (Some a) f d = key_called key a (stepped f d.core (Calls a)) d
+
+unfoldable pub called_by : ℕ → List ℕ → Answering → Daemon → Daemon
+called_by key line f d = line_carried key (call_in d.sessions d.me key line) f d
+
+abbrev pub down_in : Option Sessions → ℕ → List ℕ
+down_in None key = []
+down_in (Some s) key = down_text (down_for s.remote key)
+
+-- the Down of a key, as it is now, goes to the sender of the datagram that came last, on this network
+unfoldable pub down_sent : ℕ → ℕ → Daemon → Daemon
+down_sent key network d = record d {
+  number = number_if (can_cut (down_in d.sessions key)) d.number;
+  calls = d.calls ++ message_calls d.me d.incarnation d.number 0 network (down_in d.sessions key);
+}
+
+-- what an Up brings, and then one Down of its key; every other message is the node's
+unfoldable pub brought : SeenUp → ℕ → List ℕ → Answering → Daemon → Daemon
+brought NotUp network message f d = given (Some message) f d
+brought (KeysFull key limit) network message f d = down_sent key network (with_up message d)
+brought (KnownKey key) network message f d = down_sent key network (with_up message d)
+brought (CallMade key line) network message f d = down_sent key network (called_by key line f (with_up message d))
+
+-- a whole message that came on this network
+unfoldable pub given_on : ℕ → Option (List ℕ) → Answering → Daemon → Daemon
+given_on network None f d = d
+given_on network (Some message) f d = brought (up_in d.sessions message) network message f d
+
+abbrev pub network_of : LinkCall → ℕ
+network_of (call.Received network bytes) = network
+network_of _ = 0
+
 unfoldable pub heard : LinkCall → Answering → Daemon → Daemon
-heard got f d = given (joined_by got d.joining).message f (received got d)
+heard got f d = given_on (network_of got) (joined_by got d.joining).message f (received got d)
 
 -- a turn: a tick where one is due, one receive, and the message that is whole by it
 unfoldable pub turned : Daemon → Turn → Daemon
@@ -137,8 +215,10 @@ turned_all d ts = fold turned d ts
 
 -- ---- a life
 
--- all that comes from outside in a life: the moment of the start, the calls of the settings, and turns
+-- all that comes from outside in a life: whether clients on other machines are served, the moment of the start, the calls
+-- of the settings, and turns
 pub record Life : Type 0 where
+  pub remote : Bool
   pub start : ℕ
   pub opening : List Opening
   pub turns : List Turn
@@ -155,7 +235,7 @@ life_moments life = life.start ∷ turn_moments life.turns
 
 -- the daemon after its turns
 unfoldable pub lived : Config → ℕ → ℕ → Life → Daemon
-lived c me incarnation life = turned_all (opened_all (begun c me incarnation life.start) life.opening) life.turns
+lived c me incarnation life = turned_all (opened_all (begun_for life.remote c me incarnation life.start) life.opening) life.turns
 
 -- what is written of records: a line each
 unfoldable pub records_text : List Happened → List ℕ
@@ -163,5 +243,5 @@ records_text rs = flat_map line_of rs
 
 -- opens each word of this file, for a computation
 unfoldable pub daemon_opens : Unit {0}
-unfolding left_by stepped_by begun opened opened_all own_calls received given heard turned turned_all lived records_text
+unfolding left_for stepped_for begun_for opened opened_all own_calls received given called_by down_sent brought given_on heard turned turned_all lived records_text
 daemon_opens = tt

@@ -1,5 +1,5 @@
 -- How a daemon that ran over a link, a sink and a clock lived as it is defined.
-use Rattle.std.specs.Prelude.{◌≡◌, ℕ, ◌<◌, ◌≤◌, List, [], ◌∷◌, length, Option}
+use Rattle.std.specs.Prelude.{◌≡◌, ℕ, Bool, ◌<◌, ◌≤◌, List, [], ◌∷◌, length, Option}
 use Rattle.std.specs.Io.KnownBytes.{Appends}
 use Rattle.hags_io.specs.Edges.{GrowsByFront}
 use Rattle.hags_io.specs.Links.{Counts}
@@ -7,7 +7,7 @@ use Rattle.hags_io.specs.declared.link.LinkCall.{LinkCall}
 use Rattle.node_state.specs.declared.state.Core.{Core}
 use Rattle.world_model.specs.declared.script.Script.{Script}
 use Rattle.daemon_model.specs.Sent.{Went, WentFront}
-use Rattle.daemon_model.specs.Daemon.{Daemon, Life, Turn, opening_calls, own_calls, life_moments, begun, opened_all, turned, lived, records_text}
+use Rattle.daemon_model.specs.Daemon.{Daemon, Life, Turn, opening_calls, own_calls, life_moments, begun_for, opened_all, turned, lived, records_text}
 
 -- so many receives that fail in a row end a daemon
 abbrev pub most_failed : ℕ
@@ -15,7 +15,7 @@ most_failed = 16
 
 -- the daemon as it is once it carried out the calls of the settings
 abbrev pub first_of : Script → ℕ → ℕ → Life → Daemon
-first_of script me incarnation life = opened_all (begun script.config me incarnation life.start) life.opening
+first_of script me incarnation life = opened_all (begun_for life.remote script.config me incarnation life.start) life.opening
 
 abbrev pub last_of : Script → ℕ → ℕ → Life → Daemon
 last_of script me incarnation life = lived script.config me incarnation life
@@ -25,38 +25,40 @@ abbrev pub GoesOn : Daemon → List Turn → Type 0
 GoesOn d [] = Unit {0}
 GoesOn d (t ∷ ts) = ((turned d t).failed < most_failed) × GoesOn (turned d t) ts
 
--- The daemon lived this life, whose calls are those of the settings: the clock was read at its moments, the link's list
+-- The daemon lived this life, whose calls are those of the settings, and served clients on other machines or not: the clock was read at its moments, the link's list
 -- grew by what it receives and sends, and the lines of its records were written.
-pub record Lived (script : Script) (me incarnation : ℕ) (life : Life) (a b : Option (List LinkCall)) (x y : Option (List ℕ)) (u v : Option (List ℕ)) : Type 0 where
+pub record Lived (script : Script) (me incarnation : ℕ) (remote : Bool) (life : Life) (a b : Option (List LinkCall)) (x y : Option (List ℕ)) (u v : Option (List ℕ)) : Type 0 where
+  pub serves : life.remote ≡ remote
   pub opening : opening_calls life ≡ own_calls me script.lines
   pub moments : Counts u v (life_moments life)
   pub went : Went a b (last_of script me incarnation life).calls
   pub written : Appends x y (records_text (last_of script me incarnation life).records)
 
 -- It broke off on the way: of what is received and sent, and of the lines, there is a front.
-pub record LivedFront (script : Script) (me incarnation : ℕ) (life : Life) (a b : Option (List LinkCall)) (x y : Option (List ℕ)) (u v : Option (List ℕ)) : Type 0 where
+pub record LivedFront (script : Script) (me incarnation : ℕ) (remote : Bool) (life : Life) (a b : Option (List LinkCall)) (x y : Option (List ℕ)) (u v : Option (List ℕ)) : Type 0 where
+  pub serves : life.remote ≡ remote
   pub opening : opening_calls life ≡ own_calls me script.lines
   pub moments : Counts u v (life_moments life)
   pub went : WentFront a b (last_of script me incarnation life).calls
   pub front : GrowsByFront x y (records_text (last_of script me incarnation life).records)
 
 -- it did all its turns, and its node is in this state
-pub record ServesAs (script : Script) (me incarnation turns : ℕ) (core : Core) (a b : Option (List LinkCall)) (x y : Option (List ℕ)) (u v : Option (List ℕ)) : Type 0 where
+pub record ServesAs (script : Script) (me incarnation : ℕ) (remote : Bool) (turns : ℕ) (core : Core) (a b : Option (List LinkCall)) (x y : Option (List ℕ)) (u v : Option (List ℕ)) : Type 0 where
   pub life : Life
-  pub lived : Lived script me incarnation life a b x y u v
+  pub lived : Lived script me incarnation remote life a b x y u v
   pub so_many : length life.turns ≡ turns
   pub goes_on : GoesOn (first_of script me incarnation life) life.turns
   pub core_is : core ≡ (last_of script me incarnation life).core
 
 -- at most so many turns, and in the last of them the receive failed, and so many before it in a row
-pub record ServesTo (script : Script) (me incarnation turns : ℕ) (a b : Option (List LinkCall)) (x y : Option (List ℕ)) (u v : Option (List ℕ)) : Type 0 where
+pub record ServesTo (script : Script) (me incarnation : ℕ) (remote : Bool) (turns : ℕ) (a b : Option (List LinkCall)) (x y : Option (List ℕ)) (u v : Option (List ℕ)) : Type 0 where
   pub life : Life
-  pub lived : Lived script me incarnation life a b x y u v
+  pub lived : Lived script me incarnation remote life a b x y u v
   pub at_most : length life.turns ≤ turns
   pub ended : most_failed ≤ (last_of script me incarnation life).failed
 
 -- at most so many turns, and it broke off in the last of them, or before them
-pub record ServesFront (script : Script) (me incarnation turns : ℕ) (a b : Option (List LinkCall)) (x y : Option (List ℕ)) (u v : Option (List ℕ)) : Type 0 where
+pub record ServesFront (script : Script) (me incarnation : ℕ) (remote : Bool) (turns : ℕ) (a b : Option (List LinkCall)) (x y : Option (List ℕ)) (u v : Option (List ℕ)) : Type 0 where
   pub life : Life
-  pub lived : LivedFront script me incarnation life a b x y u v
+  pub lived : LivedFront script me incarnation remote life a b x y u v
   pub at_most : length life.turns ≤ turns

@@ -12,6 +12,8 @@ use Rattle.node_state.specs.declared.packet.Packet.{Packet}
 use Rattle.node_state.specs.Bytes.{bytes_of}
 use Rattle.node_state.specs.HandOn.{Answering}
 use Rattle.world_model.specs.Load.{settings_of}
+use Rattle.remote_session.specs.declared.messages.Answer.{Answer}
+use Rattle.remote_session.specs.Messages.{up_text, down_text}
 use Rattle.daemon_model.specs.Daemon.{Daemon, Turn, lived}
 
 unfoldable pub settings_for : List ℕ → Config
@@ -26,7 +28,11 @@ turn_at moment got = record { moment = moment; tick = silent; got = got; answers
 
 -- it starts at moment 0, in a domain of these nodes
 unfoldable pub daemon_after : List ℕ → List Turn → Daemon
-daemon_after nodes turns = lived (settings_for nodes) 1 5 (record { start = 0; opening = []; turns = turns })
+daemon_after nodes turns = lived (settings_for nodes) 1 5 (record { remote = false; start = 0; opening = []; turns = turns })
+
+-- one that serves clients on other machines
+unfoldable pub server_after : List ℕ → List Turn → Daemon
+server_after nodes turns = lived (settings_for nodes) 1 5 (record { remote = true; start = 0; opening = []; turns = turns })
 
 unfoldable pub quiet_at : ℕ → Turn
 quiet_at moment = turn_at moment call.Quiet
@@ -64,7 +70,17 @@ long_piece index = slice_index_or (pieces_of (message_by 2 3 9 (replicate 2353 6
 abbrev pub progress : Kept → ℕ × Bool
 progress k = (k.number, elim k.parts [ None ↦ true | Some parts ↦ false ])
 
+-- ---- a client with key 7 on another machine
+
+-- its Up with this call, as the message of this number, and a Down with this answer and no event, as that of the daemon
+unfoldable pub up_piece : ℕ → ℕ → List ℕ → List ℕ
+up_piece message number line = slice_index_or (pieces_of (message_by 0 0 message (up_text (record { key = 7; number = number; ack = 0; line = line })))) 0 []
+
+unfoldable pub down_piece : ℕ → ℕ → Answer → List (List ℕ) → List ℕ
+down_piece message done answer events =
+    slice_index_or (pieces_of (message_by 1 5 message (down_text (record { key = 7; incarnation = 5; done = done; answer = answer; first = 1; events = events })))) 0 []
+
 -- opens each word of this file, for a computation
 unfoldable pub samples_opens : Unit {0}
-unfolding settings_for silent daemon_after quiet_at failed_at given_at question answer piece_of_question piece_of_answer long_piece
+unfolding settings_for silent daemon_after server_after quiet_at failed_at given_at question answer piece_of_question piece_of_answer long_piece up_piece down_piece
 samples_opens = tt

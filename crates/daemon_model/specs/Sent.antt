@@ -9,15 +9,19 @@ use Rattle.node_state.specs.Bytes.{bytes_of}
 
 -- ---- packets in pieces
 
--- a piece goes to the packet's receiver, on the packet's network
+-- a piece goes to a node on a network
+abbrev pub piece_to : ℕ → ℕ → List ℕ → LinkCall
+piece_to node network piece = call.Sent node network piece true
+
+-- one of a packet goes to the packet's receiver, on the packet's network
 abbrev pub piece_call : Packet → List ℕ → LinkCall
-piece_call p piece = call.Sent p.to p.network piece true
+piece_call p piece = piece_to p.to p.network piece
 
 -- the pieces of a packet, as the message of this number of this node in this incarnation
 abbrev pub packet_pieces : ℕ → ℕ → ℕ → Packet → List (List ℕ)
 packet_pieces me incarnation number p = pieces_of (message_by me incarnation number (bytes_of p))
 
--- a packet that is too long to cut is lost, and takes no number
+-- what is too long to cut is lost, and takes no number
 abbrev pub calls_if : Bool → List LinkCall → List LinkCall
 calls_if true calls = calls
 calls_if false calls = []
@@ -25,6 +29,11 @@ calls_if false calls = []
 abbrev pub number_if : Bool → ℕ → ℕ
 number_if true number = number + 1
 number_if false number = number
+
+-- a message of this number of a node in an incarnation, in pieces
+abbrev pub message_calls : ℕ → ℕ → ℕ → ℕ → ℕ → List ℕ → List LinkCall
+message_calls me incarnation number node network message =
+    calls_if (can_cut message) (map (piece_to node network) (pieces_of (message_by me incarnation number message)))
 
 unfoldable pub packet_calls : ℕ → ℕ → ℕ → Packet → List LinkCall
 packet_calls me incarnation number p =

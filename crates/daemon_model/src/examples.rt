@@ -2,9 +2,10 @@
 ghost use Rattle.std.specs.Prelude.{◌≡◌, ◌∷◌, [], map, codes, true, false};
 ghost use Rattle.hags_io.specs.declared.link.LinkCall.TheVariants as call;
 ghost use Rattle.hags_io.specs.Places.{no_places, told_place, with_place};
+ghost use Rattle.remote_session.specs.declared.messages.Answer.TheVariants as answer;
 ghost use Rattle.daemon_model.specs.Daemon.{records_text};
 ghost use Rattle.daemon_model.specs.Settings.{all_places};
-ghost use Rattle.daemon_model.specs.Samples.{settings_for, daemon_after, quiet_at, failed_at, given_at, is_send, piece_of_question, piece_of_answer, long_piece, progress};
+ghost use Rattle.daemon_model.specs.Samples.{settings_for, daemon_after, server_after, up_piece, down_piece, quiet_at, failed_at, given_at, is_send, piece_of_question, piece_of_answer, long_piece, progress};
 
 /// A node alone starts, is in its first view, and sends nothing.
 #[tactic(auto, unfolding(crate::specs::Opens::all_opens))]
@@ -59,4 +60,43 @@ pub fn counts_failed_receives()
 pub fn tells_places()
     ensures { all_places (settings_for (1 ∷ 2 ∷ [])) no_places
         ≡ with_place 2 1 167837698 4002 (with_place 1 1 167837697 4001 no_places) }
+{}
+
+/// The first call of a client on another machine is taken, and its Down goes back on the network on which it came. The
+/// same Up once more is no second call: it brings the same Down, as the next message.
+#[tactic(auto, unfolding(crate::specs::Opens::all_opens))]
+pub fn serves_a_client_once()
+    ensures calls { (server_after (1 ∷ []) (given_at 0 (up_piece 1 1 (codes "client 1 a -"))
+        ∷ given_at 0 (up_piece 2 1 (codes "client 1 a -")) ∷ [])).calls
+        ≡ call.Received 1 (up_piece 1 1 (codes "client 1 a -"))
+        ∷ call.Sent 0 1 (down_piece 1 1 answer.Taken []) true
+        ∷ call.Received 1 (up_piece 2 1 (codes "client 1 a -"))
+        ∷ call.Sent 0 1 (down_piece 2 1 answer.Taken []) true ∷ [] }
+{}
+
+/// A first call that is none of a client of this node is refused without a step.
+#[tactic(auto, unfolding(crate::specs::Opens::all_opens))]
+pub fn turns_down_a_call()
+    ensures { (server_after (1 ∷ []) (given_at 0 (up_piece 1 1 (codes "client 2 a -")) ∷ [])).calls
+        ≡ call.Received 1 (up_piece 1 1 (codes "client 2 a -"))
+        ∷ call.Sent 0 1 (down_piece 1 1 answer.Refused []) true ∷ [] }
+{}
+
+/// What a call of a key refuses goes to its client, which hears why.
+#[tactic(auto, unfolding(crate::specs::Opens::all_opens))]
+pub fn tells_what_is_refused()
+    ensures { (server_after (1 ∷ []) (given_at 0 (up_piece 1 1 (codes "client 1 a -"))
+        ∷ given_at 0 (up_piece 2 2 (codes "leave a db 1")) ∷ [])).calls
+        ≡ call.Received 1 (up_piece 1 1 (codes "client 1 a -"))
+        ∷ call.Sent 0 1 (down_piece 1 1 answer.Taken []) true
+        ∷ call.Received 1 (up_piece 2 2 (codes "leave a db 1"))
+        ∷ call.Sent 0 1 (down_piece 2 2 answer.Refused
+        (codes "refused 1.a BAD_MEMBER_TOKEN" ∷ [])) true ∷ [] }
+{}
+
+/// Without clients on other machines an Up is bytes that are no packet: nothing comes of it.
+#[tactic(auto, unfolding(crate::specs::Opens::all_opens))]
+pub fn serves_nobody_unasked()
+    ensures { (daemon_after (1 ∷ []) (given_at 0 (up_piece 1 1 (codes "client 1 a -")) ∷ [])).calls
+        ≡ call.Received 1 (up_piece 1 1 (codes "client 1 a -")) ∷ [] }
 {}

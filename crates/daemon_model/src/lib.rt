@@ -3,8 +3,11 @@
 #![tactic(auto)]
 
 mod examples;
+mod laws;
 
 pub use examples::{
-    begins_alone, counts_failed_receives, joins_pieces_in_any_order, tells_a_status_client,
-    tells_places, ticks_when_due,
+    begins_alone, counts_failed_receives, joins_pieces_in_any_order, serves_a_client_once,
+    serves_nobody_unasked, tells_a_status_client, tells_places, tells_what_is_refused,
+    ticks_when_due, turns_down_a_call,
 };
+pub use laws::alone_without_other_machines;

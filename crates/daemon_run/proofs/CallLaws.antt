@@ -1,5 +1,5 @@
 -- The calls of the settings, one after the other, and how a daemon begins.
-use Rattle.std.proofs.Common.{◌≡◌, ℕ, ◌+◌, ◌<◌, ◌≤◌, List, [], ◌∷◌, ◌++◌, map, length, take, drop, get_or, Option, refl, sym, ◌∙◌, ap, ap₂, subst, append-nil, add-one}
+use Rattle.std.proofs.Common.{◌≡◌, ℕ, Bool, ◌+◌, ◌<◌, ◌≤◌, List, [], ◌∷◌, ◌++◌, map, length, take, drop, get_or, Option, None, refl, sym, ◌∙◌, ap, ap₂, subst, append-nil, add-one}
 use Rattle.std.proofs.Math.Seq.{take-suc}
 use Rattle.std.proofs.lemmas.List.{map-append, take-append-drop}
 use Rattle.std.proofs.lemmas.Grind.{flat_map-append}
@@ -13,7 +13,7 @@ use Rattle.node_state.specs.Step.{Calls, at_work}
 use Rattle.world_model.specs.declared.script.Line.{Line}
 use Rattle.world_model.specs.declared.script.Script.{Script}
 use Rattle.daemon_model.specs.Sent.{Went, WentFront}
-use Rattle.daemon_model.specs.Daemon.{Daemon, Opening, left_by, begun, stepped_by, opened, opened_all, own_call, own_calls, records_text}
+use Rattle.daemon_model.specs.Daemon.{Daemon, Opening, left_for, begun_for, stepped_by, opened, opened_all, own_call, own_calls, records_text}
 use Rattle.daemon_run.specs.declared.running.Running.{Running}
 use Rattle.daemon_run.specs.Audience.{Audience, StepHands, OpeningHands}
 use Rattle.daemon_run.specs.Doing.{daemon_of, Goes, Broke, Breaks, Settles, SettlesFront, StepsAs, StepBreaks}
@@ -54,7 +54,7 @@ opened_append d (o ∷ os) ps = opened_append (opened d o) os ps
 
 adds_opened : (o : Opening) (d : Daemon) → Adds d (opened d o)
 unfolding opened
-adds_opened o d = adds_step o.answers (Calls o.call) d
+adds_opened o d = adds_step None o.answers (Calls o.call) d
 
 adds_opened_all : (os : List Opening) (d : Daemon) → Adds d (opened_all d os)
 unfolding opened_all
@@ -85,7 +85,7 @@ opening_on d (o ∷ os) ps u v w h k = (h.0, h.1, opening_on (opened d o) os ps 
 module _ {C : Type 0} where
   -- ---- one call
 
-  pub call_done : {A B : List C → Audience → Type 0} (r s : Running C) (c : CallLine) (own : List CallLine) (a b : Option (List LinkCall)) (x y : Option (List ℕ)) → own ≡ c ∷ [] → StepsAs A B r s a b x y (Calls c) → CallsAs A B r s own a b x y
+  pub call_done : {A B : List C → Audience → Type 0} (r s : Running C) (c : CallLine) (own : List CallLine) (a b : Option (List LinkCall)) (x y : Option (List ℕ)) → own ≡ c ∷ [] → StepsAs A B None r s a b x y (Calls c) → CallsAs A B r s own a b x y
   unfolding opened_all opened
   call_done {B = B} r s c own a b x y is h = record {
     opening = record { call = c; answers = h.answers } ∷ [];
@@ -99,7 +99,7 @@ module _ {C : Type 0} where
         );
   }
 
-  pub call_broke : (r : Running C) (c : CallLine) (own : List CallLine) (a b : Option (List LinkCall)) (x y : Option (List ℕ)) → own ≡ c ∷ [] → StepBreaks r a b x y (Calls c) → CallsBreak r own a b x y
+  pub call_broke : (r : Running C) (c : CallLine) (own : List CallLine) (a b : Option (List LinkCall)) (x y : Option (List ℕ)) → own ≡ c ∷ [] → StepBreaks None r a b x y (Calls c) → CallsBreak r own a b x y
   unfolding opened_all opened
   call_broke r c own a b x y is h = record {
     opening = record { call = c; answers = h.answers } ∷ [];
@@ -154,14 +154,14 @@ module _ {C : Type 0} where
 
   -- ---- from the start on
 
-  pub reached_first : (c : Config) (me inc moment : ℕ) (s : Running C) (a b : Option (List LinkCall)) (x y : Option (List ℕ)) → Settles (fresh_running c me inc moment) s a b x y → Reached (begun c me inc moment) s a b x y
-  unfolding begun left_by
-  reached_first c me inc moment s a b x y h =
-      record { is = settled_is (fresh_running c me inc moment) s a b x y h [] []; went = h.went; written = h.written }
+  pub reached_first : (remote : Bool) (c : Config) (me inc moment : ℕ) (s : Running C) (a b : Option (List LinkCall)) (x y : Option (List ℕ)) → Settles None (fresh_running remote c me inc moment) s a b x y → Reached (begun_for remote c me inc moment) s a b x y
+  unfolding begun_for left_for
+  reached_first remote c me inc moment s a b x y h =
+      record { is = settled_is None (fresh_running remote c me inc moment) s a b x y h [] []; went = h.went; written = h.written }
 
-  pub stopped_first : (c : Config) (me inc moment : ℕ) (a b : Option (List LinkCall)) (x y : Option (List ℕ)) → SettlesFront (fresh_running {C = C} c me inc moment) a b x y → Stopped (begun c me inc moment) a b x y
-  unfolding begun left_by
-  stopped_first c me inc moment a b x y h = record { went = h.went; front = h.front }
+  pub stopped_first : (remote : Bool) (c : Config) (me inc moment : ℕ) (a b : Option (List LinkCall)) (x y : Option (List ℕ)) → SettlesFront (fresh_running {C = C} remote c me inc moment) a b x y → Stopped (begun_for remote c me inc moment) a b x y
+  unfolding begun_for left_for
+  stopped_first remote c me inc moment a b x y h = record { went = h.went; front = h.front }
 
   reached_at : (d e : Daemon) (t : Running C) (calls : List LinkCall) (records : List Happened) (a b c : Option (List LinkCall)) (x y z : Option (List ℕ)) → e ≡ daemon_of t (d.calls ++ calls) (d.records ++ records)
       → Went a b d.calls → Went b c calls → Appends x y (records_text d.records) → Appends y z (records_text records) → Reached e t a c x z
@@ -179,16 +179,16 @@ module _ {C : Type 0} where
 
   -- ---- it begins
 
-  pub begins_done : {A B : List C → Audience → Type 0} (script : Script) (me inc moment : ℕ) (s t : Running C) (a b c : Option (List LinkCall)) (x y z : Option (List ℕ)) → Settles (fresh_running script.config me inc moment) s a b x y → CallsAs A B s t (own_calls me script.lines) b c y z
-      → BeginsAs A B script me inc moment t a c x z
-  begins_done {A = A} {B = B} script me inc moment s t a b c x y z h q =
-      let first : Reached (begun script.config me inc moment) s a b x y = reached_first script.config me inc moment s a b x y h in
+  pub begins_done : {A B : List C → Audience → Type 0} (remote : Bool) (script : Script) (me inc moment : ℕ) (s t : Running C) (a b c : Option (List LinkCall)) (x y z : Option (List ℕ)) → Settles None (fresh_running remote script.config me inc moment) s a b x y → CallsAs A B s t (own_calls me script.lines) b c y z
+      → BeginsAs A B remote script me inc moment t a c x z
+  begins_done {A = A} {B = B} remote script me inc moment s t a b c x y z h q =
+      let first : Reached (begun_for remote script.config me inc moment) s a b x y = reached_first remote script.config me inc moment s a b x y h in
       record {
         opening = q.opening;
         are = q.are;
-        reached = reached_on (begun script.config me inc moment) s t (λ d. opened_all d q.opening) a b c x y z first q.goes;
+        reached = reached_on (begun_for remote script.config me inc moment) s t (λ d. opened_all d q.opening) a b c x y z first q.goes;
         attends = λ u k.
-            let d : Daemon = begun script.config me inc moment in
+            let d : Daemon = begun_for remote script.config me inc moment in
             let t : (v : Audience) × OpeningHands (daemon_of s d.calls d.records) q.opening u v × B t.node.clients v = q.attends d.calls d.records u (subst (λ (r : Running C). A r.node.clients u) (sym h.is) k) in (
               t.0,
               subst (λ (e : Daemon). OpeningHands e q.opening u t.0) (sym first.is) t.1,
@@ -196,12 +196,12 @@ module _ {C : Type 0} where
             );
       }
 
-  pub begins_broke : (script : Script) (me inc moment : ℕ) (s : Running C) (a b c : Option (List LinkCall)) (x y z : Option (List ℕ)) → Settles (fresh_running script.config me inc moment) s a b x y → CallsBreak s (own_calls me script.lines) b c y z
-      → BeginBreaks script me inc moment a c x z
-  begins_broke script me inc moment s a b c x y z h q = record {
+  pub begins_broke : (remote : Bool) (script : Script) (me inc moment : ℕ) (s : Running C) (a b c : Option (List LinkCall)) (x y z : Option (List ℕ)) → Settles None (fresh_running remote script.config me inc moment) s a b x y → CallsBreak s (own_calls me script.lines) b c y z
+      → BeginBreaks remote script me inc moment a c x z
+  begins_broke remote script me inc moment s a b c x y z h q = record {
     opening = q.opening;
     are = q.are;
-    stopped = stopped_on (begun script.config me inc moment) s (λ d. opened_all d q.opening) a b c x y z (reached_first script.config me inc moment s a b x y h) q.breaks;
+    stopped = stopped_on (begun_for remote script.config me inc moment) s (λ d. opened_all d q.opening) a b c x y z (reached_first remote script.config me inc moment s a b x y h) q.breaks;
   }
 
 -- ---- it breaks off at once
@@ -212,15 +212,15 @@ stopped_more d e a b x y p q = record {
   front = subst (λ (rs : List Happened). GrowsByFront x y (records_text rs)) (sym q.recorded) (front_more x y d.records q.records p.front);
 }
 
-pub begins_stopped : (script : Script) (me inc moment : ℕ) (a b : Option (List LinkCall)) (x y : Option (List ℕ)) → Stopped (begun script.config me inc moment) a b x y → BeginBreaks script me inc moment a b x y
-begins_stopped script me inc moment a b x y h = record {
+pub begins_stopped : (remote : Bool) (script : Script) (me inc moment : ℕ) (a b : Option (List LinkCall)) (x y : Option (List ℕ)) → Stopped (begun_for remote script.config me inc moment) a b x y → BeginBreaks remote script me inc moment a b x y
+begins_stopped remote script me inc moment a b x y h = record {
   opening = unanswered (own_calls me script.lines);
   are = unanswered_are (own_calls me script.lines);
-  stopped = stopped_more (begun script.config me inc moment) (opened_all (begun script.config me inc moment) (unanswered (own_calls me script.lines))) a b x y h (adds_opened_all (unanswered (own_calls me script.lines)) (begun script.config me inc moment));
+  stopped = stopped_more (begun_for remote script.config me inc moment) (opened_all (begun_for remote script.config me inc moment) (unanswered (own_calls me script.lines))) a b x y h (adds_opened_all (unanswered (own_calls me script.lines)) (begun_for remote script.config me inc moment));
 }
 
 pub stopped_none : (d : Daemon) (a : Option (List LinkCall)) (x : Option (List ℕ)) → Stopped d a a x x
 stopped_none d a x = record { went = none_went a d.calls; front = none_front x (records_text d.records) }
 
-pub begins_none : (script : Script) (me inc moment : ℕ) (a : Option (List LinkCall)) (x : Option (List ℕ)) → BeginBreaks script me inc moment a a x x
-begins_none script me inc moment a x = begins_stopped script me inc moment a a x x (stopped_none (begun script.config me inc moment) a x)
+pub begins_none : (remote : Bool) (script : Script) (me inc moment : ℕ) (a : Option (List LinkCall)) (x : Option (List ℕ)) → BeginBreaks remote script me inc moment a a x x
+begins_none remote script me inc moment a x = begins_stopped remote script me inc moment a a x x (stopped_none (begun_for remote script.config me inc moment) a x)

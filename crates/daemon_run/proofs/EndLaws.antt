@@ -9,7 +9,7 @@ use Rattle.node_state.specs.declared.state.Core.{Core}
 use Rattle.node_state.specs.Step.{at_work}
 use Rattle.world_model.specs.declared.script.Script.{Script}
 use Rattle.daemon_model.specs.Sent.{Went, WentFront}
-use Rattle.daemon_model.specs.Daemon.{Daemon, Life, Turn, begun, opened_all, turned_all, lived, turn_moments}
+use Rattle.daemon_model.specs.Daemon.{Daemon, Life, Turn, begun_for, opened_all, turned_all, lived, turn_moments}
 use Rattle.daemon_model.specs.Lives.{GoesOn, Lived, ServesAs, ServesTo, ServesFront, most_failed}
 use Rattle.daemon_run.specs.declared.running.Running.{Running}
 use Rattle.daemon_run.specs.Doing.{daemon_of}
@@ -22,49 +22,50 @@ use Rattle.daemon_run.proofs.ServeLaws.{counts_on}
 use Rattle.daemon_run.proofs.CallLaws.{reached_on, stopped_on}
 
 -- no turn was begun
-pub serves_none : (script : Script) (me inc moment turns : ℕ) (a b : Option (List LinkCall)) (x y u v : Option (List ℕ)) → Counts u v (moment ∷ []) → BeginBreaks script me inc moment a b x y → ServesFront script me inc turns a b x y u v
+pub serves_none : (remote : Bool) (script : Script) (me inc moment turns : ℕ) (a b : Option (List LinkCall)) (x y u v : Option (List ℕ)) → Counts u v (moment ∷ []) → BeginBreaks remote script me inc moment a b x y → ServesFront script me inc remote turns a b x y u v
 unfolding lived turned_all
-serves_none script me inc moment turns a b x y u v at h = record {
-  life = record { start = moment; opening = h.opening; turns = [] };
-  lived = record { opening = h.are; moments = at; went = h.stopped.went; front = h.stopped.front };
+serves_none remote script me inc moment turns a b x y u v at h = record {
+  life = record { remote = remote; start = moment; opening = h.opening; turns = [] };
+  lived = record { serves = refl; opening = h.are; moments = at; went = h.stopped.went; front = h.stopped.front };
   at_most = omega arith;
 }
 
 module _ {C : Type 0} where
-  pub lived_as : {A B : List C → Audience → Type 0} (script : Script) (me inc moment : ℕ) (s t : Running C) (turns : List Turn) (a b c : Option (List LinkCall)) (x y z u v w : Option (List ℕ)) → Counts u v (moment ∷ []) → (h : BeginsAs A B script me inc moment s a b x y)
-      → Reached (turned_all (opened_all (begun script.config me inc moment) h.opening) turns) t a c x z → Counts v w (turn_moments turns)
-      → Lived script me inc (record { start = moment; opening = h.opening; turns = turns }) a c x z u w
+  pub lived_as : {A B : List C → Audience → Type 0} (remote : Bool) (script : Script) (me inc moment : ℕ) (s t : Running C) (turns : List Turn) (a b c : Option (List LinkCall)) (x y z u v w : Option (List ℕ)) → Counts u v (moment ∷ []) → (h : BeginsAs A B remote script me inc moment s a b x y)
+      → Reached (turned_all (opened_all (begun_for remote script.config me inc moment) h.opening) turns) t a c x z → Counts v w (turn_moments turns)
+      → Lived script me inc remote (record { remote = remote; start = moment; opening = h.opening; turns = turns }) a c x z u w
   unfolding lived
-  lived_as script me inc moment s t turns a b c x y z u v w at h r moments = record {
+  lived_as remote script me inc moment s t turns a b c x y z u v w at h r moments = record {
+    serves = refl;
     opening = h.are;
     moments = counts_on u v w (moment ∷ []) (turn_moments turns) at moments;
     went = r.went;
     written = r.written;
   }
 
-  unfoldable pub serves_all : {A B D : List C → Audience → Type 0} (script : Script) (me inc moment count : ℕ) (s t : Running C) (a b c : Option (List LinkCall)) (x y z u v w : Option (List ℕ)) → Counts u v (moment ∷ []) → BeginsAs A B script me inc moment s a b x y → TurnsDone D s t count b c y z v w
-      → ServesAs script me inc count (at_work t.node.core) a c x z u w
+  unfoldable pub serves_all : {A B D : List C → Audience → Type 0} (remote : Bool) (script : Script) (me inc moment count : ℕ) (s t : Running C) (a b c : Option (List LinkCall)) (x y z u v w : Option (List ℕ)) → Counts u v (moment ∷ []) → BeginsAs A B remote script me inc moment s a b x y → TurnsDone D s t count b c y z v w
+      → ServesAs script me inc remote count (at_work t.node.core) a c x z u w
   unfolding lived
-  serves_all script me inc moment count s t a b c x y z u v w at h q =
-      let d : Daemon = opened_all (begun script.config me inc moment) h.opening in
+  serves_all remote script me inc moment count s t a b c x y z u v w at h q =
+      let d : Daemon = opened_all (begun_for remote script.config me inc moment) h.opening in
       let r = reached_on d s t (λ e. turned_all e q.turns) a b c x y z h.reached q.done.goes in
       record {
-        life = record { start = moment; opening = h.opening; turns = q.turns };
-        lived = lived_as script me inc moment s t q.turns a b c x y z u v w at h r q.done.moments;
+        life = record { remote = remote; start = moment; opening = h.opening; turns = q.turns };
+        lived = lived_as remote script me inc moment s t q.turns a b c x y z u v w at h r q.done.moments;
         so_many = q.so_many;
         goes_on = subst (λ (e : Daemon). GoesOn e q.turns) (sym h.reached.is) (q.goes_on d.calls d.records);
         core_is = sym (ap (λ (e : Daemon). e.core) r.is);
       }
 
   -- and what it handed to its clients
-  pub hands_over : {P Q : List (List Handed) → Type 0} {R : C → List Handed → Type 0} {votes : C → Option (List (Option VoteItem))} (script : Script) (me inc moment count : ℕ) (s t : Running C) (a b c : Option (List LinkCall)) (x y z u v w : Option (List ℕ)) → Counts u v (moment ∷ [])
-      → BeginsAs (AttendWith P R votes) (AttendWith Q R votes) script me inc moment s a b x y → TurnsDone (Attend R votes) s t count b c y z v w → HandsOver P R votes script me inc count t.node a c x z u w
+  pub hands_over : {P Q : List (List Handed) → Type 0} {R : C → List Handed → Type 0} {votes : C → Option (List (Option VoteItem))} (remote : Bool) (script : Script) (me inc moment count : ℕ) (s t : Running C) (a b c : Option (List LinkCall)) (x y z u v w : Option (List ℕ)) → Counts u v (moment ∷ [])
+      → BeginsAs (AttendWith P R votes) (AttendWith Q R votes) remote script me inc moment s a b x y → TurnsDone (Attend R votes) s t count b c y z v w → HandsOver P R votes script me inc remote count t.node a c x z u w
   unfolding lived serves_all
-  hands_over {P = P} {Q = Q} {R = R} {votes = votes} script me inc moment count s t a b c x y z u v w at h q = record {
-    serves = serves_all script me inc moment count s t a b c x y z u v w at h q;
+  hands_over {P = P} {Q = Q} {R = R} {votes = votes} remote script me inc moment count s t a b c x y z u v w at h q = record {
+    serves = serves_all remote script me inc moment count s t a b c x y z u v w at h q;
     hands = λ lists held.
-        let d : Daemon = opened_all (begun script.config me inc moment) h.opening in
-        let first : (m : Audience) × OpeningHands (begun script.config me inc moment) h.opening (audience_of lists) m × AttendWith Q R votes s.node.clients m = h.attends (audience_of lists) (attends_first lists held) in
+        let d : Daemon = opened_all (begun_for remote script.config me inc moment) h.opening in
+        let first : (m : Audience) × OpeningHands (begun_for remote script.config me inc moment) h.opening (audience_of lists) m × AttendWith Q R votes s.node.clients m = h.attends (audience_of lists) (attends_first lists held) in
         let next : (n : Audience) × TurnsHand (daemon_of s d.calls d.records) q.turns first.0 n × Attend R votes t.node.clients n = q.attends d.calls d.records first.0 first.2.attend in (
           next.0,
           (first.0, first.1, subst (λ (e : Daemon). TurnsHand e q.turns first.0 next.0) (sym h.reached.is) next.1),
@@ -76,28 +77,28 @@ module _ {C : Type 0} where
       attends_first : (lists : List (List Handed)) → P lists → AttendWith P R votes [] (audience_of lists)
       attends_first lists held = record { left = held; attend = record { stand = record { stand = tt; logs = tt }; even = refl; boxed = refl } }
 
-  pub serves_to : {A B : List C → Audience → Type 0} (script : Script) (me inc moment count : ℕ) (s t : Running C) (a b c : Option (List LinkCall)) (x y z u v w : Option (List ℕ)) → Counts u v (moment ∷ []) → BeginsAs A B script me inc moment s a b x y → TurnsEnded s t count b c y z v w
-      → ServesTo script me inc count a c x z u w
+  pub serves_to : {A B : List C → Audience → Type 0} (remote : Bool) (script : Script) (me inc moment count : ℕ) (s t : Running C) (a b c : Option (List LinkCall)) (x y z u v w : Option (List ℕ)) → Counts u v (moment ∷ []) → BeginsAs A B remote script me inc moment s a b x y → TurnsEnded s t count b c y z v w
+      → ServesTo script me inc remote count a c x z u w
   unfolding lived
-  serves_to script me inc moment count s t a b c x y z u v w at h q =
-      let d : Daemon = opened_all (begun script.config me inc moment) h.opening in
+  serves_to remote script me inc moment count s t a b c x y z u v w at h q =
+      let d : Daemon = opened_all (begun_for remote script.config me inc moment) h.opening in
       let r = reached_on d s t (λ e. turned_all e q.turns) a b c x y z h.reached q.done.goes in
       record {
-        life = record { start = moment; opening = h.opening; turns = q.turns };
-        lived = lived_as script me inc moment s t q.turns a b c x y z u v w at h r q.done.moments;
+        life = record { remote = remote; start = moment; opening = h.opening; turns = q.turns };
+        lived = lived_as remote script me inc moment s t q.turns a b c x y z u v w at h r q.done.moments;
         at_most = q.at_most;
         ended = subst (λ (n : ℕ). most_failed ≤ n) (sym (ap (λ (e : Daemon). e.failed) r.is)) q.ended;
       }
 
-  pub serves_front : {A B : List C → Audience → Type 0} (script : Script) (me inc moment count : ℕ) (s : Running C) (a b c : Option (List LinkCall)) (x y z u v w : Option (List ℕ)) → Counts u v (moment ∷ []) → BeginsAs A B script me inc moment s a b x y → TurnsBroken s count b c y z v w
-      → ServesFront script me inc count a c x z u w
+  pub serves_front : {A B : List C → Audience → Type 0} (remote : Bool) (script : Script) (me inc moment count : ℕ) (s : Running C) (a b c : Option (List LinkCall)) (x y z u v w : Option (List ℕ)) → Counts u v (moment ∷ []) → BeginsAs A B remote script me inc moment s a b x y → TurnsBroken s count b c y z v w
+      → ServesFront script me inc remote count a c x z u w
   unfolding lived
-  serves_front script me inc moment count s a b c x y z u v w at h q =
-      let d : Daemon = opened_all (begun script.config me inc moment) h.opening in
+  serves_front remote script me inc moment count s a b c x y z u v w at h q =
+      let d : Daemon = opened_all (begun_for remote script.config me inc moment) h.opening in
       let r = stopped_on d s (λ e. turned_all e q.turns) a b c x y z h.reached q.breaks in
       record {
-        life = record { start = moment; opening = h.opening; turns = q.turns };
-        lived = record { opening = h.are; moments = counts_on u v w (moment ∷ []) (turn_moments q.turns) at q.moments; went = r.went; front = r.front };
+        life = record { remote = remote; start = moment; opening = h.opening; turns = q.turns };
+        lived = record { serves = refl; opening = h.are; moments = counts_on u v w (moment ∷ []) (turn_moments q.turns) at q.moments; went = r.went; front = r.front };
         at_most = q.at_most;
       }
 
@@ -142,26 +143,26 @@ went_before a q b xs h w = record { calls = w.calls; told = grows_before a q b w
 went_front_before : (a q b : Option (List LinkCall)) (xs : List LinkCall) → Same a q → WentFront q b xs → WentFront a b xs
 went_front_before a q b xs h w = record { calls = w.calls; back = w.back; told = grows_before a q b w.calls h w.told; are = w.are }
 
-pub lived_before : (script : Script) (me inc : ℕ) (life : Life) (a q b : Option (List LinkCall)) (x y u v : Option (List ℕ)) → Same a q → Lived script me inc life q b x y u v → Lived script me inc life a b x y u v
-lived_before script me inc life a q b x y u v h l = record { opening = l.opening; moments = l.moments; went = went_before a q b _ h l.went; written = l.written }
+pub lived_before : (remote : Bool) (script : Script) (me inc : ℕ) (life : Life) (a q b : Option (List LinkCall)) (x y u v : Option (List ℕ)) → Same a q → Lived script me inc remote life q b x y u v → Lived script me inc remote life a b x y u v
+lived_before remote script me inc life a q b x y u v h l = record { serves = l.serves; opening = l.opening; moments = l.moments; went = went_before a q b _ h l.went; written = l.written }
 
-unfoldable pub serves_all_before : (script : Script) (me inc turns : ℕ) (core : Core) (a q b : Option (List LinkCall)) (x y u v : Option (List ℕ)) → Same a q → ServesAs script me inc turns core q b x y u v → ServesAs script me inc turns core a b x y u v
-serves_all_before script me inc turns core a q b x y u v h p =
-    record { life = p.life; lived = lived_before script me inc p.life a q b x y u v h p.lived; so_many = p.so_many; goes_on = p.goes_on; core_is = p.core_is }
+unfoldable pub serves_all_before : (remote : Bool) (script : Script) (me inc turns : ℕ) (core : Core) (a q b : Option (List LinkCall)) (x y u v : Option (List ℕ)) → Same a q → ServesAs script me inc remote turns core q b x y u v → ServesAs script me inc remote turns core a b x y u v
+serves_all_before remote script me inc turns core a q b x y u v h p =
+    record { life = p.life; lived = lived_before remote script me inc p.life a q b x y u v h p.lived; so_many = p.so_many; goes_on = p.goes_on; core_is = p.core_is }
 
-pub hands_over_before : {C : Type 0} {P : List (List Handed) → Type 0} {R : C → List Handed → Type 0} {votes : C → Option (List (Option VoteItem))} (script : Script) (me inc turns : ℕ) (node : NodeView C) (a q b : Option (List LinkCall)) (x y u v : Option (List ℕ)) → Same a q
-    → HandsOver P R votes script me inc turns node q b x y u v → HandsOver P R votes script me inc turns node a b x y u v
+pub hands_over_before : {C : Type 0} {P : List (List Handed) → Type 0} {R : C → List Handed → Type 0} {votes : C → Option (List (Option VoteItem))} (remote : Bool) (script : Script) (me inc turns : ℕ) (node : NodeView C) (a q b : Option (List LinkCall)) (x y u v : Option (List ℕ)) → Same a q
+    → HandsOver P R votes script me inc remote turns node q b x y u v → HandsOver P R votes script me inc remote turns node a b x y u v
 unfolding serves_all_before
-hands_over_before script me inc turns node a q b x y u v h p =
-    record { serves = serves_all_before script me inc turns (at_work node.core) a q b x y u v h p.serves; hands = p.hands }
+hands_over_before remote script me inc turns node a q b x y u v h p =
+    record { serves = serves_all_before remote script me inc turns (at_work node.core) a q b x y u v h p.serves; hands = p.hands }
 
-pub serves_to_before : (script : Script) (me inc turns : ℕ) (a q b : Option (List LinkCall)) (x y u v : Option (List ℕ)) → Same a q → ServesTo script me inc turns q b x y u v → ServesTo script me inc turns a b x y u v
-serves_to_before script me inc turns a q b x y u v h p =
-    record { life = p.life; lived = lived_before script me inc p.life a q b x y u v h p.lived; at_most = p.at_most; ended = p.ended }
+pub serves_to_before : (remote : Bool) (script : Script) (me inc turns : ℕ) (a q b : Option (List LinkCall)) (x y u v : Option (List ℕ)) → Same a q → ServesTo script me inc remote turns q b x y u v → ServesTo script me inc remote turns a b x y u v
+serves_to_before remote script me inc turns a q b x y u v h p =
+    record { life = p.life; lived = lived_before remote script me inc p.life a q b x y u v h p.lived; at_most = p.at_most; ended = p.ended }
 
-pub serves_front_before : (script : Script) (me inc turns : ℕ) (a q b : Option (List LinkCall)) (x y u v : Option (List ℕ)) → Same a q → ServesFront script me inc turns q b x y u v → ServesFront script me inc turns a b x y u v
-serves_front_before script me inc turns a q b x y u v h p = record {
+pub serves_front_before : (remote : Bool) (script : Script) (me inc turns : ℕ) (a q b : Option (List LinkCall)) (x y u v : Option (List ℕ)) → Same a q → ServesFront script me inc remote turns q b x y u v → ServesFront script me inc remote turns a b x y u v
+serves_front_before remote script me inc turns a q b x y u v h p = record {
   life = p.life;
-  lived = record { opening = p.lived.opening; moments = p.lived.moments; went = went_front_before a q b _ h p.lived.went; front = p.lived.front };
+  lived = record { serves = p.lived.serves; opening = p.lived.opening; moments = p.lived.moments; went = went_front_before a q b _ h p.lived.went; front = p.lived.front };
   at_most = p.at_most;
 }

@@ -1,5 +1,5 @@
 -- What a daemon's node did, by some answers of its clients, and what it handed to them.
-use Rattle.std.proofs.Common.{◌≡◌, ℕ, List, Option, IsTrue, refl, sym, ap, ◌∙◌, subst}
+use Rattle.std.proofs.Common.{◌≡◌, ℕ, Bool, false, List, [], Option, IsTrue, refl, sym, ap, ◌∙◌, subst}
 use Rattle.std.specs.Prelude.{map, is_none}
 use Rattle.client_callbacks.specs.declared.votes.VoteItem.{VoteItem}
 use Rattle.client_callbacks.specs.Handed.{Handed}
@@ -20,7 +20,7 @@ use Rattle.node_core.specs.Event.{called, is_taken}
 use Rattle.node_core.specs.Event as taken
 use Rattle.node_core.specs.Node.{NodeView}
 use Rattle.daemon_run.specs.declared.running.Running.{Running}
-use Rattle.daemon_run.specs.Audience.{Audience, is_boxed, first_for, left_for, audience_called, attended, StepHands, Attend, AttendWith}
+use Rattle.daemon_run.specs.Audience.{Audience, is_boxed, first_if, first_for, left_for, audience_called, attended, StepHands, Attend, AttendWith}
 use Rattle.daemon_run.specs.Doing.{IsStep}
 use Rattle.daemon_run.proofs.AudienceLaws.{called_order, within_attended, taken_attended, attend_with, attend_without, attend_rows, rows_hand}
 
@@ -69,6 +69,16 @@ module _ {C : Type 0} {script : C → Option (List (Option VoteItem))} {R : C �
       is_step r n (Calls (call.Init node name votes)) (clients_with c r.node.clients (inited r.node.core.sessions name))
       (λ x a. attend_with R script c r.node.clients x (left_for votes x.left) (first_for votes x.left) (is_boxed votes) (inited r.node.core.sessions name) (gives x.left a.left).0 boxed a.attend)
       (λ x y a left b. record { left = subst Q (sym left) (gives x.left a.left).1; attend = b }) order same d
+
+  -- one whose client is none of the objects
+  pub begins_plain : {scripts : List (Option (List (Option VoteItem)))} (r : Running C) (n : NodeView C) (node : ℕ) (name votes : List ℕ) (c : C) → is_boxed votes ≡ false → R c [] → is_none (script c) ≡ is_boxed votes
+      → InNameOrder r.node.core.groups → map script n.clients ≡ map script (clients_with c r.node.clients (inited r.node.core.sessions name))
+      → Does scripts (Receive R (clients_with c r.node.clients (inited r.node.core.sessions name)) n.clients) (called (at_work r.node.core) (Calls (call.Init node name votes))) n.core (λ f. stepped f r.node.core (Calls (call.Init node name votes)))
+      → IsStep (Attend R script) (Attend R script) r (record r { node = n }) (Calls (call.Init node name votes))
+  begins_plain r n node name votes c plain none boxed order same d =
+      is_step r n (Calls (call.Init node name votes)) (clients_with c r.node.clients (inited r.node.core.sessions name))
+      (λ x a. attend_with R script c r.node.clients x (left_for votes x.left) (first_for votes x.left) (is_boxed votes) (inited r.node.core.sessions name) (subst (λ (t : Bool). R c (first_if t x.left)) (sym plain) none) boxed a)
+      (λ x y a left b. b) order same d
 
   -- ---- one that ends
 

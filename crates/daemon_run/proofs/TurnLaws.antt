@@ -7,27 +7,23 @@ use Rattle.hags_io.specs.Links.{Grows, Same, Counts}
 use Rattle.piece_link.specs.Joining.{Joining, Joined, joined_as, taken}
 use Rattle.node_state.specs.declared.happened.Happened.{Happened}
 use Rattle.node_state.specs.HandOn.{Answering}
-use Rattle.node_state.specs.Bytes.{event_of}
 use Rattle.node_state.specs.Step.{Ticks, at_work}
 use Rattle.daemon_model.specs.Sent.{as_sent}
-use Rattle.daemon_model.specs.Daemon.{Daemon, Turn, stepped_by, is_due, ticked_if, ticked, joined_by, received, given, heard, turned}
+use Rattle.daemon_model.specs.Daemon.{Daemon, Turn, stepped_by, is_due, ticked_if, ticked, joined_by, received, up_in, given_on, network_of, heard, turned}
 use Rattle.daemon_run.specs.declared.running.Running.{Running}
-use Rattle.daemon_run.specs.Audience.{Audience, StepHands, TickHands, GivenHands, HeardHands}
+use Rattle.remote_session.specs.Daemon.{SeenUp, NotUp, KeysFull, KnownKey, CallMade}
+use Rattle.daemon_run.specs.Audience.{Audience, StepHands, TickHands, BroughtHands, GivenHands, TakenHands, HeardHands}
 use Rattle.daemon_run.specs.Doing.{daemon_of, Goes, StepsAs, StepBreaks, TicksAs, TickBreaks, GivesAs, GiveBreaks, taken_in, TakesAs, TakeBreaks, HearsAs, HearBreaks, TurnsAs, TurnBreaks}
 use Rattle.daemon_run.proofs.WentLaws.{same_went, none_went}
 use Rattle.daemon_run.proofs.GoesLaws.{Adds, attends_on, adds_none, adds_on, goes_none, goes_on, goes_as, breaks_as, breaks_on, breaks_more, breaks_none, nothing_written}
 use Rattle.daemon_run.proofs.StepLaws.{silent, adds_step}
+use Rattle.daemon_run.proofs.RemoteLaws.{adds_given}
 
 -- ---- what each part adds
 
 adds_tick : (moment : ℕ) (f : Answering) (due : Bool) (d : Daemon) → Adds d (ticked_if due moment f d)
-adds_tick moment f true d = let h = adds_step f Ticks (record d { last = moment }) in record { calls = h.calls; called = h.called; records = h.records; recorded = h.recorded }
+adds_tick moment f true d = let h = adds_step None f Ticks (record d { last = moment }) in record { calls = h.calls; called = h.called; records = h.records; recorded = h.recorded }
 adds_tick moment f false d = adds_none d
-
-adds_given : (message : Option (List ℕ)) (f : Answering) (d : Daemon) → Adds d (given message f d)
-unfolding given
-adds_given None f d = adds_none d
-adds_given (Some message) f d = adds_step f (event_of message) d
 
 adds_received : (got : LinkCall) (d : Daemon) → Adds d (received got d)
 unfolding received
@@ -35,7 +31,7 @@ adds_received got d = record { calls = as_sent got ∷ []; called = refl; record
 
 pub adds_heard : (got : LinkCall) (f : Answering) (d : Daemon) → Adds d (heard got f d)
 unfolding heard
-adds_heard got f d = adds_on d (received got d) _ (adds_received got d) (adds_given (joined_by got d.joining).message f (received got d))
+adds_heard got f d = adds_on d (received got d) _ (adds_received got d) (adds_given (network_of got) (joined_by got d.joining).message f (received got d))
 
 pub adds_turn : (t : Turn) (d : Daemon) → Adds d (turned d t)
 unfolding turned
@@ -49,14 +45,25 @@ due last moment h = le-leb 100 (moment - last) h
 undue : (last moment : ℕ) → moment - last < 100 → is_due last moment ≡ false
 undue last moment h = lt-leb 100 (moment - last) h
 
-adds_taken : (bytes : List ℕ) (f : Answering) (d : Daemon) → Adds d (taken_in bytes f d)
-adds_taken bytes f d =
-    let h = adds_given (taken d.joining bytes).message f (record d { joining = (taken d.joining bytes).joining }) in
+adds_taken : (network : ℕ) (bytes : List ℕ) (f : Answering) (d : Daemon) → Adds d (taken_in network bytes f d)
+adds_taken network bytes f d =
+    let h = adds_given network (taken d.joining bytes).message f (record d { joining = (taken d.joining bytes).joining }) in
     record { calls = h.calls; called = h.called; records = h.records; recorded = h.recorded }
 
 -- a datagram is told, and then taken in
 abbrev told_of : LinkCall → Daemon → Daemon
 told_of got d = record d { failed = 0; calls = d.calls ++ as_sent got ∷ [] }
+
+-- what an Up or a message hands does not hang on what is joined, or on how many receives failed
+brought_alike : (u : SeenUp) (message : List ℕ) (f : Answering) (d : Daemon) (j : Joining) (n : ℕ) (old new : Audience) → BroughtHands u message f (record d { joining = j; failed = n }) old new → BroughtHands u message f d old new
+brought_alike NotUp message f d j n old new h = h
+brought_alike (KeysFull key limit) message f d j n old new h = h
+brought_alike (KnownKey key) message f d j n old new h = h
+brought_alike (CallMade key line) message f d j n old new h = h
+
+hands_alike : (m : Option (List ℕ)) (f : Answering) (d : Daemon) (j : Joining) (n : ℕ) (old new : Audience) → GivenHands m f (record d { joining = j; failed = n }) old new → GivenHands m f d old new
+hands_alike None f d j n old new h = h
+hands_alike (Some message) f d j n old new h = brought_alike (up_in d.sessions message) message f d j n old new h
 
 module _ {C : Type 0} where
   -- ---- a tick
@@ -65,7 +72,7 @@ module _ {C : Type 0} where
       → ticked moment f (daemon_of r before noted) ≡ stepped_by f Ticks (daemon_of (record r { last = moment }) before noted)
   tick_is r moment f le before noted = ap (λ q. ticked_if q moment f (daemon_of r before noted)) (due r.last moment le)
 
-  pub tick_done : {A : List C → Audience → Type 0} (r s : Running C) (moment : ℕ) (a b : Option (List LinkCall)) (x y : Option (List ℕ)) → 100 ≤ moment - r.last → StepsAs A A (record r { last = moment }) s a b x y Ticks → TicksAs A r s a b x y moment
+  pub tick_done : {A : List C → Audience → Type 0} (r s : Running C) (moment : ℕ) (a b : Option (List LinkCall)) (x y : Option (List ℕ)) → 100 ≤ moment - r.last → StepsAs A A None (record r { last = moment }) s a b x y Ticks → TicksAs A r s a b x y moment
   tick_done {A = A} r s moment a b x y le h = record {
     answers = h.answers;
     goes = goes_as r (record r { last = moment }) s a b x y (ticked moment h.answers) (stepped_by h.answers Ticks) (tick_is r moment h.answers le) h.goes;
@@ -77,7 +84,7 @@ module _ {C : Type 0} where
         );
   }
 
-  pub tick_broke : (r : Running C) (moment : ℕ) (a b : Option (List LinkCall)) (x y : Option (List ℕ)) → 100 ≤ moment - r.last → StepBreaks (record r { last = moment }) a b x y Ticks → TickBreaks r a b x y moment
+  pub tick_broke : (r : Running C) (moment : ℕ) (a b : Option (List LinkCall)) (x y : Option (List ℕ)) → 100 ≤ moment - r.last → StepBreaks None (record r { last = moment }) a b x y Ticks → TickBreaks r a b x y moment
   tick_broke r moment a b x y le h = record { answers = h.answers; breaks = breaks_as r (record r { last = moment }) a b x y (ticked moment h.answers) (stepped_by h.answers Ticks) (tick_is r moment h.answers le) h.breaks }
 
   pub tick_not : {A : List C → Audience → Type 0} (r : Running C) (moment : ℕ) (a : Option (List LinkCall)) (x : Option (List ℕ)) → moment - r.last < 100 → TicksAs A r r a a x x moment
@@ -87,43 +94,41 @@ module _ {C : Type 0} where
     attends = λ before noted u k. (u, subst (λ q. TickHands q silent (at_work r.node.core) u u) (sym (undue r.last moment lt)) refl, k);
   }
 
-  -- ---- a message
+  -- ---- no message
 
-  pub give_done : {A : List C → Audience → Type 0} (r s : Running C) (a b : Option (List LinkCall)) (x y : Option (List ℕ)) (message : List ℕ) → StepsAs A A r s a b x y (event_of message) → GivesAs A r s a b x y (Some message)
-  unfolding given
-  give_done r s a b x y message h = record { answers = h.answers; goes = goes_as r r s a b x y (given (Some message) h.answers) (stepped_by h.answers (event_of message)) (λ before noted. refl) h.goes; attends = h.attends }
-
-  pub give_broke : (r : Running C) (a b : Option (List LinkCall)) (x y : Option (List ℕ)) (message : List ℕ) → StepBreaks r a b x y (event_of message) → GiveBreaks r a b x y (Some message)
-  unfolding given
-  give_broke r a b x y message h = record { answers = h.answers; breaks = breaks_as r r a b x y (given (Some message) h.answers) (stepped_by h.answers (event_of message)) (λ before noted. refl) h.breaks }
-
-  pub give_nothing : {A : List C → Audience → Type 0} (r : Running C) (a : Option (List LinkCall)) (x : Option (List ℕ)) → GivesAs A r r a a x x None
-  unfolding given
-  give_nothing r a x = record { answers = silent; goes = goes_as r r r a a x x (given None silent) (λ d. d) (λ before noted. refl) (goes_none r a x); attends = λ before noted u k. (u, refl, k) }
+  pub give_nothing : {A : List C → Audience → Type 0} (r : Running C) (network : ℕ) (a : Option (List LinkCall)) (x : Option (List ℕ)) → GivesAs A r r a a x x network None
+  unfolding given_on
+  give_nothing r network a x = record {
+    answers = silent;
+    goes = goes_as r r r a a x x (given_on network None silent) (λ d. d) (λ before noted. refl) (goes_none r a x);
+    attends = λ before noted u k. (u, refl, k);
+  }
 
   -- ---- a datagram
 
-  take_is : (r : Running C) (bytes : List ℕ) (j : Joining) (m : Option (List ℕ)) (f : Answering) → joined_as j m ≡ taken r.joiner bytes → (before : List LinkCall) (noted : List Happened)
-      → taken_in bytes f (daemon_of r before noted) ≡ given m f (daemon_of (record r { joiner = j }) before noted)
-  take_is r bytes j m f h before noted = ap (λ (t : Joined). given t.message f (record (daemon_of r before noted) { joining = t.joining })) (sym h)
+  take_is : (r : Running C) (network : ℕ) (bytes : List ℕ) (j : Joining) (m : Option (List ℕ)) (f : Answering) → joined_as j m ≡ taken r.joiner bytes → (before : List LinkCall) (noted : List Happened)
+      → taken_in network bytes f (daemon_of r before noted) ≡ given_on network m f (daemon_of (record r { joiner = j }) before noted)
+  take_is r network bytes j m f h before noted = ap (λ (t : Joined). given_on network t.message f (record (daemon_of r before noted) { joining = t.joining })) (sym h)
 
-  pub take_done : {A : List C → Audience → Type 0} (r s : Running C) (bytes : List ℕ) (j : Joining) (m : Option (List ℕ)) (a b : Option (List LinkCall)) (x y : Option (List ℕ)) → joined_as j m ≡ taken r.joiner bytes → GivesAs A (record r { joiner = j }) s a b x y m → TakesAs A r s a b x y bytes
-  take_done {A = A} r s bytes j m a b x y is h = record {
+  pub take_done : {A : List C → Audience → Type 0} (r s : Running C) (network : ℕ) (bytes : List ℕ) (j : Joining) (m : Option (List ℕ)) (a b : Option (List LinkCall)) (x y : Option (List ℕ)) → joined_as j m ≡ taken r.joiner bytes → GivesAs A (record r { joiner = j }) s a b x y network m
+      → TakesAs A r s a b x y network bytes
+  take_done {A = A} r s network bytes j m a b x y is h = record {
     answers = h.answers;
-    goes = goes_as r (record r { joiner = j }) s a b x y (taken_in bytes h.answers) (given m h.answers) (take_is r bytes j m h.answers is) h.goes;
+    goes = goes_as r (record r { joiner = j }) s a b x y (taken_in network bytes h.answers) (given_on network m h.answers) (take_is r network bytes j m h.answers is) h.goes;
     attends = λ before noted u k.
-        let t : (v : Audience) × GivenHands m h.answers (at_work r.node.core) u v × A s.node.clients v = h.attends before noted u k in (
+        let t : (v : Audience) × GivenHands m h.answers (daemon_of (record r { joiner = j }) before noted) u v × A s.node.clients v = h.attends before noted u k in (
           t.0,
-          subst (λ (z : Joined). GivenHands z.message h.answers (at_work r.node.core) u t.0) is t.1,
+          subst (λ (z : Joined). GivenHands z.message h.answers (daemon_of r before noted) u t.0) is (hands_alike m h.answers (daemon_of r before noted) j r.failed u t.0 t.1),
           t.2,
         );
   }
 
-  pub take_broke : (r : Running C) (bytes : List ℕ) (j : Joining) (m : Option (List ℕ)) (a b : Option (List LinkCall)) (x y : Option (List ℕ)) → joined_as j m ≡ taken r.joiner bytes → GiveBreaks (record r { joiner = j }) a b x y m → TakeBreaks r a b x y bytes
-  take_broke r bytes j m a b x y is h = record { answers = h.answers; breaks = breaks_as r (record r { joiner = j }) a b x y (taken_in bytes h.answers) (given m h.answers) (take_is r bytes j m h.answers is) h.breaks }
+  pub take_broke : (r : Running C) (network : ℕ) (bytes : List ℕ) (j : Joining) (m : Option (List ℕ)) (a b : Option (List LinkCall)) (x y : Option (List ℕ)) → joined_as j m ≡ taken r.joiner bytes → GiveBreaks (record r { joiner = j }) a b x y network m → TakeBreaks r a b x y network bytes
+  take_broke r network bytes j m a b x y is h =
+      record { answers = h.answers; breaks = breaks_as r (record r { joiner = j }) a b x y (taken_in network bytes h.answers) (given_on network m h.answers) (take_is r network bytes j m h.answers is) h.breaks }
 
-  pub take_none : (r : Running C) (bytes : List ℕ) (a : Option (List LinkCall)) (x : Option (List ℕ)) → TakeBreaks r a a x x bytes
-  take_none r bytes a x = record { answers = silent; breaks = breaks_none r a a x (taken_in bytes silent) (none_went a) (adds_taken bytes silent) }
+  pub take_none : (r : Running C) (network : ℕ) (bytes : List ℕ) (a : Option (List LinkCall)) (x : Option (List ℕ)) → TakeBreaks r a a x x network bytes
+  take_none r network bytes a x = record { answers = silent; breaks = breaks_none r a a x (taken_in network bytes silent) (none_went a) (adds_taken network bytes silent) }
 
   -- ---- a receive
 
@@ -139,36 +144,41 @@ module _ {C : Type 0} where
   }
 
   hear_is : (r : Running C) (k : ℕ) (bytes : List ℕ) (f : Answering) (before : List LinkCall) (noted : List Happened)
-      → heard (call.Received k bytes) f (daemon_of r before noted) ≡ taken_in bytes f (told_of (call.Received k bytes) (daemon_of r before noted))
+      → heard (call.Received k bytes) f (daemon_of r before noted) ≡ taken_in k bytes f (told_of (call.Received k bytes) (daemon_of r before noted))
   unfolding heard received
   hear_is r k bytes f before noted = refl
 
   told_goes : (r : Running C) (k : ℕ) (bytes : List ℕ) (a b : Option (List LinkCall)) (x : Option (List ℕ)) → Grows a b (call.Received k bytes ∷ []) → Goes r (record r { failed = 0 }) a b x x (told_of (call.Received k bytes))
   told_goes r k bytes a b x h = after_receive r (record r { failed = 0 }) (call.Received k bytes) a b x (told_of (call.Received k bytes)) refl h (λ before noted. refl)
 
-  pub hear_done : {A : List C → Audience → Type 0} (r s : Running C) (k : ℕ) (bytes : List ℕ) (a b c : Option (List LinkCall)) (x y : Option (List ℕ)) → Grows a b (call.Received k bytes ∷ []) → TakesAs A (record r { failed = 0 }) s b c x y bytes → HearsAs A r s a c x y
-  hear_done r s k bytes a b c x y h g = record {
+  pub hear_done : {A : List C → Audience → Type 0} (r s : Running C) (k : ℕ) (bytes : List ℕ) (a b c : Option (List LinkCall)) (x y : Option (List ℕ)) → Grows a b (call.Received k bytes ∷ []) → TakesAs A (record r { failed = 0 }) s b c x y k bytes → HearsAs A r s a c x y
+  hear_done {A = A} r s k bytes a b c x y h g = record {
     got = call.Received k bytes;
     answers = g.answers;
-    goes = goes_as r r s a c x y (heard (call.Received k bytes) g.answers) (λ d. taken_in bytes g.answers (told_of (call.Received k bytes) d)) (hear_is r k bytes g.answers)
-        (goes_on r (record r { failed = 0 }) s a b c x x y (told_of (call.Received k bytes)) (taken_in bytes g.answers) (told_goes r k bytes a b x h) g.goes);
-    attends = g.attends;
+    goes = goes_as r r s a c x y (heard (call.Received k bytes) g.answers) (λ d. taken_in k bytes g.answers (told_of (call.Received k bytes) d)) (hear_is r k bytes g.answers)
+        (goes_on r (record r { failed = 0 }) s a b c x x y (told_of (call.Received k bytes)) (taken_in k bytes g.answers) (told_goes r k bytes a b x h) g.goes);
+    attends = λ before noted u q.
+        let t : (v : Audience) × TakenHands bytes g.answers (daemon_of (record r { failed = 0 }) before noted) u v × A s.node.clients v = g.attends before noted u q in (
+          t.0,
+          hands_alike (taken r.joiner bytes).message g.answers (daemon_of r before noted) r.joiner 0 u t.0 t.1,
+          t.2,
+        );
   }
 
-  pub hear_broke : (r : Running C) (k : ℕ) (bytes : List ℕ) (a b c : Option (List LinkCall)) (x y : Option (List ℕ)) → Grows a b (call.Received k bytes ∷ []) → TakeBreaks (record r { failed = 0 }) b c x y bytes → HearBreaks r a c x y
+  pub hear_broke : (r : Running C) (k : ℕ) (bytes : List ℕ) (a b c : Option (List LinkCall)) (x y : Option (List ℕ)) → Grows a b (call.Received k bytes ∷ []) → TakeBreaks (record r { failed = 0 }) b c x y k bytes → HearBreaks r a c x y
   hear_broke r k bytes a b c x y h g = record {
     got = call.Received k bytes;
     answers = g.answers;
-    breaks = breaks_as r r a c x y (heard (call.Received k bytes) g.answers) (λ d. taken_in bytes g.answers (told_of (call.Received k bytes) d)) (hear_is r k bytes g.answers)
-        (breaks_on r (record r { failed = 0 }) a b c x x y (told_of (call.Received k bytes)) (taken_in bytes g.answers) (told_goes r k bytes a b x h) g.breaks);
+    breaks = breaks_as r r a c x y (heard (call.Received k bytes) g.answers) (λ d. taken_in k bytes g.answers (told_of (call.Received k bytes) d)) (hear_is r k bytes g.answers)
+        (breaks_on r (record r { failed = 0 }) a b c x x y (told_of (call.Received k bytes)) (taken_in k bytes g.answers) (told_goes r k bytes a b x h) g.breaks);
   }
 
   pub hear_quiet : {A : List C → Audience → Type 0} (r : Running C) (a b : Option (List LinkCall)) (x : Option (List ℕ)) → Grows a b (call.Quiet ∷ []) → HearsAs A r (record r { failed = 0 }) a b x x
-  unfolding heard received given
+  unfolding heard received given_on
   hear_quiet r a b x h = record { got = call.Quiet; answers = silent; goes = after_receive r (record r { failed = 0 }) call.Quiet a b x (heard call.Quiet silent) refl h (λ before noted. refl); attends = λ before noted u k. (u, refl, k) }
 
   pub hear_failed : {A : List C → Audience → Type 0} (r : Running C) (n : ℕ) (a b : Option (List LinkCall)) (x : Option (List ℕ)) → n ≡ min (r.failed + 1) 16 → Grows a b (call.Failed ∷ []) → HearsAs A r (record r { failed = n }) a b x x
-  unfolding heard received given
+  unfolding heard received given_on
   hear_failed r n a b x is h = record {
     got = call.Failed;
     answers = silent;

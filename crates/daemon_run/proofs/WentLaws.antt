@@ -8,7 +8,7 @@ use Rattle.hags_io.specs.Links.{Grows, Same}
 use Rattle.piece_link.specs.Pieces.{can_cut, message_by, pieces_of}
 use Rattle.node_state.specs.declared.packet.Packet.{Packet}
 use Rattle.node_state.specs.Bytes.{bytes_of}
-use Rattle.daemon_model.specs.Sent.{as_sent, piece_call, packet_pieces, packet_calls, calls_if, number_if, number_past, carried_calls, number_over, sent_calls, number_after, Went, WentFront}
+use Rattle.daemon_model.specs.Sent.{as_sent, piece_to, piece_call, packet_pieces, message_calls, packet_calls, calls_if, number_if, number_past, carried_calls, number_over, sent_calls, number_after, Went, WentFront}
 
 -- ---- what lists grow by
 
@@ -29,8 +29,8 @@ grows_same (Some zs) b c xs p q = let at : Same (Some (zs ++ xs)) c = subst (λ 
 pub went_nothing : (a : Option (List LinkCall)) → Went a a []
 went_nothing a = record { calls = []; told = grows_none a; are = refl }
 
-pub went_one : (a b : Option (List LinkCall)) (p : Packet) (piece : List ℕ) (out : Bool) → Grows a b (call.Sent p.to p.network piece out ∷ []) → Went a b (piece_call p piece ∷ [])
-went_one a b p piece out h = record { calls = call.Sent p.to p.network piece out ∷ []; told = h; are = refl }
+pub went_one : (a b : Option (List LinkCall)) (node network : ℕ) (piece : List ℕ) (out : Bool) → Grows a b (call.Sent node network piece out ∷ []) → Went a b (piece_to node network piece ∷ [])
+went_one a b node network piece out h = record { calls = call.Sent node network piece out ∷ []; told = h; are = refl }
 
 pub went_on : (a b c : Option (List LinkCall)) (xs ys : List LinkCall) → Went a b xs → Went b c ys → Went a c (xs ++ ys)
 went_on a b c xs ys p q = record {
@@ -102,14 +102,14 @@ to_end a b more w = subst (Went a b) (sym (append-nil w.done) ∙ w.whole) w.wen
 
 -- ---- pieces, each of which stands for its bytes
 
-module _ {V : Type 0} (items : V → List ℕ) (p : Packet) where
+module _ {V : Type 0} (items : V → List ℕ) (node network : ℕ) where
   abbrev pub pieces_left : List V → List LinkCall
-  pieces_left vs = map (piece_call p) (map items vs)
+  pieces_left vs = map (piece_to node network) (map items vs)
 
   pub piece_next : (a b c : Option (List LinkCall)) (i : ℕ) (v : V) (vs : List V) (more : List LinkCall) → i < length vs → v ≡ get_or vs i v
-      → WentTo a b (pieces_left (drop i vs)) more → Went b c (piece_call p (items v) ∷ []) → WentTo a c (pieces_left (drop (i + 1) vs)) more
+      → WentTo a b (pieces_left (drop i vs)) more → Went b c (piece_to node network (items v) ∷ []) → WentTo a c (pieces_left (drop (i + 1) vs)) more
   piece_next a b c i v vs more h is w q =
-      to_next a b c (piece_call p (items v) ∷ []) (pieces_left (drop (i + 1) vs)) more (subst (λ t. WentTo a b (pieces_left t) more) (next_item i v vs h is) w) q
+      to_next a b c (piece_to node network (items v) ∷ []) (pieces_left (drop (i + 1) vs)) more (subst (λ t. WentTo a b (pieces_left t) more) (next_item i v vs h is) w) q
 
   pub piece_front : (a b c : Option (List LinkCall)) (left more : List LinkCall) → WentTo a b left more → Same b c → WentFront a c more
   piece_front a b c left more w q = to_front a b c left [] more (subst (λ t. WentTo a b t more) (sym (append-nil left)) w) (same_went b c left q)
@@ -117,46 +117,44 @@ module _ {V : Type 0} (items : V → List ℕ) (p : Packet) where
   pub pieces_done : (a b : Option (List LinkCall)) (i : ℕ) (vs : List V) (more : List LinkCall) → length vs ≤ i → WentTo a b (pieces_left (drop i vs)) more → Went a b more
   pieces_done a b i vs more le w = to_end a b more (subst (λ t. WentTo a b (pieces_left t) more) (no_item i vs le) w)
 
--- ---- a packet
+-- ---- a message
 
-pub calls_cut : (me inc number : ℕ) (p : Packet) → can_cut (bytes_of p) ≡ true → packet_calls me inc number p ≡ map (piece_call p) (packet_pieces me inc number p)
-unfolding packet_calls
-calls_cut me inc number p e = ap (λ t. calls_if t (map (piece_call p) (packet_pieces me inc number p))) e
+pub message_lost : (me inc number node network : ℕ) (message : List ℕ) (a : Option (List LinkCall)) → can_cut message ≡ false → Went a a (message_calls me inc number node network message)
+message_lost me inc number node network message a e =
+    subst (λ t. Went a a (calls_if t (map (piece_to node network) (pieces_of (message_by me inc number message))))) (sym e) (went_nothing a)
 
-pub calls_not_cut : (me inc number : ℕ) (p : Packet) → can_cut (bytes_of p) ≡ false → packet_calls me inc number p ≡ []
-unfolding packet_calls
-calls_not_cut me inc number p e = ap (λ t. calls_if t (map (piece_call p) (packet_pieces me inc number p))) e
-
-pub number_cut : (number : ℕ) (p : Packet) → can_cut (bytes_of p) ≡ true → number_past number p ≡ number + 1
-unfolding number_past
-number_cut number p e = ap (λ t. number_if t number) e
-
-pub number_not_cut : (number : ℕ) (p : Packet) → can_cut (bytes_of p) ≡ false → number_past number p ≡ number
-unfolding number_past
-number_not_cut number p e = ap (λ t. number_if t number) e
-
--- its bytes cannot be cut, and it is lost
-pub packet_lost : (me inc number : ℕ) (p : Packet) (bytes : List ℕ) (a : Option (List LinkCall)) → bytes ≡ bytes_of p → can_cut bytes ≡ false → Went a a (packet_calls me inc number p)
-packet_lost me inc number p bytes a is e = subst (Went a a) (sym (calls_not_cut me inc number p (ap can_cut (sym is) ∙ e))) (went_nothing a)
-
-pub number_lost : (number : ℕ) (p : Packet) (bytes : List ℕ) → bytes ≡ bytes_of p → can_cut bytes ≡ false → number ≡ number_past number p
-number_lost number p bytes is e = sym (number_not_cut number p (ap can_cut (sym is) ∙ e))
+pub number_lost : (number : ℕ) (message : List ℕ) → can_cut message ≡ false → number ≡ number_if (can_cut message) number
+number_lost number message e = ap (λ t. number_if t number) (sym e)
 
 -- its pieces are sent, or a front of them
-pieces_are : (me inc number : ℕ) (p : Packet) (bytes : List ℕ) (pieces : List (List ℕ)) → bytes ≡ bytes_of p → can_cut bytes ≡ true → pieces ≡ pieces_of (message_by me inc number bytes) → map (piece_call p) pieces ≡ packet_calls me inc number p
-pieces_are me inc number p bytes pieces is e pieces_is =
-    ap (map (piece_call p)) (pieces_is ∙ ap (λ t. pieces_of (message_by me inc number t)) is) ∙ sym (calls_cut me inc number p (ap can_cut (sym is) ∙ e))
+pieces_are : (me inc number node network : ℕ) (message : List ℕ) (pieces : List (List ℕ)) → can_cut message ≡ true → pieces ≡ pieces_of (message_by me inc number message) → map (piece_to node network) pieces ≡ message_calls me inc number node network message
+pieces_are me inc number node network message pieces e is =
+    ap (map (piece_to node network)) is ∙ ap (λ t. calls_if t (map (piece_to node network) (pieces_of (message_by me inc number message)))) (sym e)
 
-pub packet_sent : (me inc number : ℕ) (p : Packet) (bytes : List ℕ) (pieces : List (List ℕ)) (a b : Option (List LinkCall)) → bytes ≡ bytes_of p → can_cut bytes ≡ true → pieces ≡ pieces_of (message_by me inc number bytes) → Went a b (map (piece_call p) pieces)
-    → Went a b (packet_calls me inc number p)
-packet_sent me inc number p bytes pieces a b is e pieces_is w = subst (Went a b) (pieces_are me inc number p bytes pieces is e pieces_is) w
+pub message_sent : (me inc number node network : ℕ) (message : List ℕ) (pieces : List (List ℕ)) (a b : Option (List LinkCall)) → can_cut message ≡ true → pieces ≡ pieces_of (message_by me inc number message) → Went a b (map (piece_to node network) pieces)
+    → Went a b (message_calls me inc number node network message)
+message_sent me inc number node network message pieces a b e is w = subst (Went a b) (pieces_are me inc number node network message pieces e is) w
 
-pub packet_front : (me inc number : ℕ) (p : Packet) (bytes : List ℕ) (pieces : List (List ℕ)) (a b : Option (List LinkCall)) → bytes ≡ bytes_of p → can_cut bytes ≡ true → pieces ≡ pieces_of (message_by me inc number bytes) → WentFront a b (map (piece_call p) pieces)
-    → WentFront a b (packet_calls me inc number p)
-packet_front me inc number p bytes pieces a b is e pieces_is w = subst (WentFront a b) (pieces_are me inc number p bytes pieces is e pieces_is) w
+pub message_front : (me inc number node network : ℕ) (message : List ℕ) (pieces : List (List ℕ)) (a b : Option (List LinkCall)) → can_cut message ≡ true → pieces ≡ pieces_of (message_by me inc number message) → WentFront a b (map (piece_to node network) pieces)
+    → WentFront a b (message_calls me inc number node network message)
+message_front me inc number node network message pieces a b e is w = subst (WentFront a b) (pieces_are me inc number node network message pieces e is) w
 
-pub number_sent : (number next : ℕ) (p : Packet) (bytes : List ℕ) → bytes ≡ bytes_of p → can_cut bytes ≡ true → next ≡ number + 1 → next ≡ number_past number p
-number_sent number next p bytes is e n = n ∙ sym (number_cut number p (ap can_cut (sym is) ∙ e))
+pub number_sent : (number next : ℕ) (message : List ℕ) → can_cut message ≡ true → next ≡ number + 1 → next ≡ number_if (can_cut message) number
+number_sent number next message e n = n ∙ ap (λ t. number_if t number) (sym e)
+
+-- ---- a packet
+
+pub packet_went : (me inc number : ℕ) (p : Packet) (bytes : List ℕ) (a b : Option (List LinkCall)) → bytes ≡ bytes_of p → Went a b (message_calls me inc number p.to p.network bytes) → Went a b (packet_calls me inc number p)
+unfolding packet_calls
+packet_went me inc number p bytes a b is w = subst (λ t. Went a b (message_calls me inc number p.to p.network t)) is w
+
+pub packet_front : (me inc number : ℕ) (p : Packet) (bytes : List ℕ) (a b : Option (List LinkCall)) → bytes ≡ bytes_of p → WentFront a b (message_calls me inc number p.to p.network bytes) → WentFront a b (packet_calls me inc number p)
+unfolding packet_calls
+packet_front me inc number p bytes a b is w = subst (λ t. WentFront a b (message_calls me inc number p.to p.network t)) is w
+
+pub packet_number : (number next : ℕ) (p : Packet) (bytes : List ℕ) → bytes ≡ bytes_of p → next ≡ number_if (can_cut bytes) number → next ≡ number_past number p
+unfolding number_past
+packet_number number next p bytes is n = n ∙ ap (λ t. number_if (can_cut t) number) is
 
 -- no network carries it, and it is lost
 carried_if : Bool → ℕ → ℕ → ℕ → Packet → List LinkCall

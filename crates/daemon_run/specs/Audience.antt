@@ -22,7 +22,8 @@ use Rattle.entry_delivery.specs.Received.{Handing, AreFor, logged_by, after_hand
 use Rattle.node_core.specs.Event.{called}
 use Rattle.world_model.specs.declared.script.Script.{Script}
 use Rattle.world_model.specs.Reading.{boxed_word}
-use Rattle.daemon_model.specs.Daemon.{Daemon, Opening, Turn, Life, is_due, ticked, joined_by, opened, turned, begun}
+use Rattle.remote_session.specs.Daemon.{SeenUp, NotUp, KeysFull, KnownKey, CallMade}
+use Rattle.daemon_model.specs.Daemon.{Daemon, Opening, Turn, Life, is_due, ticked, joined_by, up_in, with_up, call_in, opened, turned, begun_for}
 use Rattle.daemon_model.specs.Lives.{first_of}
 
 -- What is known of a daemon's clients: which lists the objects stand for that no client has taken. And of each session,
@@ -110,16 +111,28 @@ abbrev pub TickHands : Bool → Answering → Core → Audience → Audience →
 TickHands true f s old new = StepHands f Ticks s old new
 TickHands false f s old new = new ≡ old
 
-abbrev pub GivenHands : Option (List ℕ) → Answering → Core → Audience → Audience → Type 0
-GivenHands None f s old new = new ≡ old
-GivenHands (Some message) f s old new = StepHands f (event_of message) s old new
+-- the line of a key: a call of the node, or none
+abbrev pub LineHands : Option CallLine → Answering → Core → Audience → Audience → Type 0
+LineHands None f s old new = new ≡ old
+LineHands (Some a) f s old new = StepHands f (Calls a) s old new
+
+-- what an Up brings; every other message is the node's
+abbrev pub BroughtHands : SeenUp → List ℕ → Answering → Daemon → Audience → Audience → Type 0
+BroughtHands NotUp message f d old new = StepHands f (event_of message) d.core old new
+BroughtHands (KeysFull key limit) message f d old new = new ≡ old
+BroughtHands (KnownKey key) message f d old new = new ≡ old
+BroughtHands (CallMade key line) message f d old new = LineHands (call_in (with_up message d).sessions d.me key line) f d.core old new
+
+abbrev pub GivenHands : Option (List ℕ) → Answering → Daemon → Audience → Audience → Type 0
+GivenHands None f d old new = new ≡ old
+GivenHands (Some message) f d old new = BroughtHands (up_in d.sessions message) message f d old new
 
 -- the bytes of a datagram are joined, and the message that is whole by it is given
 abbrev pub TakenHands : List ℕ → Answering → Daemon → Audience → Audience → Type 0
-TakenHands bytes f d old new = GivenHands (taken d.joining bytes).message f d.core old new
+TakenHands bytes f d old new = GivenHands (taken d.joining bytes).message f d old new
 
 abbrev pub HeardHands : LinkCall → Answering → Daemon → Audience → Audience → Type 0
-HeardHands got f d old new = GivenHands (joined_by got d.joining).message f d.core old new
+HeardHands got f d old new = GivenHands (joined_by got d.joining).message f d old new
 
 abbrev pub TurnHands : Daemon → Turn → Audience → Audience → Type 0
 TurnHands d t old new = (mid : Audience) × TickHands (is_due d.last t.moment) t.tick d.core old mid × HeardHands t.got t.answers (ticked t.moment t.tick d) mid new
@@ -131,7 +144,7 @@ TurnsHand d (t ∷ ts) old new = (mid : Audience) × TurnHands d t old mid × Tu
 -- what a life hands, from its start on
 abbrev pub LifeHands : Script → ℕ → ℕ → Life → Audience → Audience → Type 0
 LifeHands script me incarnation life old new =
-    (mid : Audience) × OpeningHands (begun script.config me incarnation life.start) life.opening old mid × TurnsHand (first_of script me incarnation life) life.turns mid new
+    (mid : Audience) × OpeningHands (begun_for life.remote script.config me incarnation life.start) life.opening old mid × TurnsHand (first_of script me incarnation life) life.turns mid new
 
 -- ---- clients
 

@@ -1,5 +1,5 @@
 -- How the calls of the settings follow one another, and how a daemon begins.
-use Rattle.std.specs.Prelude.{◌≡◌, ℕ, false, List, [], map, Option}
+use Rattle.std.specs.Prelude.{◌≡◌, ℕ, Bool, false, List, [], map, Option}
 use Rattle.std.specs.Io.KnownBytes.{Appends}
 use Rattle.hags_io.specs.Edges.{GrowsByFront}
 use Rattle.hags_io.specs.declared.link.LinkCall.{LinkCall}
@@ -8,7 +8,7 @@ use Rattle.node_state.specs.declared.config.Config.{Config}
 use Rattle.node_state.specs.Step.{started}
 use Rattle.world_model.specs.declared.script.Script.{Script}
 use Rattle.daemon_model.specs.Sent.{Went, WentFront}
-use Rattle.daemon_model.specs.Daemon.{Daemon, Opening, begun, opened_all, own_calls, records_text}
+use Rattle.daemon_model.specs.Daemon.{Daemon, Opening, sessions_if, begun_for, opened_all, own_calls, records_text}
 use Rattle.daemon_run.specs.declared.running.Running.{Running}
 use Rattle.daemon_run.specs.Audience.{Audience, OpeningHands}
 use Rattle.daemon_run.specs.Doing.{daemon_of, Goes, Breaks, Attends}
@@ -31,9 +31,9 @@ pub record CallsBreak {C : Type 0} (r : Running C) (calls : List CallLine) (a b 
 
 -- ---- from the start on
 
--- one whose node has just started
-abbrev pub fresh_running : {C : Type 0} → Config → ℕ → ℕ → ℕ → Running C
-fresh_running c me incarnation moment = record {
+-- one whose node has just started; whether it serves clients on other machines
+abbrev pub fresh_running : {C : Type 0} → Bool → Config → ℕ → ℕ → ℕ → Running C
+fresh_running remote c me incarnation moment = record {
   me = me;
   incarnation = incarnation;
   node = record { core = started c me incarnation; clients = []; halted = false };
@@ -41,6 +41,7 @@ fresh_running c me incarnation moment = record {
   last = moment;
   number = 1;
   failed = 0;
+  sessions = sessions_if remote incarnation;
 }
 
 -- the daemon d is reached: it stands as the one that runs, what it did is told, and its lines are written
@@ -55,13 +56,13 @@ pub record Stopped (d : Daemon) (a b : Option (List LinkCall)) (x y : Option (Li
   pub front : GrowsByFront x y (records_text d.records)
 
 -- the node started, and the calls of the settings are carried out
-pub record BeginsAs {C : Type 0} (A B : List C → Audience → Type 0) (script : Script) (me incarnation moment : ℕ) (s : Running C) (a b : Option (List LinkCall)) (x y : Option (List ℕ)) : Type 0 where
+pub record BeginsAs {C : Type 0} (A B : List C → Audience → Type 0) (remote : Bool) (script : Script) (me incarnation moment : ℕ) (s : Running C) (a b : Option (List LinkCall)) (x y : Option (List ℕ)) : Type 0 where
   pub opening : List Opening
   pub are : calls_in opening ≡ own_calls me script.lines
-  pub reached : Reached (opened_all (begun script.config me incarnation moment) opening) s a b x y
-  pub attends : (z : Audience) → A [] z → (v : Audience) × OpeningHands (begun script.config me incarnation moment) opening z v × B s.node.clients v
+  pub reached : Reached (opened_all (begun_for remote script.config me incarnation moment) opening) s a b x y
+  pub attends : (z : Audience) → A [] z → (v : Audience) × OpeningHands (begun_for remote script.config me incarnation moment) opening z v × B s.node.clients v
 
-pub record BeginBreaks (script : Script) (me incarnation moment : ℕ) (a b : Option (List LinkCall)) (x y : Option (List ℕ)) : Type 0 where
+pub record BeginBreaks (remote : Bool) (script : Script) (me incarnation moment : ℕ) (a b : Option (List LinkCall)) (x y : Option (List ℕ)) : Type 0 where
   pub opening : List Opening
   pub are : calls_in opening ≡ own_calls me script.lines
-  pub stopped : Stopped (opened_all (begun script.config me incarnation moment) opening) a b x y
+  pub stopped : Stopped (opened_all (begun_for remote script.config me incarnation moment) opening) a b x y

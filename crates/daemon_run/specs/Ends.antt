@@ -25,6 +25,6 @@ pub record Opens (o r : Option (Option (ℕ × Bool))) (port status : ℕ) (N P 
 
 -- It did all its turns. Where the objects that it was given stood for these lists, the clients of its sessions stand at
 -- the end for their own, each with what its life handed to that client, in order.
-pub record HandsOver {C : Type 0} (P : List (List Handed) → Type 0) (R : C → List Handed → Type 0) (votes : C → Option (List (Option VoteItem))) (script : Script) (me incarnation turns : ℕ) (node : NodeView C) (a b : Option (List LinkCall)) (x y : Option (List ℕ)) (u v : Option (List ℕ)) : Type 0 where
-  pub serves : ServesAs script me incarnation turns (at_work node.core) a b x y u v
+pub record HandsOver {C : Type 0} (P : List (List Handed) → Type 0) (R : C → List Handed → Type 0) (votes : C → Option (List (Option VoteItem))) (script : Script) (me incarnation : ℕ) (remote : Bool) (turns : ℕ) (node : NodeView C) (a b : Option (List LinkCall)) (x y : Option (List ℕ)) (u v : Option (List ℕ)) : Type 0 where
+  pub serves : ServesAs script me incarnation remote turns (at_work node.core) a b x y u v
   pub hands : (lists : List (List Handed)) → P lists → (last : Audience) × LifeHands script me incarnation serves.life (audience_of lists) last × Attend R votes node.clients last

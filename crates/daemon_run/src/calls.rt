@@ -1,5 +1,5 @@
 //! The calls of the settings: those of the own node's clients.
-ghost use Rattle.std.specs.Prelude.{◌≡◌, ◌≤◌, ℕ, ◌∷◌, [], List, OnOk, OnErr, IfOk, IfSome, IsTrue, None, Err, is_none};
+ghost use Rattle.std.specs.Prelude.{◌≡◌, ◌≤◌, ℕ, ◌∷◌, [], List, OnOk, OnErr, IfOk, IfSome, IsTrue, Some, None, Err, false, is_none};
 ghost use Rattle.hags_io.specs.Edges.{Rose};
 ghost use Rattle.node_state.specs.declared.call.CallLine.TheVariants as call;
 ghost use Rattle.node_state.specs.Step.{Calls};
@@ -8,7 +8,8 @@ ghost use Rattle.client_callbacks.specs.Handed.{Handed};
 ghost use Rattle.session_clients.specs.Clients.{StandFor};
 ghost use Rattle.daemon_run.specs.Audience.{is_boxed, first_for, left_for, Attend, AttendWith};
 ghost use Rattle.daemon_run.specs.Keeping.{KeepsLink};
-ghost use Rattle.daemon_run.specs.Doing.{IsSame, IsStep, StepsAs, StepBreaks};
+ghost use Rattle.daemon_run.specs.Doing.{IsSame, IsStep, StepsAs, StepBreaks, KeySteps};
+ghost use Rattle.remote_clients.specs.Clients.{IsPlain};
 ghost use Rattle.daemon_run.specs.Calling.{CallsAs, CallsBreak};
 
 use crate::running::Running;
@@ -32,7 +33,8 @@ pub trait Hosts<C: Callbacks> {
         ensures gives { (lists : List (List Handed)) → stand self.old lists
             → IfOk result (λ c. C.stands_for c (first_for votes.now lists)
             × stand self.new (left_for votes.now lists)) }
-        ensures votes { IfOk result (λ c. is_none (C.script c) ≡ is_boxed votes.now) };
+        ensures votes { IfOk result (λ c. is_none (C.script c) ≡ is_boxed votes.now) }
+        ensures plain { is_boxed votes.now ≡ false → IfOk result (λ c. C.stands_for c []) };
 }
 
 /// The objects that were handed to a daemon and that no client has taken.
@@ -94,6 +96,27 @@ impl<C: Callbacks> Running<C> {
         }
     }
 
+    /// A client whose votes are none of an object begins its session.
+    fn begin_plain_session<H: Hosts<C>>(
+        &mut self,
+        alloc: Global,
+        name: &[u8],
+        votes: &[u8],
+        hosts: &mut H,
+    ) -> Result<(), NoMemory>
+        requires { is_boxed votes.now ≡ false }
+        ensures does { OnOk result ((node : ℕ) → IsStep (Attend C.stands_for C.script)
+            (Attend C.stands_for C.script) self.old self.new
+            (Calls (call.Init node name.now votes.now))) }
+        ensures same { IsSame self.old self.new }
+    {
+        let client = hosts.client(alloc, votes)?;
+        match self.node.begin_session(alloc, name, client) {
+            Ok(()) => Ok(()),
+            Err(_) => Err(NoMemory),
+        }
+    }
+
     /// A client ends its session.
     fn say_goodbye(&mut self, alloc: Global, client: &[u8]) -> Result<(), NoMemory>
         ensures does { OnOk result (IsStep (Attend C.stands_for C.script)
@@ -128,6 +151,58 @@ impl<C: Callbacks> Running<C> {
         }
     }
 
+    /// A call of a client on another machine happens to the node; a client that it makes has no object.
+    fn call_plain<H: Hosts<C>>(
+        &mut self,
+        alloc: Global,
+        call: &CallLine,
+        hosts: &mut H,
+    ) -> Result<(), NoMemory>
+        requires { IsPlain call.now }
+        ensures does { OnOk result (IsStep (Attend C.stands_for C.script)
+            (Attend C.stands_for C.script) self.old self.new (Calls call.now)) }
+        ensures same { IsSame self.old self.new }
+    {
+        match call {
+            CallLine::Init { name, votes, .. } => {
+                self.begin_plain_session(alloc, name.as_slice(), votes.as_slice(), hosts)
+            }
+            CallLine::Goodbye { client } => self.say_goodbye(alloc, client.as_slice()),
+            _ => self.happen(alloc, NodeEvent::Call(call)),
+        }
+    }
+
+    /// A call of a key happens; what it leaves is sent and written, and comes to who is to hear it. Answers whether it was
+    /// refused.
+    #[tactic(auto, using(crate::proofs::StepLaws::key_step_done, crate::proofs::StepLaws::step_broke, crate::proofs::StepLaws::step_none, crate::proofs::KeepLaws::keeps_itself))]
+    pub(crate) fn carry_key_call<H: Hosts<C>, K: Sink, L: Link>(
+        &mut self,
+        alloc: Global,
+        key: u32,
+        call: &CallLine,
+        hosts: &mut H,
+        out: &mut K,
+        link: &mut L,
+    ) -> Result<bool, Stop>
+        requires within { self.old.me ≤ 32 }
+        requires plain { IsPlain call.now }
+        ensures done { IfOk result (λ refused. KeySteps (Attend C.stands_for C.script) self.old
+            self.new refused (L.calls link.old) (L.calls link.new) (K.held out.old)
+            (K.held out.new) key call.now) }
+        ensures broke { OnErr result (StepBreaks (Some key) self.old (L.calls link.old)
+            (L.calls link.new) (K.held out.old) (K.held out.new) (Calls call.now)) }
+        ensures same { IsSame self.old self.new }
+        ensures keeps { KeepsLink (L.places link.old) (L.places link.new) (L.opened link.old)
+            (L.opened link.new) (L.faults link.old) (L.faults link.new) }
+        ensures later { K.faults out.old ≤ K.faults out.new }
+        ensures fault { result ≡ Err Stop.WriteFault → Rose (K.faults out.old) (K.faults out.new) }
+    {
+        if self.call_plain(alloc, call, hosts).is_err() {
+            return Err(Stop::NoMemory);
+        }
+        self.settle_for(alloc, Some(key), out, link)
+    }
+
     /// A call happens, and what it leaves is sent and written.
     #[tactic(auto, using(crate::proofs::StepLaws::step_done, crate::proofs::StepLaws::step_broke, crate::proofs::StepLaws::step_none, crate::proofs::KeepLaws::keeps_itself))]
     fn carry_call<H: Hosts<C>, K: Sink, L: Link>(
@@ -140,10 +215,10 @@ impl<C: Callbacks> Running<C> {
     ) -> Result<(), Stop>
         requires { self.old.me ≤ 32 }
         ensures done { OnOk result (StepsAs (AttendWith (H.stand hosts.old) C.stands_for C.script)
-            (AttendWith (H.stand hosts.new) C.stands_for C.script) self.old self.new
+            (AttendWith (H.stand hosts.new) C.stands_for C.script) None self.old self.new
             (L.calls link.old) (L.calls link.new) (K.held out.old) (K.held out.new)
             (Calls call.now)) }
-        ensures broke { OnErr result (StepBreaks self.old (L.calls link.old) (L.calls link.new)
+        ensures broke { OnErr result (StepBreaks None self.old (L.calls link.old) (L.calls link.new)
             (K.held out.old) (K.held out.new) (Calls call.now)) }
         ensures same { IsSame self.old self.new }
         ensures keeps { KeepsLink (L.places link.old) (L.places link.new) (L.opened link.old)

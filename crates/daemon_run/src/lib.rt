@@ -3,6 +3,7 @@
 
 mod calls;
 mod places;
+mod remote;
 mod running;
 mod sending;
 mod serving;
@@ -11,6 +12,6 @@ mod writing;
 
 pub use calls::{Hosts, Objects};
 pub use places::tell_places;
-pub use sending::send_packet;
+pub use sending::{Receiver, send_message, send_packet};
 pub use serving::{Served, Serving, buffer, serve};
 pub use turns::MOST_FAILED;

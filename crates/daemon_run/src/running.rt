@@ -1,7 +1,8 @@
 //! A daemon that runs, and the steps of its node.
-ghost use Rattle.std.specs.Prelude.{◌≡◌, ◌≤◌, OnOk, OnErr, IsTrue, Err};
+ghost use Rattle.std.specs.Prelude.{◌≡◌, ◌≤◌, OnOk, OnErr, IfOk, IsTrue, None, Err, option_map};
 ghost use Rattle.hags_io.specs.Edges.{Rose};
 ghost use Rattle.node_core.specs.Event.{event_in, is_taken};
+ghost use Rattle.remote_clients.specs.Sessions.{noted_all, is_refused};
 ghost use Rattle.daemon_run.specs.Audience.{Attend};
 ghost use Rattle.daemon_run.specs.Keeping.{KeepsLink};
 ghost use Rattle.daemon_run.specs.Doing.{IsSame, Settles, SettlesFront, IsStep, StepsAs, StepBreaks};
@@ -11,13 +12,15 @@ use crate::writing::{Stop, write_records};
 use client_callbacks::Callbacks;
 use hags_io::{Link, Sink};
 use node_core::{Node, NodeEvent};
+use node_state::Happened;
 use piece_link::Joiner;
+use remote_clients::{Sessions, is_refused};
 use rsct_packet::NoMemory;
 use std::alloc::Global;
 
 /// A daemon that runs: the number of its node, which is at most 32, and its incarnation; the node with its clients;
-/// what it joins; the moment of its last tick, or of its start; the number of the next message that it cuts; and how
-/// many receives failed in a row, up to 16.
+/// what it joins; the moment of its last tick, or of its start; the number of the next message that it cuts; how many
+/// receives failed in a row, up to 16; and the sessions of clients on other machines, where it serves them.
 #[derive(Drop)]
 pub struct Running<C: Callbacks> {
     pub me: u8,
@@ -27,19 +30,44 @@ pub struct Running<C: Callbacks> {
     pub last: u64,
     pub number: u64,
     pub failed: u8,
+    pub sessions: Option<Sessions>,
 }
 
 impl<C: Callbacks> Running<C> {
-    /// What the node's last step left is sent, and its lines are written. Where that fails, a front of it was.
-    pub fn settle<K: Sink, L: Link>(
+    /// What a step recorded comes to the clients on other machines that are to hear it, where they are served.
+    /// `calling`: the key whose call the step was, if it was one.
+    fn note(
         &mut self,
         alloc: Global,
+        calling: Option<u32>,
+        records: &[Happened],
+    ) -> Result<(), NoMemory>
+        ensures noted { OnOk result (self.new ≡ record self.old
+            { sessions = option_map (noted_all calling records.now) self.old.sessions }) }
+        ensures same { IsSame self.old self.new }
+    {
+        match &mut self.sessions {
+            None => Ok(()),
+            Some(sessions) => sessions.note_all(alloc, calling, records),
+        }
+    }
+
+    /// What the node's last step left is sent, its lines are written, and come to the clients on other machines that are
+    /// to hear them. Where that fails, a front of it was. `calling`: the key whose call the step was, if it was one.
+    /// Answers whether a call was refused in it.
+    #[tactic(auto, using(crate::proofs::WentLaws::all_went, crate::proofs::GoesLaws::all_front))]
+    pub fn settle_for<K: Sink, L: Link>(
+        &mut self,
+        alloc: Global,
+        calling: Option<u32>,
         out: &mut K,
         link: &mut L,
-    ) -> Result<(), Stop>
+    ) -> Result<bool, Stop>
         requires { self.old.me ≤ 32 }
-        ensures done { OnOk result (Settles self.old self.new (L.calls link.old) (L.calls link.new)
-            (K.held out.old) (K.held out.new)) }
+        ensures done { OnOk result (Settles calling self.old self.new (L.calls link.old)
+            (L.calls link.new) (K.held out.old) (K.held out.new)) }
+        ensures refused { IfOk result (λ refused. refused
+            ≡ is_refused self.old.node.core.records) }
         ensures broke { OnErr result (SettlesFront self.old (L.calls link.old) (L.calls link.new)
             (K.held out.old) (K.held out.new)) }
         ensures same { IsSame self.old self.new }
@@ -55,7 +83,33 @@ impl<C: Callbacks> Running<C> {
         if send_packets(alloc, me, incarnation, number, sends.as_slice(), link).is_err() {
             return Err(Stop::NoMemory);
         }
-        write_records(alloc, records.as_slice(), out)
+        write_records(alloc, records.as_slice(), out)?;
+        if self.note(alloc, calling, records.as_slice()).is_err() {
+            return Err(Stop::NoMemory);
+        }
+        Ok(is_refused(records.as_slice()))
+    }
+
+    /// The same for a step that was no call of a client on another machine.
+    pub fn settle<K: Sink, L: Link>(
+        &mut self,
+        alloc: Global,
+        out: &mut K,
+        link: &mut L,
+    ) -> Result<(), Stop>
+        requires { self.old.me ≤ 32 }
+        ensures done { OnOk result (Settles None self.old self.new (L.calls link.old)
+            (L.calls link.new) (K.held out.old) (K.held out.new)) }
+        ensures broke { OnErr result (SettlesFront self.old (L.calls link.old) (L.calls link.new)
+            (K.held out.old) (K.held out.new)) }
+        ensures same { IsSame self.old self.new }
+        ensures keeps { KeepsLink (L.places link.old) (L.places link.new) (L.opened link.old)
+            (L.opened link.new) (L.faults link.old) (L.faults link.new) }
+        ensures later { K.faults out.old ≤ K.faults out.new }
+        ensures fault { result ≡ Err Stop.WriteFault → Rose (K.faults out.old) (K.faults out.new) }
+    {
+        let _refused = self.settle_for(alloc, None, out, link)?;
+        Ok(())
     }
 
     /// An event happens to the node.
@@ -83,9 +137,9 @@ impl<C: Callbacks> Running<C> {
         requires within { self.old.me ≤ 32 }
         requires taken { IsTrue (is_taken event) }
         ensures done { OnOk result (StepsAs (Attend C.stands_for C.script)
-            (Attend C.stands_for C.script) self.old self.new (L.calls link.old) (L.calls link.new)
-            (K.held out.old) (K.held out.new) (event_in event.entry)) }
-        ensures broke { OnErr result (StepBreaks self.old (L.calls link.old) (L.calls link.new)
+            (Attend C.stands_for C.script) None self.old self.new (L.calls link.old)
+            (L.calls link.new) (K.held out.old) (K.held out.new) (event_in event.entry)) }
+        ensures broke { OnErr result (StepBreaks None self.old (L.calls link.old) (L.calls link.new)
             (K.held out.old) (K.held out.new) (event_in event.entry)) }
         ensures same { IsSame self.old self.new }
         ensures keeps { KeepsLink (L.places link.old) (L.places link.new) (L.opened link.old)

@@ -2,7 +2,8 @@
 ghost use Rattle.std.specs.Prelude.{◌≡◌, ◌≤◌, ◌∷◌, [], map, OnOk, OnErr, IfOk};
 ghost use Rattle.hags_io.specs.Links.{Same};
 ghost use Rattle.node_state.specs.Bytes.{bytes_of};
-ghost use Rattle.daemon_model.specs.Sent.{piece_call, packet_calls, number_past, carried_calls, number_over, sent_calls, number_after, Went, WentFront};
+ghost use Rattle.piece_link.specs.Pieces.{can_cut};
+ghost use Rattle.daemon_model.specs.Sent.{piece_to, number_if, message_calls, packet_calls, number_past, carried_calls, number_over, sent_calls, number_after, Went, WentFront};
 ghost use Rattle.daemon_run.specs.Keeping.{KeepsLink};
 
 use hags_io::{Link, Put};
@@ -12,36 +13,75 @@ use piece_link::cut;
 use rsct_packet::NoMemory;
 use std::alloc::Global;
 
-/// Sends a piece of a packet. One that the link fails to send is lost.
+/// To which node something is sent, and on which network. Node 0 is the sender of the datagram that came last.
+#[derive(Clone, Copy, Debug, PartialEq, Eq)]
+pub struct Receiver {
+    pub node: u8,
+    pub network: u8,
+}
+
+/// Sends a piece. One that the link fails to send is lost.
 #[tactic(auto, using(crate::proofs::WentLaws::went_one, crate::proofs::KeepLaws::keeps_link))]
-fn send_piece<L: Link>(link: &mut L, packet: &Packet, piece: &[u8]) -> Result<(), NoMemory>
+fn send_piece<L: Link>(link: &mut L, to: Receiver, piece: &[u8]) -> Result<(), NoMemory>
     ensures done { OnOk result (Went (L.calls link.old) (L.calls link.new)
-        (piece_call packet.now piece.now ∷ [])) }
+        (piece_to to.node to.network piece.now ∷ [])) }
     ensures broke { OnErr result (Same (L.calls link.old) (L.calls link.new)) }
     ensures keeps { KeepsLink (L.places link.old) (L.places link.new) (L.opened link.old)
         (L.opened link.new) (L.faults link.old) (L.faults link.new) }
 {
-    match link.send(packet.to, packet.network, piece) {
+    match link.send(to.node, to.network, piece) {
         Put::Done => Ok(()),
         Put::Failed => Ok(()),
         Put::NoMemory => Err(NoMemory),
     }
 }
 
-/// Sends pieces of a packet, in this order.
+/// Sends pieces, in this order.
 #[tactic(auto, using(crate::proofs::WentLaws::to_begin, crate::proofs::WentLaws::piece_next, crate::proofs::WentLaws::piece_front, crate::proofs::WentLaws::pieces_done, crate::proofs::KeepLaws::keeps_itself, crate::proofs::KeepLaws::keeps_on))]
-fn send_pieces<L: Link>(link: &mut L, packet: &Packet, pieces: &[Vec<u8>]) -> Result<(), NoMemory>
+fn send_pieces<L: Link>(link: &mut L, to: Receiver, pieces: &[Vec<u8>]) -> Result<(), NoMemory>
     ensures done { OnOk result (Went (L.calls link.old) (L.calls link.new)
-        (map (piece_call packet.now) (map (λ d. d.items) pieces.now))) }
+        (map (piece_to to.node to.network) (map (λ d. d.items) pieces.now))) }
     ensures broke { OnErr result (WentFront (L.calls link.old) (L.calls link.new)
-        (map (piece_call packet.now) (map (λ d. d.items) pieces.now))) }
+        (map (piece_to to.node to.network) (map (λ d. d.items) pieces.now))) }
     ensures keeps { KeepsLink (L.places link.old) (L.places link.new) (L.opened link.old)
         (L.opened link.new) (L.faults link.old) (L.faults link.new) }
 {
     for piece in pieces {
-        send_piece(link, packet, piece.as_slice())?;
+        send_piece(link, to, piece.as_slice())?;
     }
     Ok(())
+}
+
+/// Sends a message of this number, which is raised. One that is too long to cut is lost, and takes no number. A number
+/// past the last one counts as want of memory.
+#[tactic(auto, using(crate::proofs::WentLaws::none_went, crate::proofs::WentLaws::message_lost, crate::proofs::WentLaws::number_lost, crate::proofs::WentLaws::message_sent, crate::proofs::WentLaws::number_sent, crate::proofs::WentLaws::message_front, crate::proofs::KeepLaws::keeps_itself))]
+pub fn send_message<L: Link>(
+    alloc: Global,
+    me: u8,
+    incarnation: u32,
+    number: &mut u64,
+    to: Receiver,
+    message: &[u8],
+    link: &mut L,
+) -> Result<(), NoMemory>
+    requires { me ≤ 32 }
+    ensures done { OnOk result (Went (L.calls link.old) (L.calls link.new)
+        (message_calls me incarnation number.old to.node to.network message.now)) }
+    ensures number { OnOk result (number.new ≡ number_if (can_cut message.now) number.old) }
+    ensures broke { OnErr result (WentFront (L.calls link.old) (L.calls link.new)
+        (message_calls me incarnation number.old to.node to.network message.now)) }
+    ensures keeps { KeepsLink (L.places link.old) (L.places link.new) (L.opened link.old)
+        (L.opened link.new) (L.faults link.old) (L.faults link.new) }
+{
+    let Some(next) = number.checked_add(1) else {
+        return Err(NoMemory);
+    };
+    let mut pieces = Vec::new(alloc);
+    if !cut(alloc, &mut pieces, me, incarnation, *number, message)? {
+        return Ok(());
+    }
+    *number = next;
+    send_pieces(link, to, pieces.as_slice())
 }
 
 /// The bytes of a packet. One that has no spelling, since its numbers, lists or texts pass what its fields can hold,
@@ -59,7 +99,7 @@ fn bytes_of(alloc: Global, packet: &Packet) -> Result<Vec<u8>, NoMemory>
 
 /// Sends a packet as the message of this number, which is raised. One that is too long to cut is lost, and takes no
 /// number. A number past the last one counts as want of memory.
-#[tactic(auto, using(crate::proofs::WentLaws::none_went, crate::proofs::WentLaws::packet_lost, crate::proofs::WentLaws::number_lost, crate::proofs::WentLaws::packet_sent, crate::proofs::WentLaws::number_sent, crate::proofs::WentLaws::packet_front, crate::proofs::KeepLaws::keeps_itself))]
+#[tactic(auto, using(crate::proofs::WentLaws::none_went, crate::proofs::WentLaws::packet_went, crate::proofs::WentLaws::packet_number, crate::proofs::WentLaws::packet_front, crate::proofs::KeepLaws::keeps_itself))]
 pub fn send_packet<L: Link>(
     alloc: Global,
     me: u8,
@@ -77,23 +117,12 @@ pub fn send_packet<L: Link>(
     ensures keeps { KeepsLink (L.places link.old) (L.places link.new) (L.opened link.old)
         (L.opened link.new) (L.faults link.old) (L.faults link.new) }
 {
-    let Some(next) = number.checked_add(1) else {
-        return Err(NoMemory);
-    };
     let bytes = bytes_of(alloc, packet)?;
-    let mut pieces = Vec::new(alloc);
-    if !cut(
-        alloc,
-        &mut pieces,
-        me,
-        incarnation,
-        *number,
-        bytes.as_slice(),
-    )? {
-        return Ok(());
-    }
-    *number = next;
-    send_pieces(link, packet, pieces.as_slice())
+    let to = Receiver {
+        node: packet.to,
+        network: packet.network,
+    };
+    send_message(alloc, me, incarnation, number, to, bytes.as_slice(), link)
 }
 
 /// Sends a packet as the message of this number, which is raised. One to a node that no network joins with this one is

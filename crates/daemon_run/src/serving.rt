@@ -3,6 +3,7 @@ ghost use Rattle.std.specs.Prelude.{◌≡◌, ◌≤◌, ◌+◌, ◌↔◌, �
 ghost use Rattle.hags_io.specs.Edges.{Rose};
 ghost use Rattle.hags_io.specs.Links.{Tells};
 ghost use Rattle.node_state.specs.Step.{at_work};
+ghost use Rattle.daemon_model.specs.Daemon.{sessions_if};
 ghost use Rattle.daemon_model.specs.Settings.{all_places};
 ghost use Rattle.daemon_model.specs.Lives.{ServesAs, ServesTo, ServesFront};
 ghost use Rattle.daemon_run.specs.Keeping.{KeepsLink};
@@ -19,17 +20,19 @@ use client_callbacks::Callbacks;
 use hags_io::{Clock, Link, Sink};
 use node_core::Node;
 use piece_link::Joiner;
+use remote_clients::Sessions;
 use rsct_packet::NoMemory;
 use std::alloc::Global;
 use world_model::Script;
 
 /// Which daemon it is, and how long it runs: the number of its node (1 to 32), its incarnation and how many turns it
-/// does (each at least 1).
+/// does (each at least 1); and whether it serves clients on other machines.
 #[derive(Clone, Copy, Debug, PartialEq, Eq)]
 pub struct Serving {
     pub me: u8,
     pub incarnation: u32,
     pub turns: u32,
+    pub remote: bool,
 }
 
 /// How a daemon ended: its status, and its node with its clients where it did all its turns.
@@ -46,6 +49,17 @@ pub fn buffer(alloc: Global, len: usize) -> Result<Vec<u8>, NoMemory>
     Ok(vec![in alloc; 0u8; len]?)
 }
 
+/// The sessions of clients on other machines, where they are served.
+fn sessions_if(alloc: Global, serving: Serving) -> Option<Sessions>
+    ensures { result ≡ sessions_if serving.remote serving.incarnation }
+{
+    if serving.remote {
+        Some(Sessions::new(alloc, serving.incarnation))
+    } else {
+        None
+    }
+}
+
 /// A daemon whose node has just started.
 fn started<C: Callbacks>(
     alloc: Global,
@@ -53,8 +67,8 @@ fn started<C: Callbacks>(
     serving: Serving,
     moment: u64,
 ) -> Result<Running<C>, NoMemory>
-    ensures { IfOk result (λ r. r ≡ fresh_running script.now.config serving.me serving.incarnation
-        moment) }
+    ensures { IfOk result (λ r. r ≡ fresh_running serving.remote script.now.config serving.me
+        serving.incarnation moment) }
 {
     Ok(Running {
         me: serving.me,
@@ -64,6 +78,7 @@ fn started<C: Callbacks>(
         last: moment,
         number: 1,
         failed: 0,
+        sessions: sessions_if(alloc, serving),
     })
 }
 
@@ -81,11 +96,12 @@ fn begin<C: Callbacks, H: Hosts<C>, K: Sink, L: Link>(
     requires { serving.me ≤ 32 }
     ensures done { IfOk result (λ r. BeginsAs
         (AttendWith (H.stand hosts.old) C.stands_for C.script)
-        (AttendWith (H.stand hosts.new) C.stands_for C.script) script.now serving.me
+        (AttendWith (H.stand hosts.new) C.stands_for C.script) serving.remote script.now serving.me
         serving.incarnation moment r (L.calls link.old) (L.calls link.new) (K.held out.old)
         (K.held out.new)) }
-    ensures broke { OnErr result (BeginBreaks script.now serving.me serving.incarnation moment
-        (L.calls link.old) (L.calls link.new) (K.held out.old) (K.held out.new)) }
+    ensures broke { OnErr result (BeginBreaks serving.remote script.now serving.me
+        serving.incarnation moment (L.calls link.old) (L.calls link.new) (K.held out.old)
+        (K.held out.new)) }
     ensures within { IfOk result (λ r. r.me ≤ 32) }
     ensures keeps { KeepsLink (L.places link.old) (L.places link.new) (L.opened link.old)
         (L.opened link.new) (L.faults link.old) (L.faults link.new) }
@@ -113,37 +129,33 @@ fn live<C: Callbacks, H: Hosts<C>, K: Sink, L: Link, M: Clock>(
 ) -> Result<Node<C>, Ending>
     requires { serving.me ≤ 32 }
     ensures done { IfOk result (λ node. ServesAs script.now serving.me serving.incarnation
-        serving.turns (at_work node.core) (L.calls link.old) (L.calls link.new) (K.held out.old)
-        (K.held out.new) (M.moments clock.old) (M.moments clock.new)) }
+        serving.remote serving.turns (at_work node.core) (L.calls link.old) (L.calls link.new)
+        (K.held out.old) (K.held out.new) (M.moments clock.old) (M.moments clock.new)) }
     ensures hands { IfOk result (λ node. HandsOver (H.stand hosts.old)
-        C.stands_for C.script script.now serving.me serving.incarnation serving.turns node
-        (L.calls link.old) (L.calls link.new) (K.held out.old) (K.held out.new)
-        (M.moments clock.old) (M.moments clock.new)) }
+        C.stands_for C.script script.now serving.me serving.incarnation serving.remote
+        serving.turns node (L.calls link.old) (L.calls link.new) (K.held out.old)
+        (K.held out.new) (M.moments clock.old) (M.moments clock.new)) }
     ensures ended { result ≡ Err Ending.LinkFault → ServesTo script.now serving.me
-        serving.incarnation serving.turns (L.calls link.old) (L.calls link.new) (K.held out.old)
-        (K.held out.new) (M.moments clock.old) (M.moments clock.new) }
+        serving.incarnation serving.remote serving.turns (L.calls link.old) (L.calls link.new)
+        (K.held out.old) (K.held out.new) (M.moments clock.old) (M.moments clock.new) }
     ensures written { result ≡ Err Ending.WriteFault → ServesFront script.now serving.me
-        serving.incarnation serving.turns (L.calls link.old) (L.calls link.new) (K.held out.old)
-        (K.held out.new) (M.moments clock.old) (M.moments clock.new) }
+        serving.incarnation serving.remote serving.turns (L.calls link.old) (L.calls link.new)
+        (K.held out.old) (K.held out.new) (M.moments clock.old) (M.moments clock.new) }
     ensures memory { result ≡ Err Ending.NoMemory → ServesFront script.now serving.me
-        serving.incarnation serving.turns (L.calls link.old) (L.calls link.new) (K.held out.old)
-        (K.held out.new) (M.moments clock.old) (M.moments clock.new) }
+        serving.incarnation serving.remote serving.turns (L.calls link.old) (L.calls link.new)
+        (K.held out.old) (K.held out.new) (M.moments clock.old) (M.moments clock.new) }
     ensures keeps { KeepsLink (L.places link.old) (L.places link.new) (L.opened link.old)
         (L.opened link.new) (L.faults link.old) (L.faults link.new) }
     ensures fault { result ≡ Err Ending.WriteFault → Rose (K.faults out.old) (K.faults out.new) }
     ensures failed { result ≡ Err Ending.LinkFault → Rose (L.faults link.old) (L.faults link.new) }
 {
     let moment = clock.now();
-    let Ok(mut room) = buffer(alloc, 65536) else {
-        return Err(Ending::NoMemory);
-    };
     let mut running = match begin::<C, H, K, L>(alloc, script, serving, moment, hosts, out, link) {
         Ok(running) => running,
         Err(Stop::WriteFault) => return Err(Ending::WriteFault),
         Err(Stop::NoMemory) => return Err(Ending::NoMemory),
     };
-    let buf = room.as_mut_slice();
-    match running.serve_turns(alloc, serving.turns, buf, out, link, clock) {
+    match running.serve_turns(alloc, serving.turns, hosts, out, link, clock) {
         Ok(()) => {
             let Running { node, .. } = running;
             Ok(node)
@@ -193,22 +205,23 @@ pub fn serve<C: Callbacks, H: Hosts<C>, K: Sink, L: Link, M: Clock>(
     ensures opened { Opens (L.opened link.old) (L.opened link.new)
         (script.now.config.port + serving.me) result.status (NothingDone (L.calls link.old)
         (L.calls link.new) (K.held out.old) (K.held out.new) (M.moments clock.old)
-        (M.moments clock.new)) (ServesTo script.now serving.me serving.incarnation serving.turns
-        (L.calls link.old) (L.calls link.new) (K.held out.old) (K.held out.new)
+        (M.moments clock.new)) (ServesTo script.now serving.me serving.incarnation serving.remote
+        serving.turns (L.calls link.old) (L.calls link.new) (K.held out.old) (K.held out.new)
         (M.moments clock.old) (M.moments clock.new)) }
     ensures served { result.status ≡ 0 → IfSome result.node (λ node. ServesAs script.now serving.me
-        serving.incarnation serving.turns (at_work node.core) (L.calls link.old) (L.calls link.new)
-        (K.held out.old) (K.held out.new) (M.moments clock.old) (M.moments clock.new)) }
+        serving.incarnation serving.remote serving.turns (at_work node.core) (L.calls link.old)
+        (L.calls link.new) (K.held out.old) (K.held out.new) (M.moments clock.old)
+        (M.moments clock.new)) }
     ensures hands { result.status ≡ 0 → IfSome result.node (λ node. HandsOver (H.stand hosts.old)
-        C.stands_for C.script script.now serving.me serving.incarnation serving.turns node
-        (L.calls link.old) (L.calls link.new) (K.held out.old) (K.held out.new)
-        (M.moments clock.old) (M.moments clock.new)) }
+        C.stands_for C.script script.now serving.me serving.incarnation serving.remote
+        serving.turns node (L.calls link.old) (L.calls link.new) (K.held out.old)
+        (K.held out.new) (M.moments clock.old) (M.moments clock.new)) }
     ensures memory { result.status ≡ 3 → ServesFront script.now serving.me serving.incarnation
-        serving.turns (L.calls link.old) (L.calls link.new) (K.held out.old) (K.held out.new)
-        (M.moments clock.old) (M.moments clock.new) }
+        serving.remote serving.turns (L.calls link.old) (L.calls link.new) (K.held out.old)
+        (K.held out.new) (M.moments clock.old) (M.moments clock.new) }
     ensures written { result.status ≡ 5 → ServesFront script.now serving.me serving.incarnation
-        serving.turns (L.calls link.old) (L.calls link.new) (K.held out.old) (K.held out.new)
-        (M.moments clock.old) (M.moments clock.new) }
+        serving.remote serving.turns (L.calls link.old) (L.calls link.new) (K.held out.old)
+        (K.held out.new) (M.moments clock.old) (M.moments clock.new) }
     ensures write_fault { result.status ≡ 5 → Rose (K.faults out.old) (K.faults out.new) }
     ensures link_fault { result.status ≡ 6 → Rose (L.faults link.old) (L.faults link.new) }
     ensures statuses { (result.status ≡ 0) ⊎ (result.status ≡ 3) ⊎ (result.status ≡ 5)

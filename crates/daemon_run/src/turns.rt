@@ -1,12 +1,14 @@
 //! The turns of a daemon.
-ghost use Rattle.std.specs.Prelude.{◌≡◌, ◌≤◌, ◌<◌, OnOk, OnErr, Some, Err, length};
+ghost use Rattle.std.specs.Prelude.{◌≡◌, ◌≤◌, ◌<◌, OnOk, OnErr, Err, length};
 ghost use Rattle.hags_io.specs.Edges.{Rose};
 ghost use Rattle.daemon_run.specs.Audience.{Attend};
 ghost use Rattle.daemon_run.specs.Keeping.{KeepsLink};
-ghost use Rattle.daemon_run.specs.Doing.{IsSame, TicksAs, TickBreaks, GivesAs, GiveBreaks, TakesAs, TakeBreaks, HearsAs, HearBreaks, TurnsAs, TurnBreaks};
+ghost use Rattle.daemon_run.specs.Doing.{IsSame, TicksAs, TickBreaks, TakesAs, TakeBreaks, HearsAs, HearBreaks, TurnsAs, TurnBreaks};
 ghost use Rattle.daemon_run.specs.Serving.{TurnsDone, TurnsEnded, TurnsBroken};
 
+use crate::calls::Hosts;
 use crate::running::Running;
+use crate::serving::buffer;
 use crate::writing::Stop;
 use client_callbacks::Callbacks;
 use hags_io::{Clock, Got, Link, Sink};
@@ -56,45 +58,23 @@ impl<C: Callbacks> Running<C> {
         Ok(())
     }
 
-    /// A whole message: one for the node.
-    #[tactic(auto, using(crate::proofs::TurnLaws::give_done, crate::proofs::TurnLaws::give_broke))]
-    fn give<K: Sink, L: Link>(
-        &mut self,
-        alloc: Global,
-        message: &[u8],
-        out: &mut K,
-        link: &mut L,
-    ) -> Result<(), Stop>
-        requires { self.old.me ≤ 32 }
-        ensures done { OnOk result (GivesAs (Attend C.stands_for C.script) self.old self.new
-            (L.calls link.old) (L.calls link.new)
-            (K.held out.old) (K.held out.new) (Some message.now)) }
-        ensures broke { OnErr result (GiveBreaks self.old (L.calls link.old) (L.calls link.new)
-            (K.held out.old) (K.held out.new) (Some message.now)) }
-        ensures same { IsSame self.old self.new }
-        ensures keeps { KeepsLink (L.places link.old) (L.places link.new) (L.opened link.old)
-            (L.opened link.new) (L.faults link.old) (L.faults link.new) }
-        ensures later { K.faults out.old ≤ K.faults out.new }
-        ensures fault { result ≡ Err Stop.WriteFault → Rose (K.faults out.old) (K.faults out.new) }
-    {
-        self.step(alloc, NodeEvent::Datagram(message), out, link)
-    }
-
     /// A datagram is joined, and the message that is whole by it is given.
     #[tactic(auto, using(crate::proofs::TurnLaws::take_done, crate::proofs::TurnLaws::take_broke, crate::proofs::TurnLaws::take_none, crate::proofs::TurnLaws::give_nothing, crate::proofs::KeepLaws::keeps_itself))]
-    fn take<K: Sink, L: Link>(
+    fn take<H: Hosts<C>, K: Sink, L: Link>(
         &mut self,
         alloc: Global,
         datagram: &[u8],
+        network: u8,
+        hosts: &mut H,
         out: &mut K,
         link: &mut L,
     ) -> Result<(), Stop>
         requires { self.old.me ≤ 32 }
         ensures done { OnOk result (TakesAs (Attend C.stands_for C.script) self.old self.new
             (L.calls link.old) (L.calls link.new)
-            (K.held out.old) (K.held out.new) datagram.now) }
+            (K.held out.old) (K.held out.new) network datagram.now) }
         ensures broke { OnErr result (TakeBreaks self.old (L.calls link.old) (L.calls link.new)
-            (K.held out.old) (K.held out.new) datagram.now) }
+            (K.held out.old) (K.held out.new) network datagram.now) }
         ensures same { IsSame self.old self.new }
         ensures keeps { KeepsLink (L.places link.old) (L.places link.new) (L.opened link.old)
             (L.opened link.new) (L.faults link.old) (L.faults link.new) }
@@ -102,7 +82,7 @@ impl<C: Callbacks> Running<C> {
         ensures fault { result ≡ Err Stop.WriteFault → Rose (K.faults out.old) (K.faults out.new) }
     {
         match self.joiner.take(alloc, datagram) {
-            Ok(Some(message)) => self.give(alloc, message.as_slice(), out, link),
+            Ok(Some(message)) => self.give(alloc, message.as_slice(), network, hosts, out, link),
             Ok(None) => Ok(()),
             Err(_) => Err(Stop::NoMemory),
         }
@@ -110,10 +90,11 @@ impl<C: Callbacks> Running<C> {
 
     /// A receive, with what comes of it.
     #[tactic(auto, using(crate::proofs::TurnLaws::hear_done, crate::proofs::TurnLaws::hear_broke, crate::proofs::TurnLaws::hear_quiet, crate::proofs::TurnLaws::hear_failed, crate::proofs::TurnLaws::hear_none, crate::proofs::KeepLaws::keeps_link, crate::proofs::KeepLaws::keeps_on))]
-    fn hear<K: Sink, L: Link>(
+    fn hear<H: Hosts<C>, K: Sink, L: Link>(
         &mut self,
         alloc: Global,
         buf: &mut [u8],
+        hosts: &mut H,
         out: &mut K,
         link: &mut L,
     ) -> Result<(), Stop>
@@ -134,9 +115,9 @@ impl<C: Callbacks> Running<C> {
         ensures fault { result ≡ Err Stop.WriteFault → Rose (K.faults out.old) (K.faults out.new) }
     {
         match link.recv(buf) {
-            Got::Datagram(len, _) => {
+            Got::Datagram(len, network) => {
                 self.failed = 0;
-                self.take(alloc, &buf[..len], out, link)
+                self.take(alloc, &buf[..len], network, hosts, out, link)
             }
             Got::Quiet => {
                 self.failed = 0;
@@ -152,10 +133,11 @@ impl<C: Callbacks> Running<C> {
 
     /// A turn: the clock is read, the node ticks where it is due, and one receive.
     #[tactic(auto, using(crate::proofs::TurnLaws::turn_done, crate::proofs::TurnLaws::turn_broke, crate::proofs::TurnLaws::turn_ends, crate::proofs::KeepLaws::keeps_on))]
-    fn turn<K: Sink, L: Link, M: Clock>(
+    fn turn<H: Hosts<C>, K: Sink, L: Link, M: Clock>(
         &mut self,
         alloc: Global,
         buf: &mut [u8],
+        hosts: &mut H,
         out: &mut K,
         link: &mut L,
         clock: &mut M,
@@ -178,22 +160,21 @@ impl<C: Callbacks> Running<C> {
     {
         let moment = clock.now();
         self.tick_if_due(alloc, moment, out, link)?;
-        self.hear(alloc, buf, out, link)
+        self.hear(alloc, buf, hosts, out, link)
     }
 
     /// So many turns; fewer where 16 receives fail in a row.
-    #[tactic(auto, using(crate::proofs::ServeLaws::turns_none, crate::proofs::ServeLaws::turns_next, crate::proofs::ServeLaws::turns_ended, crate::proofs::ServeLaws::turns_broken, crate::proofs::ServeLaws::turns_all, crate::proofs::KeepLaws::keeps_itself, crate::proofs::KeepLaws::keeps_on))]
-    pub fn serve_turns<K: Sink, L: Link, M: Clock>(
+    #[tactic(auto, using(crate::proofs::ServeLaws::turns_none, crate::proofs::ServeLaws::turns_unbegun, crate::proofs::ServeLaws::turns_next, crate::proofs::ServeLaws::turns_ended, crate::proofs::ServeLaws::turns_broken, crate::proofs::ServeLaws::turns_all, crate::proofs::KeepLaws::keeps_itself, crate::proofs::KeepLaws::keeps_on))]
+    pub fn serve_turns<H: Hosts<C>, K: Sink, L: Link, M: Clock>(
         &mut self,
         alloc: Global,
         turns: u32,
-        buf: &mut [u8],
+        hosts: &mut H,
         out: &mut K,
         link: &mut L,
         clock: &mut M,
     ) -> Result<(), Ending>
-        requires within { self.old.me ≤ 32 }
-        requires room { 65536 ≤ length buf.old }
+        requires { self.old.me ≤ 32 }
         ensures done { OnOk result (TurnsDone (Attend C.stands_for C.script) self.old self.new
             turns (L.calls link.old) (L.calls link.new) (K.held out.old) (K.held out.new)
             (M.moments clock.old) (M.moments clock.new)) }
@@ -214,8 +195,12 @@ impl<C: Callbacks> Running<C> {
         ensures failed { result ≡ Err Ending.LinkFault
             → Rose (L.faults link.old) (L.faults link.new) }
     {
+        let Ok(mut room) = buffer(alloc, 65536) else {
+            return Err(Ending::NoMemory);
+        };
+        let buf = room.as_mut_slice();
         for _ in 0..turns {
-            match self.turn(alloc, buf, out, link, clock) {
+            match self.turn(alloc, buf, hosts, out, link, clock) {
                 Ok(()) => {}
                 Err(Stop::WriteFault) => return Err(Ending::WriteFault),
                 Err(Stop::NoMemory) => return Err(Ending::NoMemory),

@@ -34,6 +34,8 @@ serves_settings ending.WriteFault s objects n x is still touched h = absurd h
 serves_settings ending.LinkFault s objects n x is still touched h = absurd h
 serves_settings ending.TooMuchKept s objects n x is still touched h = absurd h
 serves_settings ending.NoReply s objects n x is still touched h = absurd h
+serves_settings ending.SessionLost s objects n x is still touched h = absurd h
+serves_settings ending.DaemonFull s objects n x is still touched h = absurd h
 
 pub asks_settings : (e : Ending) (a : Asking) (x : Seen) → x.now ≡ x.held → Untouched x → SettingsEnd a.node None x.left x.reads x.reads_now e → EndsAs e (Some (asks a)) x
 asks_settings ending.Done a x still touched h = absurd h
@@ -45,6 +47,8 @@ asks_settings ending.WriteFault a x still touched h = absurd h
 asks_settings ending.LinkFault a x still touched h = absurd h
 asks_settings ending.TooMuchKept a x still touched h = absurd h
 asks_settings ending.NoReply a x still touched h = absurd h
+asks_settings ending.SessionLost a x still touched h = absurd h
+asks_settings ending.DaemonFull a x still touched h = absurd h
 
 -- ---- a question
 
@@ -62,6 +66,8 @@ asks_answered ending.WriteFault a x s text spelled end placed asked h = (h.0, re
 asks_answered ending.LinkFault a x s text spelled end placed asked h = absurd h
 asks_answered ending.TooMuchKept a x s text spelled end placed asked h = absurd h
 asks_answered ending.NoReply a x s text spelled end placed asked h = absurd h
+asks_answered ending.SessionLost a x s text spelled end placed asked h = absurd h
+asks_answered ending.DaemonFull a x s text spelled end placed asked h = absurd h
 
 pub asks_unanswered : (a : Asking) (x : Seen) (s : Script) → x.now ≡ x.held → IfSome x.left (λ b. daemon_script a.node None b ≡ IsScript s) → Tells x.places x.places_now (all_places s.config) → AsksOver x a (GivesNone x a) s.config
     → EndsAs ending.NoReply (Some (asks a)) x
@@ -83,12 +89,12 @@ pub opens_as : (o r : Option (Option (ℕ × Bool))) (port n m : ℕ) (N P : Typ
 opens_as o r port n m N P is h = subst (λ (k : ℕ). Opens o r port k N P) is h
 
 some_served : {C : Type 0} (script : Script) (serving : Serving) (node : Option (NodeView C)) (a b : Option (List LinkCall)) (y z u v : Option (List ℕ)) → IsTrue (is_some node)
-    → IfSome node (λ n. ServesAs script serving.me serving.incarnation serving.turns (at_work n.core) a b y z u v) → IsServed script serving a b y z u v
+    → IfSome node (λ n. ServesAs script serving.me serving.incarnation serving.remote serving.turns (at_work n.core) a b y z u v) → IsServed script serving a b y z u v
 some_served script serving None a b y z u v some h = let no : false ≡ true = some in absurd (cc)
 some_served script serving (Some n) a b y z u v some h = record { core = at_work n.core; serves = h }
 
 pub is_served : {C : Type 0} (script : Script) (serving : Serving) (status : ℕ) (node : Option (NodeView C)) (a b : Option (List LinkCall)) (y z u v : Option (List ℕ)) → status ≡ 0 → (IsTrue (is_some node) ↔ (status ≡ 0))
-    → (status ≡ 0 → IfSome node (λ n. ServesAs script serving.me serving.incarnation serving.turns (at_work n.core) a b y z u v)) → IsServed script serving a b y z u v
+    → (status ≡ 0 → IfSome node (λ n. ServesAs script serving.me serving.incarnation serving.remote serving.turns (at_work n.core) a b y z u v)) → IsServed script serving a b y z u v
 is_served script serving status node a b y z u v done some h = some_served script serving node a b y z u v (some.1 done) (h done)
 
 -- which daemon ran
@@ -108,23 +114,24 @@ opened_as e port o r N P other h = by h.done refl
 -- it ended as it does, over settings that are those of the input
 record Ran (e : Ending) (script : Script) (serving : Serving) (x : Seen) (moments : Option (List ℕ)) : Type 0 where
   pub opened : Opens x.opened x.opened_now (port_at script serving) (status_of e) (NothingDone x.calls x.calls_now x.held x.now moments x.moments_now)
-      (ServesTo script serving.me serving.incarnation serving.turns x.calls x.calls_now x.held x.now moments x.moments_now)
+      (ServesTo script serving.me serving.incarnation serving.remote serving.turns x.calls x.calls_now x.held x.now moments x.moments_now)
   pub done : e ≡ ending.Done → IsServed script serving x.calls x.calls_now x.held x.now moments x.moments_now
-  pub memory : e ≡ ending.NoMemory → ServesFront script serving.me serving.incarnation serving.turns x.calls x.calls_now x.held x.now moments x.moments_now
-  pub write : e ≡ ending.WriteFault → ServesFront script serving.me serving.incarnation serving.turns x.calls x.calls_now x.held x.now moments x.moments_now
+  pub memory : e ≡ ending.NoMemory → ServesFront script serving.me serving.incarnation serving.remote serving.turns x.calls x.calls_now x.held x.now moments x.moments_now
+  pub write : e ≡ ending.WriteFault → ServesFront script serving.me serving.incarnation serving.remote serving.turns x.calls x.calls_now x.held x.now moments x.moments_now
   pub write_fault : e ≡ ending.WriteFault → Rose x.writes x.writes_now
   pub link_fault : e ≡ ending.LinkFault → Rose x.faults x.faults_now
   pub endings : ServedAs e
 
-module _ (s : Service) (objects : ℕ) (x : Seen) (script : Script) (serving : Serving) (moments : Option (List ℕ)) (me : serving.me ≡ s.node) (turns : serving.turns ≡ s.turns) (is : IsRunning x s objects (ran_as script serving moments)) where
-  part : (e : Ending) → (status_of e ≡ 6 → ⊥) → Ran e script serving x moments → ServesFront script serving.me serving.incarnation serving.turns x.calls x.calls_now x.held x.now moments x.moments_now → Runs x s objects (ServesPart x s)
+module _ (s : Service) (objects : ℕ) (x : Seen) (script : Script) (serving : Serving) (moments : Option (List ℕ)) (me : serving.me ≡ s.node) (turns : serving.turns ≡ s.turns) (remote : serving.remote ≡ s.remote) (is : IsRunning x s objects (ran_as script serving moments)) where
+  part : (e : Ending) → (status_of e ≡ 6 → ⊥) → Ran e script serving x moments → ServesFront script serving.me serving.incarnation serving.remote serving.turns x.calls x.calls_now x.held x.now moments x.moments_now → Runs x s objects (ServesPart x s)
   part e other h front = record {
     running = ran_as script serving moments;
     is = is;
     holds = record {
       opened = subst (λ (n : ℕ). Tells x.opened x.opened_now (was_opened (script.config.port + n) true)) me (opened_as e _ _ _ _ _ other h.opened);
-      serves = subst (λ (n : ℕ). ServesFront script n serving.incarnation s.turns x.calls x.calls_now x.held x.now moments x.moments_now) me
-          (subst (λ (n : ℕ). ServesFront script serving.me serving.incarnation n x.calls x.calls_now x.held x.now moments x.moments_now) turns front);
+      serves = subst (λ (n : ℕ). ServesFront script n serving.incarnation s.remote s.turns x.calls x.calls_now x.held x.now moments x.moments_now) me
+          (subst (λ (b : Bool). ServesFront script serving.me serving.incarnation b s.turns x.calls x.calls_now x.held x.now moments x.moments_now) remote
+          (subst (λ (n : ℕ). ServesFront script serving.me serving.incarnation serving.remote n x.calls x.calls_now x.held x.now moments x.moments_now) turns front));
     };
   }
 
@@ -135,8 +142,9 @@ module _ (s : Service) (objects : ℕ) (x : Seen) (script : Script) (serving : S
     holds = record {
       opened = subst (λ (n : ℕ). Tells x.opened x.opened_now (was_opened (script.config.port + n) true)) me (opened_as e _ _ _ _ _ other h.opened);
       core = served.core;
-      serves = subst (λ (n : ℕ). ServesAs script n serving.incarnation s.turns served.core x.calls x.calls_now x.held x.now moments x.moments_now) me
-          (subst (λ (n : ℕ). ServesAs script serving.me serving.incarnation n served.core x.calls x.calls_now x.held x.now moments x.moments_now) turns served.serves);
+      serves = subst (λ (n : ℕ). ServesAs script n serving.incarnation s.remote s.turns served.core x.calls x.calls_now x.held x.now moments x.moments_now) me
+          (subst (λ (b : Bool). ServesAs script serving.me serving.incarnation b s.turns served.core x.calls x.calls_now x.held x.now moments x.moments_now) remote
+          (subst (λ (n : ℕ). ServesAs script serving.me serving.incarnation serving.remote n served.core x.calls x.calls_now x.held x.now moments x.moments_now) turns served.serves));
     };
   }
 
@@ -145,8 +153,9 @@ module _ (s : Service) (objects : ℕ) (x : Seen) (script : Script) (serving : S
     where
       by : (t : Bool) → h.opened.done ≡ t → ServesNoMore x s (ran_as script serving moments)
       by true t = FailedOften (subst (λ (n : ℕ). Tells x.opened x.opened_now (was_opened (script.config.port + n) true)) me (subst (λ (b : Bool). Tells x.opened x.opened_now (was_opened (port_at script serving) b)) t h.opened.told))
-          (subst (λ (n : ℕ). ServesTo script n serving.incarnation s.turns x.calls x.calls_now x.held x.now moments x.moments_now) me
-          (subst (λ (n : ℕ). ServesTo script serving.me serving.incarnation n x.calls x.calls_now x.held x.now moments x.moments_now) turns (h.opened.ended t refl)))
+          (subst (λ (n : ℕ). ServesTo script n serving.incarnation s.remote s.turns x.calls x.calls_now x.held x.now moments x.moments_now) me
+          (subst (λ (b : Bool). ServesTo script serving.me serving.incarnation b s.turns x.calls x.calls_now x.held x.now moments x.moments_now) remote
+          (subst (λ (n : ℕ). ServesTo script serving.me serving.incarnation serving.remote n x.calls x.calls_now x.held x.now moments x.moments_now) turns (h.opened.ended t refl))))
       by false t = NeverOpened (subst (λ (n : ℕ). Tells x.opened x.opened_now (was_opened (script.config.port + n) false)) me (subst (λ (b : Bool). Tells x.opened x.opened_now (was_opened (port_at script serving) b)) t h.opened.told)) (h.opened.closed t).1
 
   ends : (e : Ending) → IsAtEnd x.rest → Ran e script serving x moments → EndsAs e (Some (serves s objects)) x
@@ -159,14 +168,16 @@ module _ (s : Service) (objects : ℕ) (x : Seen) (script : Script) (serving : S
   ends ending.LinkFault end h = (h.link_fault refl, none h)
   ends ending.TooMuchKept end h = absurd h.endings
   ends ending.NoReply end h = absurd h.endings
+  ends ending.SessionLost end h = absurd h.endings
+  ends ending.DaemonFull end h = absurd h.endings
 
-pub serves_ends : (e : Ending) (s : Service) (objects n : ℕ) (x : Seen) (script : Script) (serving : Serving) (moments : Option (List ℕ)) → n ≡ counted objects → serving.me ≡ s.node → serving.turns ≡ s.turns → Incarnates s.incarnation x.moments moments serving.incarnation
+pub serves_ends : (e : Ending) (s : Service) (objects n : ℕ) (x : Seen) (script : Script) (serving : Serving) (moments : Option (List ℕ)) → n ≡ counted objects → serving.me ≡ s.node → serving.turns ≡ s.turns → serving.remote ≡ s.remote → Incarnates s.incarnation x.moments moments serving.incarnation
     → IfSome x.left (λ b. daemon_script s.node (Some n) b ≡ IsScript script) → IsAtEnd x.rest → Tells x.places x.places_now (all_places script.config)
-    → Opens x.opened x.opened_now (script.config.port + serving.me) (status_of e) (NothingDone x.calls x.calls_now x.held x.now moments x.moments_now) (ServesTo script serving.me serving.incarnation serving.turns x.calls x.calls_now x.held x.now moments x.moments_now)
-    → (e ≡ ending.Done → IsServed script serving x.calls x.calls_now x.held x.now moments x.moments_now) → (e ≡ ending.NoMemory → ServesFront script serving.me serving.incarnation serving.turns x.calls x.calls_now x.held x.now moments x.moments_now)
-    → (e ≡ ending.WriteFault → ServesFront script serving.me serving.incarnation serving.turns x.calls x.calls_now x.held x.now moments x.moments_now) → (e ≡ ending.WriteFault → Rose x.writes x.writes_now) → (e ≡ ending.LinkFault → Rose x.faults x.faults_now) → ServedAs e
+    → Opens x.opened x.opened_now (script.config.port + serving.me) (status_of e) (NothingDone x.calls x.calls_now x.held x.now moments x.moments_now) (ServesTo script serving.me serving.incarnation serving.remote serving.turns x.calls x.calls_now x.held x.now moments x.moments_now)
+    → (e ≡ ending.Done → IsServed script serving x.calls x.calls_now x.held x.now moments x.moments_now) → (e ≡ ending.NoMemory → ServesFront script serving.me serving.incarnation serving.remote serving.turns x.calls x.calls_now x.held x.now moments x.moments_now)
+    → (e ≡ ending.WriteFault → ServesFront script serving.me serving.incarnation serving.remote serving.turns x.calls x.calls_now x.held x.now moments x.moments_now) → (e ≡ ending.WriteFault → Rose x.writes x.writes_now) → (e ≡ ending.LinkFault → Rose x.faults x.faults_now) → ServedAs e
     → EndsAs e (Some (serves s objects)) x
-serves_ends e s objects n x script serving moments count me turns incarnates spelled end placed opened done memory write write_fault link_fault endings =
-    ends s objects x script serving moments me turns
+serves_ends e s objects n x script serving moments count me turns remote incarnates spelled end placed opened done memory write write_fault link_fault endings =
+    ends s objects x script serving moments me turns remote
     (record { spelled = subst (λ (k : ℕ). IfSome x.left (λ b. daemon_script s.node (Some k) b ≡ IsScript script)) count spelled; incarnates = incarnates; placed = placed })
     e end (record { opened = opened; done = done; memory = memory; write = write; write_fault = write_fault; link_fault = link_fault; endings = endings })

@@ -1,7 +1,8 @@
 -- What the bytes taken so far say of the whole input.
 use Rattle.std.proofs.Common.{ℕ, ◌<◌, List, ◌++◌, length, Option, Some, None, ◌∙◌, ap, IfSome, append-nil}
 use Rattle.std.specs.Io.KnownBytes.{Consumes, IsAtEnd}
-use Rattle.world_model.specs.Reading.{input_limit, read_for}
+use Rattle.world_model.specs.Reading.{input_limit}
+use Rattle.script_reader.specs.ClientScript.{lines_for}
 use Rattle.hags_cli.specs.Run.{ReadsAs}
 use Rattle.hags_cli.proofs.LongInputs.{long_reads_for}
 
@@ -9,10 +10,10 @@ use Rattle.hags_cli.proofs.LongInputs.{long_reads_for}
 pub all_taken : (a b : Option (List ℕ)) (front : List ℕ) → Consumes a b front → IsAtEnd b → IfSome a (ReadsAs front)
 all_taken None b front c e = tt
 all_taken (Some xs) None front c e = absurd c
-all_taken (Some xs) (Some ys) front c e = λ aim. ap (read_for aim) (c ∙ (ap (λ zs. front ++ zs) e ∙ append-nil front))
+all_taken (Some xs) (Some ys) front c e = λ calls aim. ap (lines_for calls aim) (c ∙ (ap (λ zs. front ++ zs) e ∙ append-nil front))
 
 -- more than the limit was taken
 pub more_taken : (a b : Option (List ℕ)) (front : List ℕ) → Consumes a b front → input_limit < length front → IfSome a (ReadsAs front)
 more_taken None b front c h = tt
 more_taken (Some xs) None front c h = absurd c
-more_taken (Some xs) (Some ys) front c h = λ aim. ap (read_for aim) c ∙ long_reads_for aim front ys h
+more_taken (Some xs) (Some ys) front c h = λ calls aim. ap (lines_for calls aim) c ∙ long_reads_for calls aim front ys h

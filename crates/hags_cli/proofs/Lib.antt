@@ -5,3 +5,4 @@ pub mod TaskLaws
 pub mod LoadLaws
 pub mod SettingsLaws
 pub mod CommandLaws
+pub mod ClientLaws

@@ -13,11 +13,11 @@ use Rattle.transcript.specs.Kinds.{kinds_text}
 use Rattle.net_script.specs.PlaySafe.{ScriptIsSafe, KeptRunIsSafe, MayPlay}
 use Rattle.net_script.proofs.PlaySafeLaws.{scripts_may_play}
 use Rattle.hags_cli.specs.Run.{ReadsAs, PlaysAll, PlaysPast, PlaysFront, MayHavePlayed}
-use Rattle.hags_cli.proofs.LongInputs.{script_within}
+use Rattle.hags_cli.proofs.LongInputs.{reads_for, script_within}
 
 reads_script : (front b : List ℕ) → ReadsAs front b → script_of b ≡ script_of front
 unfolding script_of
-reads_script front b h = h Plays
+reads_script front b h = reads_for front b h Plays
 
 pub plays_all : (left old new : Option (List ℕ)) (front : List ℕ) (s : Script) (k : Kinds) → IfSome left (ReadsAs front) → script_of front ≡ IsScript s → kept_past most_kept s ≡ None → Appends old new (kinds_text k (script_records s))
     → (MayPlay s → ScriptIsSafe s) → IfSome left (PlaysAll (kinds_text k) old new)

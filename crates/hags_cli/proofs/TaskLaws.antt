@@ -17,10 +17,11 @@ use Rattle.world_model.specs.Kept.{kept_records, most_kept}
 use Rattle.transcript.specs.declared.kinds.Kinds.{Kinds}
 use Rattle.transcript.specs.Kinds.{kinds_text, all_kinds, kinds_of}
 use Rattle.transcript.proofs.KindLaws.{all_lines, named_lines}
+use Rattle.script_reader.specs.ClientScript.{client_script}
 use Rattle.hags_cli.specs.declared.ending.Ending.{Ending}
 use Rattle.hags_cli.specs.declared.ending.Ending.TheVariants as ending
 use Rattle.hags_cli.specs.Run.{PlaysAll, PlaysPast, PlaysFront, MayHavePlayed, Says, SpellsScript, OnBadLine, PlaysTo, status_of, said_of, ending_text}
-use Rattle.hags_cli.specs.Tasks.{Task, plays, loads, tells, serves, asks, shown_of, Shows, played_as, Asks, Seen, Untouched, counted, HasFault, IsOutside, OutsideAs, OutsideAt, ReadFaultAs, LinkFaultAs, NoReplyAs, SpellsSettings, CanBeDone, LoadEnds, TellEnds, EndsAs, Ended, SaysLine}
+use Rattle.hags_cli.specs.Tasks.{Task, plays, loads, tells, serves, asks, uses, shown_of, Shows, played_as, Asks, Seen, Untouched, counted, HasFault, IsOutside, OutsideAs, OutsideAt, ReadFaultAs, LinkFaultAs, NoReplyAs, LostAs, FullAs, SpellsSettings, SpellsCalls, CanBeDone, LoadEnds, TellEnds, EndsAs, Ended, SaysLine}
 
 -- ---- which ending a status is
 
@@ -34,6 +35,8 @@ status_done ending.WriteFault h = absurd (omega arith)
 status_done ending.LinkFault h = absurd (omega arith)
 status_done ending.TooMuchKept h = absurd (omega arith)
 status_done ending.NoReply h = absurd (omega arith)
+status_done ending.SessionLost h = absurd (omega arith)
+status_done ending.DaemonFull h = absurd (omega arith)
 
 status_usage : (e : Ending) → status_of e ≡ 1 → e ≡ ending.Usage
 status_usage ending.Done h = absurd (omega arith)
@@ -45,6 +48,8 @@ status_usage ending.WriteFault h = absurd (omega arith)
 status_usage ending.LinkFault h = absurd (omega arith)
 status_usage ending.TooMuchKept h = absurd (omega arith)
 status_usage ending.NoReply h = absurd (omega arith)
+status_usage ending.SessionLost h = absurd (omega arith)
+status_usage ending.DaemonFull h = absurd (omega arith)
 
 status_no_memory : (e : Ending) → status_of e ≡ 3 → e ≡ ending.NoMemory
 status_no_memory ending.Done h = absurd (omega arith)
@@ -56,6 +61,8 @@ status_no_memory ending.WriteFault h = absurd (omega arith)
 status_no_memory ending.LinkFault h = absurd (omega arith)
 status_no_memory ending.TooMuchKept h = absurd (omega arith)
 status_no_memory ending.NoReply h = absurd (omega arith)
+status_no_memory ending.SessionLost h = absurd (omega arith)
+status_no_memory ending.DaemonFull h = absurd (omega arith)
 
 status_read_fault : (e : Ending) → status_of e ≡ 4 → e ≡ ending.ReadFault
 status_read_fault ending.Done h = absurd (omega arith)
@@ -67,6 +74,8 @@ status_read_fault ending.WriteFault h = absurd (omega arith)
 status_read_fault ending.LinkFault h = absurd (omega arith)
 status_read_fault ending.TooMuchKept h = absurd (omega arith)
 status_read_fault ending.NoReply h = absurd (omega arith)
+status_read_fault ending.SessionLost h = absurd (omega arith)
+status_read_fault ending.DaemonFull h = absurd (omega arith)
 
 status_write_fault : (e : Ending) → status_of e ≡ 5 → e ≡ ending.WriteFault
 status_write_fault ending.Done h = absurd (omega arith)
@@ -78,6 +87,8 @@ status_write_fault ending.WriteFault h = refl
 status_write_fault ending.LinkFault h = absurd (omega arith)
 status_write_fault ending.TooMuchKept h = absurd (omega arith)
 status_write_fault ending.NoReply h = absurd (omega arith)
+status_write_fault ending.SessionLost h = absurd (omega arith)
+status_write_fault ending.DaemonFull h = absurd (omega arith)
 
 status_link_fault : (e : Ending) → status_of e ≡ 6 → e ≡ ending.LinkFault
 status_link_fault ending.Done h = absurd (omega arith)
@@ -89,6 +100,8 @@ status_link_fault ending.WriteFault h = absurd (omega arith)
 status_link_fault ending.LinkFault h = refl
 status_link_fault ending.TooMuchKept h = absurd (omega arith)
 status_link_fault ending.NoReply h = absurd (omega arith)
+status_link_fault ending.SessionLost h = absurd (omega arith)
+status_link_fault ending.DaemonFull h = absurd (omega arith)
 
 status_too_much_kept : (e : Ending) → status_of e ≡ 7 → e ≡ ending.TooMuchKept
 status_too_much_kept ending.Done h = absurd (omega arith)
@@ -100,6 +113,8 @@ status_too_much_kept ending.WriteFault h = absurd (omega arith)
 status_too_much_kept ending.LinkFault h = absurd (omega arith)
 status_too_much_kept ending.TooMuchKept h = refl
 status_too_much_kept ending.NoReply h = absurd (omega arith)
+status_too_much_kept ending.SessionLost h = absurd (omega arith)
+status_too_much_kept ending.DaemonFull h = absurd (omega arith)
 
 status_no_reply : (e : Ending) → status_of e ≡ 9 → e ≡ ending.NoReply
 status_no_reply ending.Done h = absurd (omega arith)
@@ -111,6 +126,34 @@ status_no_reply ending.WriteFault h = absurd (omega arith)
 status_no_reply ending.LinkFault h = absurd (omega arith)
 status_no_reply ending.TooMuchKept h = absurd (omega arith)
 status_no_reply ending.NoReply h = refl
+status_no_reply ending.SessionLost h = absurd (omega arith)
+status_no_reply ending.DaemonFull h = absurd (omega arith)
+
+status_lost : (e : Ending) → status_of e ≡ 10 → e ≡ ending.SessionLost
+status_lost ending.Done h = absurd (omega arith)
+status_lost ending.Usage h = absurd (omega arith)
+status_lost (ending.BadLine n why) h = absurd (omega arith)
+status_lost ending.NoMemory h = absurd (omega arith)
+status_lost ending.ReadFault h = absurd (omega arith)
+status_lost ending.WriteFault h = absurd (omega arith)
+status_lost ending.LinkFault h = absurd (omega arith)
+status_lost ending.TooMuchKept h = absurd (omega arith)
+status_lost ending.NoReply h = absurd (omega arith)
+status_lost ending.SessionLost h = refl
+status_lost ending.DaemonFull h = absurd (omega arith)
+
+status_full : (e : Ending) → status_of e ≡ 11 → e ≡ ending.DaemonFull
+status_full ending.Done h = absurd (omega arith)
+status_full ending.Usage h = absurd (omega arith)
+status_full (ending.BadLine n why) h = absurd (omega arith)
+status_full ending.NoMemory h = absurd (omega arith)
+status_full ending.ReadFault h = absurd (omega arith)
+status_full ending.WriteFault h = absurd (omega arith)
+status_full ending.LinkFault h = absurd (omega arith)
+status_full ending.TooMuchKept h = absurd (omega arith)
+status_full ending.NoReply h = absurd (omega arith)
+status_full ending.SessionLost h = absurd (omega arith)
+status_full ending.DaemonFull h = refl
 
 -- ---- what each status says
 
@@ -128,6 +171,7 @@ outside_as (Some (loads steps)) n why x h = h
 outside_as (Some (tells text)) n why x h = h
 outside_as (Some (serves s objects)) n why x h = (outside (serves s objects) x.left n why h.0, h.1, h.2)
 outside_as (Some (asks a)) n why x h = (outside (asks a) x.left n why h.0, h.1, h.2)
+outside_as (Some (uses u)) n why x h = (outside (uses u) x.left n why h.0, h.1, h.2)
 
 ended_outside : (e : Ending) (t : Option Task) (x : Seen) → EndsAs e t x → status_of e ≡ 2 → Asks t (OutsideAs x)
 ended_outside ending.Done t x h s = absurd (omega arith)
@@ -139,6 +183,8 @@ ended_outside ending.WriteFault t x h s = absurd (omega arith)
 ended_outside ending.LinkFault t x h s = absurd (omega arith)
 ended_outside ending.TooMuchKept t x h s = absurd (omega arith)
 ended_outside ending.NoReply t x h s = absurd (omega arith)
+ended_outside ending.SessionLost t x h s = absurd (omega arith)
+ended_outside ending.DaemonFull t x h s = absurd (omega arith)
 
 -- words that ask for nothing
 ended_words : (e : Ending) (t : Option Task) (x : Seen) → EndsAs e t x → t ≡ None → (status_of e ≡ 1) ⊎ (status_of e ≡ 3)
@@ -154,8 +200,10 @@ ended_words e t x h none = by e (subst (λ (z : Option Task). EndsAs e z x) none
     by ending.LinkFault h = absurd h.1
     by ending.TooMuchKept h = absurd h
     by ending.NoReply h = absurd h
+    by ending.SessionLost h = absurd h
+    by ending.DaemonFull h = absurd h
 
-status_known : (e : Ending) → (status_of e ≤ 7) ⊎ (status_of e ≡ 9)
+status_known : (e : Ending) → (status_of e ≤ 7) ⊎ ((9 ≤ status_of e) × (status_of e ≤ 11))
 status_known ending.Done = inl (omega arith)
 status_known ending.Usage = inl (omega arith)
 status_known (ending.BadLine n why) = inl (omega arith)
@@ -164,7 +212,9 @@ status_known ending.ReadFault = inl (omega arith)
 status_known ending.WriteFault = inl (omega arith)
 status_known ending.LinkFault = inl (omega arith)
 status_known ending.TooMuchKept = inl (omega arith)
-status_known ending.NoReply = inr refl
+status_known ending.NoReply = inr (omega arith, omega arith)
+status_known ending.SessionLost = inr (omega arith, omega arith)
+status_known ending.DaemonFull = inr (omega arith, omega arith)
 
 -- ---- where nothing fails
 
@@ -176,6 +226,10 @@ settings_not_outside : (node : ℕ) (objects : Option ℕ) (left : Option (List 
 settings_not_outside node objects None n why o s = s
 settings_not_outside node objects (Some b) n why o s = let both : IsNone n why ≡ IsScript s.0 = sym o ∙ s.1 in cc
 
+calls_not_outside : (node : ℕ) (left : Option (List ℕ)) (n : ℕ) (why : LineWhy) → IfSome left (λ b. client_script node b ≡ IsNone n why) → SpellsCalls node left → ⊥
+calls_not_outside node None n why o s = s
+calls_not_outside node (Some b) n why o s = let both : IsNone n why ≡ IsScript s.0 = sym o ∙ s.1 in cc
+
 outside_cannot : (t : Option Task) (n : ℕ) (why : LineWhy) (x : Seen) → Asks t (OutsideAt n why x) → Asks t (CanBeDone x) → ⊥
 outside_cannot None n why x h can = h
 outside_cannot (Some (plays list)) n why x h can = not_outside x.left n why h.0 can
@@ -183,6 +237,7 @@ outside_cannot (Some (loads steps)) n why x h can = h
 outside_cannot (Some (tells text)) n why x h can = h
 outside_cannot (Some (serves s objects)) n why x h can = settings_not_outside s.node (Some (counted objects)) x.left n why h.0 can
 outside_cannot (Some (asks a)) n why x h can = settings_not_outside a.node None x.left n why h.0 can
+outside_cannot (Some (uses u)) n why x h can = calls_not_outside u.node x.left n why h.0 can
 
 read_rose : (t : Option Task) (x : Seen) → Asks t (ReadFaultAs x) → Rose x.reads x.reads_now
 read_rose None x h = absurd h
@@ -191,22 +246,25 @@ read_rose (Some (loads steps)) x h = absurd h
 read_rose (Some (tells text)) x h = absurd h
 read_rose (Some (serves s objects)) x h = h.0
 read_rose (Some (asks a)) x h = h.0
+read_rose (Some (uses u)) x h = h.0
 
 asks_nothing : (t : Option Task) (P : Task → Type 0) → t ≡ None → Asks t P → ⊥
 asks_nothing t P none h = subst (λ (z : Option Task). Asks z P) none h
 
 -- where each ending has its cause, what can be done leaves three of them
-ended_complete : (e : Ending) (t : Option Task) (x : Seen) → EndsAs e t x → Asks t (CanBeDone x) → (Rose x.reads x.reads_now → ⊥) → (Rose x.writes x.writes_now → ⊥) → (Asks t (LinkFaultAs x) → ⊥) → (Asks t (NoReplyAs x) → ⊥)
+ended_complete : (e : Ending) (t : Option Task) (x : Seen) → EndsAs e t x → Asks t (CanBeDone x) → (Rose x.reads x.reads_now → ⊥) → (Rose x.writes x.writes_now → ⊥) → (Asks t (LinkFaultAs x) → ⊥) → (Asks t (NoReplyAs x) → ⊥) → (Asks t (LostAs x) → ⊥) → (Asks t (FullAs x) → ⊥)
     → (status_of e ≡ 0) ⊎ ((status_of e ≡ 3) ⊎ (status_of e ≡ 7))
-ended_complete ending.Done t x h can r w l n = inl refl
-ended_complete ending.Usage t x h can r w l n = absurd (asks_nothing t (CanBeDone x) h.0 can)
-ended_complete (ending.BadLine line why) t x h can r w l n = absurd (outside_cannot t line why x h can)
-ended_complete ending.NoMemory t x h can r w l n = inr (inl refl)
-ended_complete ending.ReadFault t x h can r w l n = absurd (r (read_rose t x h))
-ended_complete ending.WriteFault t x h can r w l n = absurd (w h.0)
-ended_complete ending.LinkFault t x h can r w l n = absurd (l h.1)
-ended_complete ending.TooMuchKept t x h can r w l n = inr (inr refl)
-ended_complete ending.NoReply t x h can r w l n = absurd (n h)
+ended_complete ending.Done t x h can r w l n gone full = inl refl
+ended_complete ending.Usage t x h can r w l n gone full = absurd (asks_nothing t (CanBeDone x) h.0 can)
+ended_complete (ending.BadLine line why) t x h can r w l n gone full = absurd (outside_cannot t line why x h can)
+ended_complete ending.NoMemory t x h can r w l n gone full = inr (inl refl)
+ended_complete ending.ReadFault t x h can r w l n gone full = absurd (r (read_rose t x h))
+ended_complete ending.WriteFault t x h can r w l n gone full = absurd (w h.0)
+ended_complete ending.LinkFault t x h can r w l n gone full = absurd (l h.1)
+ended_complete ending.TooMuchKept t x h can r w l n gone full = inr (inr refl)
+ended_complete ending.NoReply t x h can r w l n gone full = absurd (n h)
+ended_complete ending.SessionLost t x h can r w l n gone full = absurd (gone h)
+ended_complete ending.DaemonFull t x h can r w l n gone full = absurd (full h)
 
 -- ---- all of it
 
@@ -222,6 +280,8 @@ ended_so e t x h = record {
   link = λ s. ended_as e ending.LinkFault t x (status_link_fault e s) h;
   past = λ s. ended_as e ending.TooMuchKept t x (status_too_much_kept e s) h;
   no_reply = λ s. ended_as e ending.NoReply t x (status_no_reply e s) h;
+  lost = λ s. ended_as e ending.SessionLost t x (status_lost e s) h;
+  full = λ s. ended_as e ending.DaemonFull t x (status_full e s) h;
   no_other = status_known e;
   complete = ended_complete e t x h;
 }
@@ -257,6 +317,8 @@ said_as ending.WriteFault other = refl
 said_as ending.LinkFault other = refl
 said_as ending.TooMuchKept other = refl
 said_as ending.NoReply other = refl
+said_as ending.SessionLost other = refl
+said_as ending.DaemonFull other = refl
 
 pub says_said : (e : Ending) (n faults later : ℕ) (old new : Option (List ℕ)) → n ≡ status_of e → n ≢ 2 → Says faults later old new (ending_text e) → Says faults later old new (said_of n)
 says_said e n faults later old new is other g =
@@ -269,6 +331,7 @@ line_fault (Some (loads steps)) n why x h = absurd h
 line_fault (Some (tells text)) n why x h = absurd h
 line_fault (Some (serves s objects)) n why x h = h.0
 line_fault (Some (asks a)) n why x h = h.0
+line_fault (Some (uses u)) n why x h = h.0
 
 says_line_of : (e : Ending) (t : Option Task) (x : Seen) (faults later : ℕ) (before after : Option (List ℕ)) → EndsAs e t x → Says faults later before after (ending_text e) → status_of e ≡ 2 → SaysLine t x.left faults later before after
 says_line_of ending.Done t x faults later before after p g h = absurd (omega arith)
@@ -280,6 +343,8 @@ says_line_of ending.WriteFault t x faults later before after p g h = absurd (ome
 says_line_of ending.LinkFault t x faults later before after p g h = absurd (omega arith)
 says_line_of ending.TooMuchKept t x faults later before after p g h = absurd (omega arith)
 says_line_of ending.NoReply t x faults later before after p g h = absurd (omega arith)
+says_line_of ending.SessionLost t x faults later before after p g h = absurd (omega arith)
+says_line_of ending.DaemonFull t x faults later before after p g h = absurd (omega arith)
 
 pub says_line : (e : Ending) (n : ℕ) (t : Option Task) (x : Seen) (faults later : ℕ) (before after : Option (List ℕ)) → n ≡ status_of e → EndsAs e t x → Says faults later before after (ending_text e) → n ≡ 2 → SaysLine t x.left faults later before after
 says_line e n t x faults later before after is p g h = says_line_of e t x faults later before after p g (sym is ∙ h)
@@ -344,6 +409,8 @@ run_ends k list same ending.WriteFault x still done line memory read write past 
 run_ends k list same ending.LinkFault x still done line memory read write past command = absurd command
 run_ends k list same ending.TooMuchKept x still done line memory read write past command = past_as (kinds_text k) (shown_of list) same x.left x.held x.now (past refl)
 run_ends k list same ending.NoReply x still done line memory read write past command = absurd command
+run_ends k list same ending.SessionLost x still done line memory read write past command = absurd command
+run_ends k list same ending.DaemonFull x still done line memory read write past command = absurd command
 
 pub load_ends : (e : Ending) (steps : ℕ) (x : Seen) → x.rest ≡ x.left → LoadEnds e steps x.writes x.writes_now x.held x.now → EndsAs e (Some (loads steps)) x
 load_ends ending.Done steps x still h = (h, still)
@@ -355,6 +422,8 @@ load_ends ending.WriteFault steps x still h = h
 load_ends ending.LinkFault steps x still h = absurd h
 load_ends ending.TooMuchKept steps x still h = h
 load_ends ending.NoReply steps x still h = absurd h
+load_ends ending.SessionLost steps x still h = absurd h
+load_ends ending.DaemonFull steps x still h = absurd h
 
 tells_so : (e : Ending) (text : List ℕ) (x : Seen) → x.rest ≡ x.left → TellEnds e text x.writes x.writes_now x.held x.now → EndsAs e (Some (tells text)) x
 tells_so ending.Done text x still h = (h, still)
@@ -366,6 +435,8 @@ tells_so ending.WriteFault text x still h = h
 tells_so ending.LinkFault text x still h = absurd h
 tells_so ending.TooMuchKept text x still h = absurd h
 tells_so ending.NoReply text x still h = absurd h
+tells_so ending.SessionLost text x still h = absurd h
+tells_so ending.DaemonFull text x still h = absurd h
 
 pub tell_ends : (e : Ending) (text wanted : List ℕ) (x : Seen) → text ≡ wanted → x.rest ≡ x.left → TellEnds e text x.writes x.writes_now x.held x.now → EndsAs e (Some (tells wanted)) x
 tell_ends e text wanted x is still h = subst (λ (t : List ℕ). EndsAs e (Some (tells t)) x) is (tells_so e text x still h)
@@ -392,6 +463,7 @@ memory_ends (Some (loads steps)) x still calls = none_grew x.held x.now _ (keeps
 memory_ends (Some (tells text)) x still calls = keeps_same x still
 memory_ends (Some (serves s objects)) x still calls = inl (keeps_same x still, calls_same x calls)
 memory_ends (Some (asks a)) x still calls = keeps_same x still
+memory_ends (Some (uses u)) x still calls = inl (keeps_same x still, calls_same x calls)
 
 pub usage_ends : (t : Option Task) (x : Seen) → t ≡ None → x.now ≡ x.held → x.rest ≡ x.left → Untouched x → EndsAs ending.Usage t x
 usage_ends t x none still rest touched = (none, keeps_same x still, rest, touched)

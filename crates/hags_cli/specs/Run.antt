@@ -1,21 +1,22 @@
 -- How an input is read, what a run leaves, and what is said of how it ended.
-use Rattle.std.specs.Prelude.{◌≡◌, ℕ, ◌==◌, List, [], ◌∷◌, codes, Option, Some, None, ◌⊎◌, ◌++◌, if◌then◌else◌}
+use Rattle.std.specs.Prelude.{◌≡◌, ℕ, ◌==◌, Bool, List, [], ◌∷◌, codes, Option, Some, None, ◌⊎◌, ◌++◌, if◌then◌else◌}
 use Rattle.std.specs.Io.KnownBytes.{Appends, Keeps}
 use Rattle.hags_io.specs.Edges.{GrowsByFront, Rose}
 use Rattle.node_state.specs.declared.happened.Happened.{Happened}
 use Rattle.world_model.specs.declared.script.LineWhy.{LineWhy}
 use Rattle.world_model.specs.declared.script.Script.{Script}
 use Rattle.world_model.specs.declared.script.Aim.{Aim}
-use Rattle.world_model.specs.Reading.{IsScript, IsNone, read_for, script_of}
+use Rattle.world_model.specs.Reading.{IsScript, IsNone, script_of}
+use Rattle.script_reader.specs.ClientScript.{lines_for}
 use Rattle.world_model.specs.Play.{script_records, written}
 use Rattle.world_model.specs.Kept.{kept_past, kept_records, most_kept}
 use Rattle.net_script.specs.PlaySafe.{ScriptIsSafe, KeptRunIsSafe}
 use Rattle.hags_cli.specs.declared.ending.Ending.{Ending}
 use Rattle.hags_cli.specs.declared.ending.Ending.TheVariants as ending
 
--- an input is read as this front of it is, for whatever it is read
+-- an input is read as this front of it is, for whatever it is read, as a script or as the calls of a client
 abbrev pub ReadsAs : List ℕ → List ℕ → Type 0
-ReadsAs front b = (aim : Aim) → read_for aim b ≡ read_for aim front
+ReadsAs front b = (calls : Bool) (aim : Aim) → lines_for calls aim b ≡ lines_for calls aim front
 
 -- the input is a script, its packets are within the limit, and what is shown of its records was written, which are those
 -- of a safe run
@@ -66,6 +67,8 @@ abbrev pub PlaysTo : Ending → Type 0
 PlaysTo ending.Usage = ⊥
 PlaysTo ending.LinkFault = ⊥
 PlaysTo ending.NoReply = ⊥
+PlaysTo ending.SessionLost = ⊥
+PlaysTo ending.DaemonFull = ⊥
 PlaysTo _ = Unit {0}
 
 abbrev pub status_of : Ending → ℕ
@@ -78,6 +81,8 @@ status_of ending.WriteFault = 5
 status_of ending.LinkFault = 6
 status_of ending.TooMuchKept = 7
 status_of ending.NoReply = 9
+status_of ending.SessionLost = 10
+status_of ending.DaemonFull = 11
 
 abbrev pub line_of : List ℕ → List ℕ
 line_of text = text ++ 10 ∷ []
@@ -93,6 +98,8 @@ said_of status =
     else if status == 6 then line_of (codes "hags: link fault")
     else if status == 7 then line_of (codes "hags: too much kept")
     else if status == 9 then line_of (codes "hags: no reply")
+    else if status == 10 then line_of (codes "hags: session lost")
+    else if status == 11 then line_of (codes "hags: daemon full")
     else []
 
 abbrev pub ending_text : Ending → List ℕ

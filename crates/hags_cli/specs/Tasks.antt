@@ -26,6 +26,12 @@ use Rattle.daemon_model.specs.Lives.{ServesAs, ServesTo, ServesFront}
 use Rattle.status_client.specs.declared.question.Asking.{Asking}
 use Rattle.status_client.specs.Waiting.{nothing_heard}
 use Rattle.status_client.specs.Asked.{Answered, Unanswered, Failing, AsksThen, EndsByLink}
+use Rattle.client_run.specs.declared.client.Client.{Client}
+use Rattle.client_run.specs.declared.serving.Usage.{Usage}
+use Rattle.client_run.specs.Running as used
+use Rattle.client_run.specs.Using as usage
+use Rattle.script_reader.specs.ClientScript.{client_script}
+use Rattle.remote_session.specs.declared.far.DownSeen.{DownSeen}
 use Rattle.hags_words.specs.declared.command.Command.{Command}
 use Rattle.hags_words.specs.declared.command.Command.TheVariants as command
 use Rattle.hags_words.specs.declared.help.TheConstants.{VERSION}
@@ -37,13 +43,15 @@ use Rattle.hags_cli.specs.declared.ending.Ending.TheVariants as ending
 use Rattle.hags_cli.specs.Run.{PlaysAll, PlaysPast, PlaysFront, MayHavePlayed, SpellsScript, Says}
 
 -- to play the script of the input and write the lines of these kinds, joined by commas, or of all where none is named; to
--- play a load of so many steps; to write a text; to serve a node, with so many objects for its clients; or to ask one
+-- play a load of so many steps; to write a text; to serve a node, with so many objects for its clients; to ask one; or to
+-- use one as a client
 pub data Task : Type 0 where
   plays : List ℕ → Task
   loads : ℕ → Task
   tells : List ℕ → Task
   serves : Service → ℕ → Task
   asks : Asking → Task
+  uses : Usage → Task
 
 -- the kinds that are named
 abbrev pub list_in : Option (List ℕ) → List ℕ
@@ -71,8 +79,9 @@ task_for objects (command.Run kinds) = played_as kinds
 task_for objects (command.Load steps) = Some (loads steps)
 task_for objects (command.Help about) = Some (tells (help_of about))
 task_for objects command.Version = Some (tells VERSION.now)
-task_for objects (command.Daemon node incarnation turns) = Some (serves (record { node = node; incarnation = incarnation; turns = turns }) objects)
+task_for objects (command.Daemon node incarnation turns remote) = Some (serves (record { node = node; incarnation = incarnation; turns = turns; remote = remote }) objects)
 task_for objects (command.Status what node turns) = Some (asks (record { what = what; node = node; turns = turns }))
+task_for objects (command.Client node turns) = Some (uses (record { node = node; turns = turns }))
 
 abbrev pub task_asked : ℕ → Option Command → Option Task
 task_asked objects None = None
@@ -166,6 +175,13 @@ SettingsEnd node objects left reads reads_now ending.NoMemory = Unit {0}
 SettingsEnd node objects left reads reads_now ending.ReadFault = Rose reads reads_now
 SettingsEnd node objects left reads reads_now _ = ⊥
 
+-- what comes of the input of a client that is not read
+abbrev pub CallsEnd : ℕ → Option (List ℕ) → ℕ → ℕ → Ending → Type 0
+CallsEnd node left reads reads_now (ending.BadLine line why) = IfSome left (λ b. client_script node b ≡ IsNone line why)
+CallsEnd node left reads reads_now ending.NoMemory = Unit {0}
+CallsEnd node left reads reads_now ending.ReadFault = Rose reads reads_now
+CallsEnd node left reads reads_now _ = ⊥
+
 -- ---- what a daemon leaves
 
 -- the low 32 bits of the clock's seconds, or 1 where these are 0
@@ -210,7 +226,7 @@ DaemonOpened x s r done = Tells x.opened x.opened_now (was_opened (port_of s r) 
 -- it did all its turns, whatever its node came to
 pub record IsServed (script : Script) (serving : Serving) (a b : Option (List LinkCall)) (y z u v : Option (List ℕ)) : Type 0 where
   pub core : Core
-  pub serves : ServesAs script serving.me serving.incarnation serving.turns core a b y z u v
+  pub serves : ServesAs script serving.me serving.incarnation serving.remote serving.turns core a b y z u v
 
 -- so a daemon ends
 abbrev pub ServedAs : Ending → Type 0
@@ -224,17 +240,17 @@ ServedAs _ = ⊥
 pub record ServesAll (x : Seen) (s : Service) (r : Running) : Type 0 where
   pub opened : DaemonOpened x s r true
   pub core : Core
-  pub serves : ServesAs r.script s.node r.incarnation s.turns core x.calls x.calls_now x.held x.now r.moments x.moments_now
+  pub serves : ServesAs r.script s.node r.incarnation s.remote s.turns core x.calls x.calls_now x.held x.now r.moments x.moments_now
 
 -- it broke off
 pub record ServesPart (x : Seen) (s : Service) (r : Running) : Type 0 where
   pub opened : DaemonOpened x s r true
-  pub serves : ServesFront r.script s.node r.incarnation s.turns x.calls x.calls_now x.held x.now r.moments x.moments_now
+  pub serves : ServesFront r.script s.node r.incarnation s.remote s.turns x.calls x.calls_now x.held x.now r.moments x.moments_now
 
 -- the link could not be opened, and nothing more was done; or sixteen receives in a row failed
 pub data ServesNoMore (x : Seen) (s : Service) (r : Running) : Type 0 where
   NeverOpened : DaemonOpened x s r false → NothingDone x.calls x.calls_now x.held x.now r.moments x.moments_now → ServesNoMore x s r
-  FailedOften : DaemonOpened x s r true → ServesTo r.script s.node r.incarnation s.turns x.calls x.calls_now x.held x.now r.moments x.moments_now → ServesNoMore x s r
+  FailedOften : DaemonOpened x s r true → ServesTo r.script s.node r.incarnation s.remote s.turns x.calls x.calls_now x.held x.now r.moments x.moments_now → ServesNoMore x s r
 
 -- ---- what a question leaves
 
@@ -268,6 +284,49 @@ GivesFaults x a question sent = Failing question a.turns nothing_heard sent x.ca
 abbrev pub AsksNoMore : Seen → Asking → Config → Type 0
 AsksNoMore x a c = EndsByLink x.opened x.opened_now x.calls x.calls_now (AsksOver x a (GivesFaults x a) c)
 
+-- ---- what a client leaves
+
+-- the settings and the calls are those of the input, and of the link this holds
+pub record UsesBy (x : Seen) (u : Usage) (P : Script → Type 0) : Type 0 where
+  pub script : Script
+  pub spelled : IfSome x.left (λ b. client_script u.node b ≡ IsScript script)
+  pub placed : Tells x.places x.places_now (all_places script.config)
+  pub holds : P script
+
+-- the link was opened, the clock gave a key, and a client with that key did this from where the link stood then
+abbrev pub UsesOver : Seen → Usage → (List (List ℕ) → Client → Option (List LinkCall) → Type 0) → Script → Type 0
+UsesOver x u P s = usage.Opened x.opened x.opened_now x.calls x.moments x.moments_now (λ start key. P s.texts (usage.first_client s.config u.node key) start)
+
+-- all its turns, and each call has its answer
+abbrev pub UsesAll : Seen → Usage → List (List ℕ) → Client → Option (List LinkCall) → Type 0
+UsesAll x u lines c start = used.Answered lines c u.turns start x.calls_now x.held x.now
+
+-- all its turns, and some call has no answer
+abbrev pub WaitsOn : Seen → Usage → List (List ℕ) → Client → Option (List LinkCall) → Type 0
+WaitsOn x u lines c start = used.Unanswered lines c u.turns start x.calls_now x.held x.now
+
+-- the last turn ended its session so
+abbrev pub EndsSession : (DownSeen → Type 0) → Seen → Usage → List (List ℕ) → Client → Option (List LinkCall) → Type 0
+EndsSession P x u lines c start = used.Ended P lines c u.turns start x.calls_now x.held x.now
+
+abbrev pub FailsOften : Seen → Usage → List (List ℕ) → Client → Option (List LinkCall) → Type 0
+FailsOften x u lines c start = used.Failing lines c u.turns start x.calls_now x.held x.now
+
+abbrev pub BreaksOff : Seen → Usage → List (List ℕ) → Client → Option (List LinkCall) → Type 0
+BreaksOff x u lines c start = used.Broken lines c u.turns start x.calls_now x.held x.now
+
+-- the link could not be opened, and nothing more was done; or this
+abbrev pub UsesOr : Seen → Type 0 → Type 0
+UsesOr x P = usage.EndsByLink x.opened x.opened_now x.calls x.calls_now x.held x.now x.moments x.moments_now P
+
+-- it broke off
+abbrev pub UsesPart : Seen → Usage → Script → Type 0
+UsesPart x u s = UsesOr x (UsesOver x u (BreaksOff x u) s)
+
+-- the link could not be opened, or sixteen receives in a row failed
+abbrev pub UsesNoMore : Seen → Usage → Script → Type 0
+UsesNoMore x u s = UsesOr x (UsesOver x u (FailsOften x u) s)
+
 -- ---- what each status leaves, task by task
 
 -- all was done: an input is read to its end, and a load and a text read none
@@ -277,12 +336,14 @@ DoneAs x (loads steps) = LoadsAll steps x.held x.now × (x.rest ≡ x.left)
 DoneAs x (tells text) = Appends x.held x.now text × (x.rest ≡ x.left)
 DoneAs x (serves s objects) = Runs x s objects (ServesAll x s) × IsAtEnd x.rest
 DoneAs x (asks a) = IsAnswered x a (Appends x.held x.now) × IsAtEnd x.rest
+DoneAs x (uses u) = UsesBy x u (UsesOver x u (UsesAll x u)) × IsAtEnd x.rest
 
--- the input has this first bad line, for this reason: it is in no script, or in no settings
+-- the input has this first bad line, for this reason: it is in no script, in no settings, or in no calls of a client
 abbrev pub HasFault : Task → ℕ → LineWhy → List ℕ → Type 0
 HasFault (plays list) line why b = script_of b ≡ IsNone line why
 HasFault (serves s objects) line why b = daemon_script s.node (Some (counted objects)) b ≡ IsNone line why
 HasFault (asks a) line why b = daemon_script a.node None b ≡ IsNone line why
+HasFault (uses u) line why b = client_script u.node b ≡ IsNone line why
 HasFault _ line why b = ⊥
 
 -- a command that reads has such a line, and did nothing else
@@ -309,6 +370,7 @@ MemoryAs x (Some (loads steps)) = GrowsByFront x.held x.now (load_text steps)
 MemoryAs x (Some (tells text)) = Keeps x.held x.now
 MemoryAs x (Some (serves s objects)) = (Keeps x.held x.now × Same x.calls x.calls_now) ⊎ Runs x s objects (ServesPart x s)
 MemoryAs x (Some (asks a)) = Keeps x.held x.now
+MemoryAs x (Some (uses u)) = (Keeps x.held x.now × Same x.calls x.calls_now) ⊎ UsesBy x u (UsesPart x u)
 
 -- the input failed
 abbrev pub ReadFaultAs : Seen → Task → Type 0
@@ -323,11 +385,13 @@ WriteFaultAs x (loads steps) = LoadsFront steps x.held x.now
 WriteFaultAs x (tells text) = GrowsByFront x.held x.now text
 WriteFaultAs x (serves s objects) = Runs x s objects (ServesPart x s)
 WriteFaultAs x (asks a) = IsAnswered x a (GrowsByFront x.held x.now)
+WriteFaultAs x (uses u) = UsesBy x u (UsesPart x u)
 
 -- the link failed
 abbrev pub LinkFaultAs : Seen → Task → Type 0
 LinkFaultAs x (serves s objects) = Runs x s objects (ServesNoMore x s)
 LinkFaultAs x (asks a) = AsksBy x a (AsksNoMore x a) × Keeps x.held x.now
+LinkFaultAs x (uses u) = UsesBy x u (UsesNoMore x u)
 LinkFaultAs x _ = ⊥
 
 -- packets passed the limit
@@ -339,20 +403,38 @@ PastAs x _ = ⊥
 -- no reply came
 abbrev pub NoReplyAs : Seen → Task → Type 0
 NoReplyAs x (asks a) = AsksBy x a (AsksOver x a (GivesNone x a)) × Keeps x.held x.now
+NoReplyAs x (uses u) = UsesBy x u (UsesOver x u (WaitsOn x u))
 NoReplyAs x _ = ⊥
+
+-- the daemon was started anew
+abbrev pub LostAs : Seen → Task → Type 0
+LostAs x (uses u) = UsesBy x u (UsesOver x u (EndsSession used.IsLost x u))
+LostAs x _ = ⊥
+
+-- the daemon keeps no more clients
+abbrev pub FullAs : Seen → Task → Type 0
+FullAs x (uses u) = UsesBy x u (UsesOver x u (EndsSession used.IsFull x u))
+FullAs x _ = ⊥
 
 -- the source tells what is left, and it is settings of the node
 abbrev pub SpellsSettings : ℕ → Option ℕ → Option (List ℕ) → Type 0
 SpellsSettings node objects None = ⊥
 SpellsSettings node objects (Some b) = (s : Script) × (daemon_script node objects b ≡ IsScript s)
 
--- what can be done where nothing fails: a load and a text always, to play what is a script, and to serve or ask by settings
+-- the source tells what is left, and it is the input of a client of the node
+abbrev pub SpellsCalls : ℕ → Option (List ℕ) → Type 0
+SpellsCalls node None = ⊥
+SpellsCalls node (Some b) = (s : Script) × (client_script node b ≡ IsScript s)
+
+-- what can be done where nothing fails: a load and a text always, to play what is a script, and to serve, ask or use by
+-- settings
 abbrev pub CanBeDone : Seen → Task → Type 0
 CanBeDone x (plays list) = SpellsScript x.left
 CanBeDone x (loads steps) = Unit {0}
 CanBeDone x (tells text) = Unit {0}
 CanBeDone x (serves s objects) = SpellsSettings s.node (Some (counted objects)) x.left
 CanBeDone x (asks a) = SpellsSettings a.node None x.left
+CanBeDone x (uses u) = SpellsCalls u.node x.left
 
 -- ---- all endings
 
@@ -366,9 +448,12 @@ EndsAs ending.WriteFault t x = Rose x.writes x.writes_now × Asks t (WriteFaultA
 EndsAs ending.LinkFault t x = Rose x.faults x.faults_now × Asks t (LinkFaultAs x)
 EndsAs ending.TooMuchKept t x = Asks t (PastAs x)
 EndsAs ending.NoReply t x = Asks t (NoReplyAs x)
+EndsAs ending.SessionLost t x = Asks t (LostAs x)
+EndsAs ending.DaemonFull t x = Asks t (FullAs x)
 
 -- How a call ended, by its status. `complete`: what can be done is done, or memory runs out, or packets pass the limit, where
--- neither the input nor the output failed, the link held, and what was asked was answered.
+-- neither the input nor the output failed, the link held, what was asked and each call was answered, and the daemon that a
+-- client uses stayed and had room for it.
 pub record Ended (status : ℕ) (t : Option Task) (x : Seen) : Type 0 where
   pub usage : status ≡ 1 → (t ≡ None) × Keeps x.held x.now × (x.rest ≡ x.left) × Untouched x
   pub words : t ≡ None → (status ≡ 1) ⊎ (status ≡ 3)
@@ -380,8 +465,10 @@ pub record Ended (status : ℕ) (t : Option Task) (x : Seen) : Type 0 where
   pub link : status ≡ 6 → Rose x.faults x.faults_now × Asks t (LinkFaultAs x)
   pub past : status ≡ 7 → Asks t (PastAs x)
   pub no_reply : status ≡ 9 → Asks t (NoReplyAs x)
-  pub no_other : (status ≤ 7) ⊎ (status ≡ 9)
-  pub complete : Asks t (CanBeDone x) → (Rose x.reads x.reads_now → ⊥) → (Rose x.writes x.writes_now → ⊥) → (Asks t (LinkFaultAs x) → ⊥) → (Asks t (NoReplyAs x) → ⊥)
+  pub lost : status ≡ 10 → Asks t (LostAs x)
+  pub full : status ≡ 11 → Asks t (FullAs x)
+  pub no_other : (status ≤ 7) ⊎ ((9 ≤ status) × (status ≤ 11))
+  pub complete : Asks t (CanBeDone x) → (Rose x.reads x.reads_now → ⊥) → (Rose x.writes x.writes_now → ⊥) → (Asks t (LinkFaultAs x) → ⊥) → (Asks t (NoReplyAs x) → ⊥) → (Asks t (LostAs x) → ⊥) → (Asks t (FullAs x) → ⊥)
       → (status ≡ 0) ⊎ ((status ≡ 3) ⊎ (status ≡ 7))
 
 -- ---- what is said of a bad line

@@ -17,12 +17,13 @@ use std::alloc::Global;
 use world_model::Script;
 
 /// What the words ask of a daemon: its node (1 to 32), its incarnation (from 1 on) or none, and how many turns it does
-/// (from 1 on).
+/// (from 1 on); and whether it serves clients on other machines.
 #[derive(Clone, Copy, Debug, PartialEq, Eq)]
 pub struct Service {
     pub node: u8,
     pub incarnation: Option<u32>,
     pub turns: u32,
+    pub remote: bool,
 }
 
 /// How many objects there are, as far as 32 bits count them.
@@ -76,17 +77,17 @@ fn run_daemon<C: Callbacks, H: Hosts<C>, K: Sink, L: Link, M: Clock>(
     ensures opened { Opens (L.opened link.old) (L.opened link.new)
         (script.now.config.port + serving.me) (status_of result) (NothingDone (L.calls link.old)
         (L.calls link.new) (K.held out.old) (K.held out.new) (M.moments clock.old)
-        (M.moments clock.new)) (ServesTo script.now serving.me serving.incarnation serving.turns
-        (L.calls link.old) (L.calls link.new) (K.held out.old) (K.held out.new)
+        (M.moments clock.new)) (ServesTo script.now serving.me serving.incarnation serving.remote
+        serving.turns (L.calls link.old) (L.calls link.new) (K.held out.old) (K.held out.new)
         (M.moments clock.old) (M.moments clock.new)) }
     ensures done { result ≡ Ending.Done → IsServed script.now serving (L.calls link.old)
         (L.calls link.new) (K.held out.old) (K.held out.new) (M.moments clock.old)
         (M.moments clock.new) }
     ensures memory { result ≡ Ending.NoMemory → ServesFront script.now serving.me
-        serving.incarnation serving.turns (L.calls link.old) (L.calls link.new) (K.held out.old)
+        serving.incarnation serving.remote serving.turns (L.calls link.old) (L.calls link.new) (K.held out.old)
         (K.held out.new) (M.moments clock.old) (M.moments clock.new) }
     ensures write { result ≡ Ending.WriteFault → ServesFront script.now serving.me
-        serving.incarnation serving.turns (L.calls link.old) (L.calls link.new) (K.held out.old)
+        serving.incarnation serving.remote serving.turns (L.calls link.old) (L.calls link.new) (K.held out.old)
         (K.held out.new) (M.moments clock.old) (M.moments clock.new) }
     ensures write_fault { result ≡ Ending.WriteFault → Rose (K.faults out.old) (K.faults out.new) }
     ensures link_fault { result ≡ Ending.LinkFault → Rose (L.faults link.old) (L.faults link.new) }
@@ -138,6 +139,7 @@ pub fn serve_node<S: Source, K: Sink, L: Link, M: Clock>(
         me: service.node,
         incarnation: incarnation_of(service.incarnation, clock),
         turns: service.turns,
+        remote: service.remote,
     };
     let mut hosts = Objects { left: clients };
     run_daemon::<DaemonClient, Objects, K, L, M>(

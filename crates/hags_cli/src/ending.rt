@@ -13,4 +13,6 @@ pub enum Ending {
     LinkFault,
     TooMuchKept,
     NoReply,
+    SessionLost,
+    DaemonFull,
 }

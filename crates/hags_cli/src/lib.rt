@@ -1,6 +1,7 @@
 //! The top call: from the words and the bytes read to the bytes written and the status.
 #![tactic(auto)]
 
+mod client_command;
 mod daemon_command;
 mod edges;
 mod ending;

@@ -3,6 +3,7 @@ ghost use Rattle.std.specs.Prelude.{◌≡◌, IfSome, IfNone, map, string_bytes
 ghost use Rattle.hags_words.specs.Commands.{IsWithin};
 ghost use Rattle.hags_cli.specs.Tasks.{Shows, plays, played_as, list_in, task_asked, task_of, EndsAs};
 
+use crate::client_command::use_node;
 use crate::daemon_command::{Service, serve_node};
 use crate::ending::Ending;
 use crate::load_command::load_steps;
@@ -10,6 +11,7 @@ use crate::run_command::run;
 use crate::status_command::ask_node;
 use crate::tell_command::tell;
 use client_callbacks::Callbacks;
+use client_run::Usage;
 use hags_io::{Clock, Link, Sink, Source};
 use hags_words::{Command, VERSION, help_text, read_command};
 use rsct_packet::List;
@@ -75,18 +77,24 @@ fn perform<S: Source, K: Sink, L: Link, M: Clock>(
                 node,
                 incarnation,
                 turns,
+                remote,
             },
         ) => {
             let service = Service {
                 node,
                 incarnation,
                 turns,
+                remote,
             };
             serve_node(alloc, service, input, out, link, clock, clients)
         }
         Some(Command::Status { what, node, turns }) => {
             let asking = Asking { what, node, turns };
             ask_node(alloc, asking, input, out, link, clock)
+        }
+        Some(Command::Client { node, turns }) => {
+            let usage = Usage { node, turns };
+            use_node(alloc, usage, input, out, link, clock)
         }
         Some(Command::Help { about }) => tell(help_text(about), out),
         Some(Command::Version) => tell(VERSION, out),

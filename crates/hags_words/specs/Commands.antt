@@ -1,9 +1,10 @@
 -- The command that the words of a command line spell.
-use Rattle.std.specs.Prelude.{ℕ, ◌≤◌, IfSome, List, [], ◌∷◌, codes, Option, Some, None, is_some, ◌||◌, if◌then◌else◌, unwrap_or}
+use Rattle.std.specs.Prelude.{ℕ, Bool, false, ◌≤◌, IfSome, List, [], ◌∷◌, codes, Option, Some, None, is_some, ◌||◌, if◌then◌else◌, unwrap_or}
 use Rattle.std.specs.Str.{bytes_eq}
 use Rattle.packet_bodies.specs.declared.body.What.{What}
 use Rattle.packet_bodies.specs.declared.body.What.TheVariants as what
 use Rattle.hags_words.specs.Options.{◌>>=◌, given_of}
+use Rattle.hags_words.specs.Flags.{Split, flag_of}
 use Rattle.hags_words.specs.Texts.{Texts, texts_in}
 use Rattle.hags_words.specs.Numbers.{number_of, number_if_any}
 use Rattle.hags_words.specs.declared.command.Command.{Command}
@@ -19,7 +20,8 @@ unfoldable pub name_of : List ℕ → Option CommandName
 name_of word = if bytes_eq word (codes "run") then Some name.Run
     else (if bytes_eq word (codes "load") then Some name.Load
     else (if bytes_eq word (codes "daemon") then Some name.Daemon
-    else (if bytes_eq word (codes "status") then Some name.Status else None)))
+    else (if bytes_eq word (codes "status") then Some name.Status
+    else (if bytes_eq word (codes "client") then Some name.Client else None))))
 
 -- what a status asks for
 unfoldable pub what_of : List ℕ → Option What
@@ -41,15 +43,15 @@ load_of t = if is_some t.of_kinds || (is_some t.of_node || (is_some t.of_inc || 
       views ← number_of 1 2000 text
       Some (command.Load views))
 
--- `daemon --node N [--inc I] [--turns T]`
-unfoldable pub daemon_of : Texts → Option Command
-daemon_of t = if is_some t.of_operand || is_some t.of_kinds then None
+-- `daemon --node N [--inc I] [--turns T] [--remote]`
+unfoldable pub daemon_of : Bool → Texts → Option Command
+daemon_of remote t = if is_some t.of_operand || is_some t.of_kinds then None
     else (do
       text ← t.of_node
       node ← number_of 1 32 text
       incarnation ← number_if_any 1 last_u32 t.of_inc
       turns ← number_if_any 1 last_u32 t.of_turns
-      Some (command.Daemon node incarnation (unwrap_or turns last_u32)))
+      Some (command.Daemon node incarnation (unwrap_or turns last_u32) remote))
 
 -- `status WHAT --node N [--turns T]`
 unfoldable pub status_of : Texts → Option Command
@@ -62,11 +64,22 @@ status_of t = if is_some t.of_kinds || is_some t.of_inc then None
       turns ← number_if_any 1 last_u32 t.of_turns
       Some (command.Status what node (unwrap_or turns 1000)))
 
+-- `client --node N [--turns T]`
+unfoldable pub client_of : Texts → Option Command
+client_of t = if is_some t.of_operand || (is_some t.of_kinds || is_some t.of_inc) then None
+    else (do
+      text ← t.of_node
+      node ← number_of 1 32 text
+      turns ← number_if_any 1 last_u32 t.of_turns
+      Some (command.Client node (unwrap_or turns 1000)))
+
+-- a daemon has its own words, since it alone has a flag
 unfoldable pub command_with : CommandName → Texts → Option Command
 command_with name.Run t = run_of t
 command_with name.Load t = load_of t
-command_with name.Daemon t = daemon_of t
+command_with name.Daemon t = daemon_of false t
 command_with name.Status t = status_of t
+command_with name.Client t = client_of t
 
 -- `--help` or `--version`, and nothing else
 unfoldable pub help_or_version : Option CommandName → List (List ℕ) → Option Command
@@ -78,9 +91,21 @@ abbrev pub or_else : {A : Type 0} → Option A → Option A → Option A
 or_else (Some x) y = Some x
 or_else None y = y
 
+-- the words after `daemon`
+abbrev pub daemon_split : Option Split → Option Command
+daemon_split None = None
+daemon_split (Some s) = given_of s.left >>= λ values. daemon_of s.given (texts_in values)
+
+unfoldable pub daemon_after : List (List ℕ) → Option Command
+daemon_after words = daemon_split (flag_of words)
+
+abbrev pub options_after : CommandName → List (List ℕ) → Option Command
+options_after name.Daemon words = daemon_after words
+options_after n words = given_of words >>= λ values. command_with n (texts_in values)
+
 -- the words after that of a command
 unfoldable pub command_after : CommandName → List (List ℕ) → Option Command
-command_after n words = or_else (help_or_version (Some n) words) (given_of words >>= λ values. command_with n (texts_in values))
+command_after n words = or_else (help_or_version (Some n) words) (options_after n words)
 
 abbrev pub command_named : Option CommandName → List ℕ → List (List ℕ) → Option Command
 command_named (Some n) word words = command_after n words
@@ -94,6 +119,7 @@ command_of (word ∷ words) = command_named (name_of word) word words
 -- its numbers are within their ranges
 abbrev pub IsWithin : Command → Type 0
 IsWithin (command.Load views) = (1 ≤ views) × (views ≤ 2000)
-IsWithin (command.Daemon node incarnation turns) = (1 ≤ node) × (node ≤ 32) × IfSome incarnation (λ i. 1 ≤ i) × (1 ≤ turns)
+IsWithin (command.Daemon node incarnation turns remote) = (1 ≤ node) × (node ≤ 32) × IfSome incarnation (λ i. 1 ≤ i) × (1 ≤ turns)
 IsWithin (command.Status what node turns) = (1 ≤ node) × (node ≤ 32) × (1 ≤ turns)
+IsWithin (command.Client node turns) = (1 ≤ node) × (node ≤ 32) × (1 ≤ turns)
 IsWithin _ = Unit {0}

@@ -6,3 +6,5 @@ pub mod Numbers
 pub mod Commands
 pub mod Help
 pub mod Spelled
+pub mod Flags
+pub mod Splits

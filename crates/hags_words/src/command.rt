@@ -1,8 +1,9 @@
 //! The command that the words of a command line spell.
 ghost use Rattle.std.specs.Prelude.{◌≡◌, IfOk, IfSome, map, string_bytes};
 ghost use Rattle.hags_words.specs.Texts.{seen, text_of};
-ghost use Rattle.hags_words.specs.Commands.{name_of, what_of, run_of, load_of, daemon_of, status_of, command_with, help_or_version, command_after, command_of, IsWithin};
+ghost use Rattle.hags_words.specs.Commands.{name_of, what_of, run_of, load_of, daemon_of, status_of, client_of, command_with, daemon_after, help_or_version, command_after, command_of, IsWithin};
 
+use crate::flags::take_flag;
 use crate::numbers::{node_number, number, number_if_any};
 use crate::options::{Options, read_options};
 use packet_bodies::What;
@@ -15,13 +16,17 @@ const MOST_VIEWS: u32 = 2_000;
 /// How many datagrams `status` receives at most, unless `--turns` says it.
 const STATUS_TURNS: u32 = 1_000;
 
-/// The commands by their words: `run`, `load`, `daemon` and `status`.
+/// How many turns `client` does, unless `--turns` says it.
+const CLIENT_TURNS: u32 = 1_000;
+
+/// The commands by their words: `run`, `load`, `daemon`, `status` and `client`.
 #[derive(Clone, Copy, Debug, PartialEq, Eq)]
 pub enum CommandName {
     Run,
     Load,
     Daemon,
     Status,
+    Client,
 }
 
 /// What a command line asks for.
@@ -36,17 +41,25 @@ pub enum Command {
     Load {
         views: u32,
     },
-    /// `daemon --node N [--inc I] [--turns T]`: serve node N, from 1 to 32, in the incarnation I, from 1 on, or in one
-    /// that the clock gives, for T turns, from 1 on; for 4,294,967,295 where T is not told.
+    /// `daemon --node N [--inc I] [--turns T] [--remote]`: serve node N, from 1 to 32, in the incarnation I, from 1 on, or
+    /// in one that the clock gives, for T turns, from 1 on; for 4,294,967,295 where T is not told. With `--remote` clients
+    /// on other machines are served.
     Daemon {
         node: u8,
         incarnation: Option<u32>,
         turns: u32,
+        remote: bool,
     },
     /// `status WHAT --node N [--turns T]`: ask node N, from 1 to 32, and receive T times at most, from 1 on; 1,000 times
     /// where T is not told.
     Status {
         what: What,
+        node: u8,
+        turns: u32,
+    },
+    /// `client --node N [--turns T]`: use the daemon of node N, from 1 to 32, as a client on another machine, for T turns,
+    /// from 1 on; for 1,000 where T is not told.
+    Client {
         node: u8,
         turns: u32,
     },
@@ -71,6 +84,8 @@ fn name_of(word: &[u8]) -> Option<CommandName>
         Some(CommandName::Daemon)
     } else if word == b"status".as_slice() {
         Some(CommandName::Status)
+    } else if word == b"client".as_slice() {
+        Some(CommandName::Client)
     } else {
         None
     }
@@ -138,10 +153,10 @@ fn load_of(options: Options<'_>) -> Option<Command>
     Some(Command::Load { views })
 }
 
-/// `daemon --node N [--inc I] [--turns T]`
+/// `daemon --node N [--inc I] [--turns T] [--remote]`
 #[tactic(auto, unfolding(crate::specs::Commands::daemon_of))]
-fn daemon_of(options: Options<'_>) -> Option<Command>
-    ensures value { result ≡ daemon_of (seen options.entry) }
+fn daemon_of(options: Options<'_>, remote: bool) -> Option<Command>
+    ensures value { result ≡ daemon_of remote (seen options.entry) }
     ensures within { IfSome result IsWithin }
 {
     if options.operand.is_some() || options.kinds.is_some() {
@@ -154,6 +169,7 @@ fn daemon_of(options: Options<'_>) -> Option<Command>
         node,
         incarnation,
         turns,
+        remote,
     })
 }
 
@@ -172,6 +188,20 @@ fn status_of(options: Options<'_>) -> Option<Command>
     Some(Command::Status { what, node, turns })
 }
 
+/// `client --node N [--turns T]`
+#[tactic(auto, unfolding(crate::specs::Commands::client_of))]
+fn client_of(options: Options<'_>) -> Option<Command>
+    ensures value { result ≡ client_of (seen options.entry) }
+    ensures within { IfSome result IsWithin }
+{
+    if options.operand.is_some() || options.kinds.is_some() || options.inc.is_some() {
+        return None;
+    }
+    let node = node_number(options.node?)?;
+    let turns = number_if_any(1, u32::MAX, options.turns)?.unwrap_or(CLIENT_TURNS);
+    Some(Command::Client { node, turns })
+}
+
 /// The command of this name with these options.
 #[tactic(auto, unfolding(crate::specs::Commands::command_with))]
 fn command_with(
@@ -185,8 +215,9 @@ fn command_with(
     match name {
         CommandName::Run => run_of(alloc, options),
         CommandName::Load => Ok(load_of(options)),
-        CommandName::Daemon => Ok(daemon_of(options)),
+        CommandName::Daemon => Ok(daemon_of(options, false)),
         CommandName::Status => Ok(status_of(options)),
+        CommandName::Client => Ok(client_of(options)),
     }
 }
 
@@ -208,6 +239,21 @@ fn help_or_version(about: Option<CommandName>, words: &[String]) -> Option<Comma
     }
 }
 
+/// `daemon` with the words after it.
+#[tactic(auto, unfolding(crate::specs::Commands::daemon_after))]
+fn daemon_after(alloc: Global, words: &[String]) -> Result<Option<Command>, NoMemory>
+    ensures value { IfOk result (λ command. command ≡ daemon_after (map string_bytes words.now)) }
+    ensures within { IfOk result (λ command. IfSome command IsWithin) }
+{
+    let Some(split) = take_flag(alloc, words)? else {
+        return Ok(None);
+    };
+    match read_options(alloc, split.left.as_slice())? {
+        None => Ok(None),
+        Some(options) => Ok(daemon_of(options, split.given)),
+    }
+}
+
 /// The command of this name, with the words after its name.
 #[tactic(auto, unfolding(crate::specs::Commands::command_after))]
 fn command_after(
@@ -221,6 +267,9 @@ fn command_after(
 {
     if let Some(command) = help_or_version(Some(name), words) {
         return Ok(Some(command));
+    }
+    if name == CommandName::Daemon {
+        return daemon_after(alloc, words);
     }
     match read_options(alloc, words)? {
         None => Ok(None),

@@ -12,8 +12,9 @@ hags: group membership for clusters, proved
 
 usage: hags run [--kinds LIST]
        hags load N
-       hags daemon --node N [--inc I] [--turns T]
+       hags daemon --node N [--inc I] [--turns T] [--remote]
        hags status WHAT --node N [--turns T]
+       hags client --node N [--turns T]
 
 commands:
   run     plays the script on standard input, and writes the transcript of all
@@ -22,6 +23,8 @@ commands:
           writes how many views, entries and refusals came of it
   daemon  serves node N of the settings on standard input, over UDP
   status  asks the daemon of node N what it knows, and writes the answer
+  client  hands the calls on standard input to the daemon of node N, and writes
+          the answers and what their client hears
 
 An example: one node, and one client that joins a group.
 
@@ -33,7 +36,8 @@ status:
   1  faulty words       5  write fault
   2  faulty input       6  link fault
   3  no memory          7  too much kept
-                        9  no reply
+  9  no reply          10  session lost
+                       11  daemon full
 Where it is not 0, a line on standard error says what was wrong.
 
 `hags COMMAND --help` says more of a command, and `hags --version` which
@@ -119,7 +123,7 @@ pages: docs/command-line.md; README.md
 const DAEMON: &[u8] = b"\
 hags daemon: serves a node of a cluster, over UDP
 
-usage: hags daemon --node N [--inc I] [--turns T] < SETTINGS
+usage: hags daemon --node N [--inc I] [--turns T] [--remote] < SETTINGS
 
 It reads the settings on standard input to their end: node lines, `port` and so
 on, then the line `begin`, and then what clients of the node do first. All
@@ -134,6 +138,7 @@ happens at the node.
   --turns T    it ends after T turns, from 1 to 4,294,967,295, which is also
                what is taken without it. A turn takes in one datagram, or waits
                20 milliseconds for one
+  --remote     serve clients on other machines too
 
 An example, a node alone that ends by itself after a second or so:
 
@@ -189,6 +194,45 @@ status:
 pages: docs/operating.md, what each line says; docs/command-line.md
 ";
 
+const CLIENT: &[u8] = b"\
+hags client: uses a daemon of a cluster as a client on another machine
+
+usage: hags client --node N [--turns T] < SETTINGS
+
+It reads the settings of the cluster on standard input, and behind the line
+`begin` the calls of one client, of which the first is `client N NAME -`. It
+hands them to the daemon of node N over UDP, one after the other, each once the
+last one has its answer. That daemon runs with --remote. It writes a line for
+each answer, `did K taken` or `did K refused` for the call K, and one for each
+thing that its client hears.
+
+  --node N     the node of the daemon, from 1 to 32
+  --turns T    how many turns it does, from 1 to 4,294,967,295; 1,000 without
+               it. In a turn it sends its state and waits 20 milliseconds at
+               most for an answer
+
+An example:
+
+  printf '%s\\n' 'node 1' 'adapter 1 1 127.0.0.1' 'port 4000' begin \\
+      'client 1 a -' 'join a db 7' |
+    hags client --node 1
+
+status:
+   0  all turns were done, and each call has its answer
+   1  the words are faulty; nothing was read
+   2  the input is faulty: `hags: line L: WHY` names its first faulty line;
+      nothing was sent
+   3  no memory
+   4  read fault
+   5  write fault
+   6  no port could be opened, or 16 receives in a row failed
+   9  no reply: a call has no answer after the last turn
+  10  session lost: the daemon was started anew
+  11  daemon full: it keeps no more clients
+
+pages: docs/command-line.md; docs/remote-sessions.md
+";
+
 /// What `--help` says of all commands, or of one, to the byte.
 pub fn help_text(about: Option<CommandName>) -> &'static [u8]
     ensures { result.now ≡ help_of about }
@@ -199,5 +243,6 @@ pub fn help_text(about: Option<CommandName>) -> &'static [u8]
         Some(CommandName::Load) => LOAD,
         Some(CommandName::Daemon) => DAEMON,
         Some(CommandName::Status) => STATUS,
+        Some(CommandName::Client) => CLIENT,
     }
 }

@@ -2,6 +2,7 @@
 #![tactic(auto)]
 
 mod command;
+mod flags;
 mod help;
 mod laws;
 mod numbers;

@@ -53,7 +53,7 @@ fn is_short(word: &[u8]) -> bool
 }
 
 /// Is it `--`, which ends the options?
-fn is_end(word: &[u8]) -> bool
+pub fn is_end(word: &[u8]) -> bool
     ensures { result ≡ is_end word.now }
 {
     word == b"--".as_slice()

@@ -18,7 +18,7 @@ use Rattle.world_safety.specs.Events.{MayHappen}
 use Rattle.world_safety.specs.Mirrors.{inc_at}
 use Rattle.world_safety.specs.Moments.{CanCome}
 use Rattle.daemon_model.specs.Sent.{goes_out, number_after}
-use Rattle.daemon_model.specs.Daemon.{Daemon, Opening, left_by, stepped_by, given}
+use Rattle.daemon_model.specs.Daemon.{Daemon, Opening, stepped_by, given, left_for, stepped_for}
 use Rattle.network_model.specs.Network.{Net, datagrams_of, sent_since, went_on}
 use Rattle.network_model.specs.Packets.{given_packets}
 use Rattle.network_safety.specs.Safe.{answered_by, IsGivenTo, GivenEvents}
@@ -154,7 +154,7 @@ module _ (c : Config) (net : Net) (es : List Answered) (w : World) (k : Stand c 
 -- no message: nothing changes
 pub none_given : (c : Config) (net : Net) (es : List Answered) (w : World) → Stand c net es w → (n : ℕ) (d : Daemon) → net.daemons n ≡ Some d → Stand c (went_on n d d net) es w
 none_given c net es w k n d at =
-    keeps_stands c net es w k n d at d refl refl refl refl (own_up c net es w k n d at).joined (nothing_sent d d refl) (noted_is d d [] (sym (append-nil d.records)))
+    keeps_stands c net es w k n d at d refl refl refl refl (own_up c net es w k n d at).joined (own_up c net es w k n d at).alone (nothing_sent d d refl) (noted_is d d [] (sym (append-nil d.records)))
 
 abbrev pub IsKnownIf : World → Option (List ℕ) → Type 0
 IsKnownIf w None = Unit {0}
@@ -162,7 +162,7 @@ IsKnownIf w (Some bytes) = IsKnown w bytes
 
 pub message_gives : (c : Config) (net : Net) (es : List Answered) (w : World) (k : Stand c net es w) (n : ℕ) (d : Daemon) → net.daemons n ≡ Some d → (f : Answering) (message : Option (List ℕ)) → IsKnownIf w message
     → ((p : Packet) → Has p (given_packets message f d) → goes_out p ≡ true → packet_of (bytes_of p) ≡ Some p) → (given message f d).number ≤ 2 ^ 64 → Gives c net es w n d (given message f d) message f
-unfolding given stepped_by left_by
+unfolding given stepped_for left_for
 message_gives c net es w k n d at f None known spelled few =
     record { events = []; are = refl; world = w; stand = subst (λ zs. Stand c (went_on n d d net) zs w) (sym (append-nil es)) (none_given c net es w k n d at) }
 message_gives c net es w k n d at f (Some message) known spelled few = given_by c net es w k n d at f message (packet_of message) refl known spelled few

@@ -15,7 +15,7 @@ use Rattle.world_laws.proofs.world_runs.Backwards.{reversed_back}
 use Rattle.world_laws.specs.world_answers.Answers.{Answered, goes_on, answered_after, answered_records}
 use Rattle.world_safety.specs.Scripts.{IsSafe}
 use Rattle.world_safety.proofs.Scripts.{every_answer_is_safe}
-use Rattle.daemon_model.specs.Daemon.{Daemon, Opening, Turn, opened, stepped_by, left_by, turned}
+use Rattle.daemon_model.specs.Daemon.{Daemon, Opening, Turn, opened, turned, left_for, stepped_for}
 use Rattle.network_model.specs.Network.{Act, Begins, Opens, Turns, Ends, Net, no_net, skipped, begins, idles, starts, does_if, acted, net_after}
 use Rattle.network_model.specs.Packets.{opening_packets}
 use Rattle.network_model.specs.Fits.{MaySend, MayBegin, MayTurn, OfUp, MayAct, AllMayAct}
@@ -86,7 +86,7 @@ module _ (c : Config) (free : is_fixed c.mode ≡ false) (net : Net) (es : List 
       }
 
   open_goes : (n : ℕ) (o : Opening) (d : Option Daemon) → net.daemons n ≡ d → OfUp (λ d. MaySend (opening_packets o d) (opened d o)) d → ActGoes c net es (Opens n o)
-  unfolding acted opened stepped_by left_by
+  unfolding acted opened stepped_for left_for
   open_goes n o None at may = absurd may
   open_goes n o (Some d) at may =
       record {

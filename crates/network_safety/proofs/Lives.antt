@@ -17,7 +17,7 @@ use Rattle.world_safety.specs.Mirrors.{inc_at}
 use Rattle.piece_link.specs.Pieces.{Message}
 use Rattle.piece_link.specs.Answers.{Among}
 use Rattle.daemon_model.specs.Sent.{sent_calls}
-use Rattle.daemon_model.specs.Daemon.{Daemon, left_by, begun}
+use Rattle.daemon_model.specs.Daemon.{Daemon, begun, left_for, begun_for}
 use Rattle.network_model.specs.Network.{Net, datagrams_of, starts, ends, idles}
 use Rattle.network_safety.specs.Safe.{silent, idle_events}
 use Rattle.network_safety.proofs.Quiet.{start_rests}
@@ -29,23 +29,23 @@ use Rattle.network_safety.proofs.Standing.{IsCore, Facts, facts, NodeOf, node_of
 
 -- a daemon that starts has its node, at work; has sent nothing; and recorded that it is up
 pub begun_records : (c : Config) (n inc moment : ℕ) → (begun c n inc moment).records ≡ (started c n inc).records
-unfolding begun left_by
+unfolding begun_for left_for
 begun_records c n inc moment = refl
 
 begun_calls : (c : Config) (n inc moment : ℕ) → (begun c n inc moment).calls ≡ []
-unfolding begun left_by started with_sessions sent_calls
+unfolding begun_for left_for started with_sessions sent_calls
 begun_calls c n inc moment = refl
 
 begun_core : (c : Config) (n inc moment : ℕ) → (begun c n inc moment).core ≡ at_work (started c n inc)
-unfolding begun left_by
+unfolding begun_for left_for
 begun_core c n inc moment = refl
 
 begun_up : (ms : List Message) (c : Config) (n inc moment : ℕ) → n ≤ 32 → inc < 2 ^ 32 → IsUp ms n inc (begun c n inc moment)
-unfolding begun left_by
-begun_up ms c n inc moment most fits = record { most = most; fits = fits; me = refl; incarnation = refl; rests = start_rests c n inc; joined = none_joined ms }
+unfolding begun_for left_for
+begun_up ms c n inc moment most fits = record { most = most; fits = fits; me = refl; incarnation = refl; rests = start_rests c n inc; joined = none_joined ms; alone = refl }
 
 begun_inc : (c : Config) (n inc moment : ℕ) → (begun c n inc moment).incarnation ≡ inc
-unfolding begun left_by
+unfolding begun_for left_for
 begun_inc c n inc moment = refl
 
 none_more : (wire : List (List ℕ)) → wire ++ datagrams_of [] ≡ wire

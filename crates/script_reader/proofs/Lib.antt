@@ -4,3 +4,4 @@ pub mod SaidLaws
 pub mod ReadLaws
 pub mod ScriptLaws
 pub mod SettingsLaws
+pub mod ClientLines

@@ -1,12 +1,14 @@
 //! A script from its bytes, line by line.
-ghost use Rattle.std.specs.Prelude.{◌≡◌, ◌≤◌, ◌∷◌, [], Some, IfOk, false};
+ghost use Rattle.std.specs.Prelude.{◌≡◌, ◌≤◌, ◌∷◌, [], None, Some, IfOk, false};
 ghost use Rattle.std.specs.List.{list_any};
 ghost use Rattle.world_model.specs.Reading.{is_bad_byte, is_comment, is_extra, skipped_line, taken_unless, said_line, counted_line, formed_line, worded_line, words_in, texted, read_line, read_from, input_limit, read_for, script_of};
 ghost use Rattle.world_model.specs.Settings.{aim_of, daemon_script, KeepsFor, HasTexts};
+ghost use Rattle.script_reader.specs.ClientScript.{line_by, lines_from, lines_for, client_script};
 ghost use Rattle.script_words.specs.Heads.{form_seen};
 ghost use Rattle.script_reader.specs.Said.{said_seen};
 ghost use Rattle.script_reader.specs.Reading.{reading_seen, GivesLine, GivesScript};
 
+use crate::client_lines::client_line;
 use crate::faults::{LineFault, ScriptFault};
 use crate::progress::ReadSoFar;
 use crate::reasons::reason;
@@ -26,14 +28,14 @@ fn is_bad_byte(byte: u8) -> bool
 }
 
 /// Is there a byte that no line has?
-fn has_bad_byte(line: &[u8]) -> bool
+pub fn has_bad_byte(line: &[u8]) -> bool
     ensures { result ≡ list_any is_bad_byte line.now }
 {
     line.iter().any(|b| is_bad_byte(*b))
 }
 
 #[tactic(auto, unfolding(world_model::specs::Reading::is_comment))]
-fn is_comment(line: &[u8]) -> bool
+pub fn is_comment(line: &[u8]) -> bool
     ensures { result ≡ is_comment line.now }
 {
     match line {
@@ -43,7 +45,7 @@ fn is_comment(line: &[u8]) -> bool
 }
 
 #[tactic(auto, unfolding(world_model::specs::Reading::is_extra))]
-fn is_extra(count: usize, most: Option<usize>) -> bool
+pub fn is_extra(count: usize, most: Option<usize>) -> bool
     ensures { result ≡ is_extra count most }
 {
     match most {
@@ -143,7 +145,12 @@ fn texted_line(
 
 /// Takes a line within the limit of an input. `whole`: its line feed stands behind it.
 #[tactic(auto, unfolding(world_model::specs::Reading::read_line))]
-fn read_line(alloc: Global, read: &mut ReadSoFar, whole: bool, line: &[u8]) -> Result<(), LineFault>
+pub fn read_line(
+    alloc: Global,
+    read: &mut ReadSoFar,
+    whole: bool,
+    line: &[u8],
+) -> Result<(), LineFault>
     ensures { GivesLine result read.new (read_line (reading_seen read.old) whole false line.now) }
 {
     if has_bad_byte(line) {
@@ -155,17 +162,38 @@ fn read_line(alloc: Global, read: &mut ReadSoFar, whole: bool, line: &[u8]) -> R
     texted_line(alloc, read, whole, line)
 }
 
+/// Takes a line within the limit of an input, of a script or of the input of a client.
+#[tactic(auto, unfolding(crate::specs::ClientScript::line_by))]
+fn line_by(
+    alloc: Global,
+    read: &mut ReadSoFar,
+    calls: bool,
+    whole: bool,
+    line: &[u8],
+) -> Result<(), LineFault>
+    ensures { GivesLine result read.new (line_by calls (reading_seen read.old) whole false
+        line.now) }
+{
+    if calls {
+        client_line(alloc, read, whole, line)
+    } else {
+        read_line(alloc, read, whole, line)
+    }
+}
+
 /// Takes what follows the last line feed, at this place of the input, as the line of this number.
 #[tactic(auto, using(crate::proofs::ScriptLaws::no_line, crate::proofs::ScriptLaws::last_long, crate::proofs::ScriptLaws::last_taken, crate::proofs::ScriptLaws::last_fails))]
 fn read_last(
     alloc: Global,
     mut read: ReadSoFar,
+    calls: bool,
     number: u32,
     place: usize,
     line: &[u8],
 ) -> Result<Script, ScriptFault>
     requires { place ≤ input_limit }
-    ensures { GivesScript result (read_from (reading_seen read) number place (line.now ∷ [])) }
+    ensures { GivesScript result (lines_from calls (reading_seen read) number place
+        (line.now ∷ [])) }
 {
     if line.len() == 0 {
         return read.finish(number);
@@ -173,16 +201,16 @@ fn read_last(
     if place + line.len() > INPUT_LIMIT {
         return Err(ScriptFault::Line(number, LineWhy::Long));
     }
-    match read_line(alloc, &mut read, false, line) {
+    match line_by(alloc, &mut read, calls, false, line) {
         Ok(()) => read.finish(number),
         Err(fault) => Err(fault.at(number)),
     }
 }
 
 /// The script that the bytes spell, read for this.
-#[tactic(auto, unfolding(world_model::specs::Reading::read_for), using(crate::proofs::ScriptLaws::line_long, crate::proofs::ScriptLaws::line_taken, crate::proofs::ScriptLaws::line_fails, crate::proofs::ScriptLaws::last_piece))]
-fn read_lines(alloc: Global, bytes: &[u8], aim: Aim) -> Result<Script, ScriptFault>
-    ensures { GivesScript result (read_for aim bytes.now) }
+#[tactic(auto, unfolding(crate::specs::ClientScript::lines_for), using(crate::proofs::ScriptLaws::line_long, crate::proofs::ScriptLaws::line_taken, crate::proofs::ScriptLaws::line_fails, crate::proofs::ScriptLaws::last_piece))]
+fn read_lines(alloc: Global, bytes: &[u8], aim: Aim, calls: bool) -> Result<Script, ScriptFault>
+    ensures { GivesScript result (lines_for calls aim bytes.now) }
 {
     let mut read = ReadSoFar::new(alloc, aim);
     let mut number = 1;
@@ -193,23 +221,23 @@ fn read_lines(alloc: Global, bytes: &[u8], aim: Aim) -> Result<Script, ScriptFau
         if end > INPUT_LIMIT {
             return Err(ScriptFault::Line(number, LineWhy::Long));
         }
-        if let Err(fault) = read_line(alloc, &mut read, true, line) {
+        if let Err(fault) = line_by(alloc, &mut read, calls, true, line) {
             return Err(fault.at(number));
         }
         number += 1;
         place = end;
         left = after;
     }
-    read_last(alloc, read, number, place, left)
+    read_last(alloc, read, calls, number, place, left)
 }
 
 /// The script that the bytes spell. Otherwise the fault is the number of the first line, from 1 on, that is in no
 /// script, and the first reason why, in the order of `LineWhy`; or memory has run out.
-#[tactic(auto, unfolding(world_model::specs::Reading::script_of))]
+#[tactic(auto, unfolding(world_model::specs::Reading::script_of), using(crate::proofs::ScriptLaws::lines_of_script))]
 pub fn read_script(alloc: Global, bytes: &[u8]) -> Result<Script, ScriptFault>
     ensures { GivesScript result (script_of bytes.now) }
 {
-    read_lines(alloc, bytes, Aim::Plays)
+    read_lines(alloc, bytes, Aim::Plays, false)
 }
 
 #[tactic(auto, unfolding(world_model::specs::Settings::aim_of))]
@@ -222,7 +250,7 @@ fn aim_of(me: u8, objects: Option<u32>) -> Aim
     }
 }
 
-#[tactic(auto, unfolding(world_model::specs::Settings::daemon_script))]
+#[tactic(auto, unfolding(world_model::specs::Settings::daemon_script), using(crate::proofs::ScriptLaws::lines_of_script))]
 fn read_settings(
     alloc: Global,
     bytes: &[u8],
@@ -231,7 +259,7 @@ fn read_settings(
 ) -> Result<Script, ScriptFault>
     ensures { GivesScript result (daemon_script me objects bytes.now) }
 {
-    read_lines(alloc, bytes, aim_of(me, objects))
+    read_lines(alloc, bytes, aim_of(me, objects), false)
 }
 
 /// The script that the bytes spell as the settings of node `me` (1 to 32): for a daemon of it, with `objects` for
@@ -257,4 +285,19 @@ pub fn read_daemon(
     ensures texts { IfOk result HasTexts }
 {
     read_settings(alloc, bytes, me, objects)
+}
+
+/// The script that the bytes spell as the input of a client of node `me` (1 to 32): settings as for who asks the node,
+/// and after `begin` the calls of one client, of which the first is `client N NAME -`. The fault is that of
+/// `read_daemon`, with these rules more:
+///
+/// - A line of words after `begin` that has more than 1,100 bytes is long.
+/// - A line after `begin` that is no such call is out of place.
+#[tactic(auto, unfolding(crate::specs::ClientScript::client_script), using(crate::proofs::ClientLines::keeps_client, crate::proofs::ClientLines::client_texts))]
+pub fn read_client(alloc: Global, bytes: &[u8], me: u8) -> Result<Script, ScriptFault>
+    ensures read { GivesScript result (client_script me bytes.now) }
+    ensures keeps { IfOk result (KeepsFor me None) }
+    ensures texts { IfOk result HasTexts }
+{
+    read_lines(alloc, bytes, Aim::Asks(me), true)
 }

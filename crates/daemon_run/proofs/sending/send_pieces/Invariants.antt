@@ -5,5 +5,5 @@ use Rattle.daemon_run.proofs.sending.send_pieces.Given as goal
 
 abbrev pub invariant-loop-piece : goal.invariant-loop-piece
 invariant-loop-piece g l =
-    WentTo (g.L.Link.calls l.initial.link) (g.L.Link.calls l.link) (pieces_left (λ d. d.items) l.packet (drop l.piece-index l.pieces)) (pieces_left (λ d. d.items) l.packet l.pieces)
+    WentTo (g.L.Link.calls l.initial.link) (g.L.Link.calls l.link) (pieces_left (λ d. d.items) l.to.node l.to.network (drop l.piece-index l.pieces)) (pieces_left (λ d. d.items) l.to.node l.to.network l.pieces)
     × KeepsLink (g.L.Link.places l.initial.link) (g.L.Link.places l.link) (g.L.Link.opened l.initial.link) (g.L.Link.opened l.link) (g.L.Link.faults l.initial.link) (g.L.Link.faults l.link)

@@ -1,0 +1,15 @@
+//! What holds of every life.
+ghost use Rattle.std.specs.Prelude.{◌≡◌, ℕ, None, false};
+ghost use Rattle.hags_io.specs.declared.link.LinkCall.{LinkCall};
+ghost use Rattle.node_state.specs.declared.config.Config.{Config};
+ghost use Rattle.node_state.specs.HandOn.{Answering};
+ghost use Rattle.daemon_model.specs.Daemon.{Daemon, Life, joined_by, received, given, heard, lived};
+
+/// A daemon that serves no clients on other machines never has a session of one, and a message is one for its node.
+#[tactic(auto, using(crate::proofs::AloneLaws::lived_alone, crate::proofs::AloneLaws::heard_alone))]
+pub fn alone_without_other_machines()
+    ensures lived { (c : Config) (me incarnation : ℕ) (life : Life) → life.remote ≡ false
+        → (lived c me incarnation life).sessions ≡ None }
+    ensures heard { (d : Daemon) (got : LinkCall) (f : Answering) → d.sessions ≡ None
+        → heard got f d ≡ given (joined_by got d.joining).message f (received got d) }
+{}

@@ -1,0 +1,194 @@
+//! What comes from clients on other machines.
+ghost use Rattle.std.specs.Prelude.{◌≡◌, ◌≤◌, OnOk, OnErr, IfOk, IfSome, Some, Err, option_map};
+ghost use Rattle.hags_io.specs.Edges.{Rose};
+ghost use Rattle.remote_session.specs.Daemon.{seen_up};
+ghost use Rattle.remote_clients.specs.Clients.{IsPlain};
+ghost use Rattle.remote_clients.specs.Sessions.{finished, turned_down};
+ghost use Rattle.daemon_model.specs.Daemon.{up_in, call_in, down_in};
+ghost use Rattle.daemon_run.specs.Audience.{Attend};
+ghost use Rattle.daemon_run.specs.Keeping.{KeepsLink};
+ghost use Rattle.daemon_run.specs.Doing.{IsSame, is_up_taken, Sends, SendsFront, CallsKey, CallKeyBreaks, GivesAs, GiveBreaks};
+
+use crate::calls::Hosts;
+use crate::running::Running;
+use crate::sending::{Receiver, send_message};
+use crate::writing::Stop;
+use client_callbacks::Callbacks;
+use hags_io::{Link, Sink};
+use node_core::NodeEvent;
+use node_state::CallLine;
+use remote_session::UpSeen;
+use rsct_packet::NoMemory;
+use std::alloc::Global;
+
+impl<C: Callbacks> Running<C> {
+    /// The sessions take a message, which may be an Up; where none are served it is none.
+    fn take_up<'a>(&mut self, alloc: Global, message: &'a [u8]) -> Result<UpSeen<'a>, NoMemory>
+        ensures seen { IfOk result (λ seen. seen_up seen
+            ≡ up_in self.old.sessions message.entry.now) }
+        ensures taken { OnOk result (self.new ≡ is_up_taken self.old message.entry.now) }
+        ensures same { IsSame self.old self.new }
+    {
+        match &mut self.sessions {
+            None => Ok(UpSeen::NoMessage),
+            Some(sessions) => sessions.remote.up(alloc, message),
+        }
+    }
+
+    /// The call of the node that a key's line is, if it is one.
+    fn call_in(&self, alloc: Global, key: u32, line: &[u8]) -> Result<Option<CallLine>, NoMemory>
+        ensures call { IfOk result (λ call. call
+            ≡ call_in self.now.sessions self.now.me key line.now) }
+        ensures plain { IfOk result (λ call. IfSome call IsPlain) }
+    {
+        match &self.sessions {
+            None => Ok(None),
+            Some(sessions) => sessions.call(alloc, self.me, key, line),
+        }
+    }
+
+    /// A line of the key is refused without a step.
+    fn turn_down(&mut self, key: u32)
+        ensures down { self.new ≡ record self.old
+            { sessions = option_map (turned_down key) self.old.sessions } }
+        ensures same { IsSame self.old self.new }
+    {
+        if let Some(sessions) = &mut self.sessions {
+            sessions.turn_down(key);
+        }
+    }
+
+    /// A call of the key was a step, in which it was taken or refused.
+    fn finish(
+        &mut self,
+        alloc: Global,
+        key: u32,
+        call: &CallLine,
+        taken: bool,
+    ) -> Result<(), NoMemory>
+        ensures done { OnOk result (self.new ≡ record self.old
+            { sessions = option_map (finished key call.now taken) self.old.sessions }) }
+        ensures same { IsSame self.old self.new }
+    {
+        match &mut self.sessions {
+            None => Ok(()),
+            Some(sessions) => sessions.finish(alloc, key, call, taken),
+        }
+    }
+
+    /// The line of a key: a call of the node, or refused without a step.
+    #[tactic(auto, using(crate::proofs::RemoteLaws::line_refused, crate::proofs::RemoteLaws::line_done, crate::proofs::RemoteLaws::line_broke, crate::proofs::RemoteLaws::line_late, crate::proofs::RemoteLaws::line_none, crate::proofs::KeepLaws::keeps_itself))]
+    fn carry_key_line<H: Hosts<C>, K: Sink, L: Link>(
+        &mut self,
+        alloc: Global,
+        key: u32,
+        line: &[u8],
+        hosts: &mut H,
+        out: &mut K,
+        link: &mut L,
+    ) -> Result<(), Stop>
+        requires { self.old.me ≤ 32 }
+        ensures done { OnOk result (CallsKey (Attend C.stands_for C.script) self.old self.new
+            (L.calls link.old) (L.calls link.new) (K.held out.old) (K.held out.new) key line.now) }
+        ensures broke { OnErr result (CallKeyBreaks self.old (L.calls link.old)
+            (L.calls link.new) (K.held out.old) (K.held out.new) key line.now) }
+        ensures same { IsSame self.old self.new }
+        ensures keeps { KeepsLink (L.places link.old) (L.places link.new) (L.opened link.old)
+            (L.opened link.new) (L.faults link.old) (L.faults link.new) }
+        ensures later { K.faults out.old ≤ K.faults out.new }
+        ensures fault { result ≡ Err Stop.WriteFault → Rose (K.faults out.old) (K.faults out.new) }
+    {
+        let call = match self.call_in(alloc, key, line) {
+            Ok(Some(call)) => call,
+            Ok(None) => {
+                self.turn_down(key);
+                return Ok(());
+            }
+            Err(_) => return Err(Stop::NoMemory),
+        };
+        let refused = self.carry_key_call(alloc, key, &call, hosts, out, link)?;
+        match self.finish(alloc, key, &call, !refused) {
+            Ok(()) => Ok(()),
+            Err(_) => Err(Stop::NoMemory),
+        }
+    }
+
+    /// The Down of a key, as it is now; nothing where no clients on other machines are served.
+    fn down_in(&self, alloc: Global, key: u32) -> Result<Vec<u8>, NoMemory>
+        ensures { IfOk result (λ down. down.items ≡ down_in self.now.sessions key) }
+    {
+        let mut down = Vec::new(alloc);
+        if let Some(sessions) = &self.sessions {
+            sessions.remote.down(key, &mut down)?;
+        }
+        Ok(down)
+    }
+
+    /// The Down of a key goes to the sender of the datagram that came last, on this network.
+    fn send_down<L: Link>(
+        &mut self,
+        alloc: Global,
+        key: u32,
+        network: u8,
+        link: &mut L,
+    ) -> Result<(), NoMemory>
+        requires { self.old.me ≤ 32 }
+        ensures done { OnOk result (Sends self.old self.new (L.calls link.old) (L.calls link.new)
+            network (down_in self.old.sessions key)) }
+        ensures broke { OnErr result (SendsFront self.old (L.calls link.old) (L.calls link.new)
+            network (down_in self.old.sessions key)) }
+        ensures same { IsSame self.old self.new }
+        ensures keeps { KeepsLink (L.places link.old) (L.places link.new) (L.opened link.old)
+            (L.opened link.new) (L.faults link.old) (L.faults link.new) }
+    {
+        let down = self.down_in(alloc, key)?;
+        let (me, incarnation) = (self.me, self.incarnation);
+        let number = &mut self.number;
+        let to = Receiver { node: 0, network };
+        send_message(alloc, me, incarnation, number, to, down.as_slice(), link)
+    }
+
+    /// A whole message that came on this network: an Up of a client on another machine, where those are served, after
+    /// which its Down is sent; or one for the node.
+    #[tactic(auto, using(crate::proofs::RemoteLaws::give_done, crate::proofs::RemoteLaws::give_broke, crate::proofs::RemoteLaws::known_done, crate::proofs::RemoteLaws::known_broke, crate::proofs::RemoteLaws::full_done, crate::proofs::RemoteLaws::full_broke, crate::proofs::RemoteLaws::call_done, crate::proofs::RemoteLaws::call_broke_off, crate::proofs::RemoteLaws::down_broke, crate::proofs::RemoteLaws::give_none, crate::proofs::KeepLaws::keeps_itself, crate::proofs::KeepLaws::keeps_on))]
+    pub(crate) fn give<H: Hosts<C>, K: Sink, L: Link>(
+        &mut self,
+        alloc: Global,
+        message: &[u8],
+        network: u8,
+        hosts: &mut H,
+        out: &mut K,
+        link: &mut L,
+    ) -> Result<(), Stop>
+        requires { self.old.me ≤ 32 }
+        ensures done { OnOk result (GivesAs (Attend C.stands_for C.script) self.old self.new
+            (L.calls link.old) (L.calls link.new) (K.held out.old) (K.held out.new) network
+            (Some message.now)) }
+        ensures broke { OnErr result (GiveBreaks self.old (L.calls link.old) (L.calls link.new)
+            (K.held out.old) (K.held out.new) network (Some message.now)) }
+        ensures same { IsSame self.old self.new }
+        ensures keeps { KeepsLink (L.places link.old) (L.places link.new) (L.opened link.old)
+            (L.opened link.new) (L.faults link.old) (L.faults link.new) }
+        ensures later { K.faults out.old ≤ K.faults out.new }
+        ensures fault { result ≡ Err Stop.WriteFault → Rose (K.faults out.old) (K.faults out.new) }
+    {
+        let Ok(seen) = self.take_up(alloc, message) else {
+            return Err(Stop::NoMemory);
+        };
+        let key = match seen {
+            UpSeen::NoMessage => {
+                return self.step(alloc, NodeEvent::Datagram(message), out, link);
+            }
+            UpSeen::Full(key, _) => key,
+            UpSeen::Known(key) => key,
+            UpSeen::Call { key, line } => {
+                self.carry_key_line(alloc, key, line, hosts, out, link)?;
+                key
+            }
+        };
+        match self.send_down(alloc, key, network, link) {
+            Ok(()) => Ok(()),
+            Err(_) => Err(Stop::NoMemory),
+        }
+    }
+}

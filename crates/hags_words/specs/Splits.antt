@@ -1,0 +1,7 @@
+-- Words that were split, as the grammar sees them.
+use Rattle.std.specs.Prelude.{map, string_bytes}
+use Rattle.hags_words.specs.Flags.{Split}
+use Rattle.hags_words.specs.declared.flags.Split.{Split as Words}
+
+abbrev pub split_seen : Words → Split
+split_seen s = record { given = s.given; waiting = s.waiting; ended = s.ended; left = map string_bytes s.left.items }
