@@ -38,8 +38,8 @@ class Voter:
 
     def read(self, value):
         """Takes the group's value apart."""
-        self.now, *proposed = value.decode().split("|")
-        self.next, self.proposer = proposed or (None, None)
+        self.now, *proposed = value.decode(errors="replace").split("|")
+        self.next, self.proposer = proposed if len(proposed) == 2 else (None, None)
 
     def opinion(self, members):
         here = {member.split(".")[0] for member in members}
