@@ -34,7 +34,7 @@ class Voter:
         self.client.join(GROUP, limit=30, default="reject")
 
     def say(self, text):
-        print(f"at node {self.client.node}: {text}", flush=True)
+        print(f"at node {self.client.node}: {text}\n", end="", flush=True)  # whole, also beside others
 
     def read(self, value):
         """Takes the group's value apart."""

@@ -41,7 +41,7 @@ class Candidate:
 
     def say(self, text):
         if text != self.said:
-            print(f"at node {self.client.node}: {text}", flush=True)
+            print(f"at node {self.client.node}: {text}\n", end="", flush=True)  # whole, also beside others
         self.said = text
 
     def have_most(self):
