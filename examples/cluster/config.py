@@ -4,7 +4,7 @@
 The value is that of the group `config`. It is changed in two steps: the proposer sets it to `NOW|NEXT|PROPOSER`, which
 all hear, and then asks for a vote on NEXT. So each one knows what it votes on. It approves whatever does not have the
 word of `--never` in it, as long as the members are those of more than half of the nodes. One rejection rejects, and so
-does silence for three seconds; then the proposer sets the value back to NOW.
+does silence for ten seconds; then the proposer sets the value back to NOW.
 
 Without `--propose` it follows and votes until Ctrl-C. With it, it ends with 0 where all agreed and with 1 elsewhere."""
 import argparse
@@ -31,7 +31,7 @@ class Voter:
         """Joins, at first and whenever the membership is gone."""
         self.me, self.request, self.is_member, self.has_proposed, self.has_asked = None, None, False, False, False
         self.now, self.next, self.proposer = "", None, None
-        self.client.join(GROUP, limit=30, default="reject")
+        self.client.join(GROUP, limit=100, default="reject")
 
     def say(self, text):
         print(f"at node {self.client.node}: {text}\n", end="", flush=True)  # whole, also beside others

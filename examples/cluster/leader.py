@@ -4,7 +4,7 @@
 The candidates are the members of the group `leader`, and the first member leads. All hear the same members in the same
 order, so all say the same. When the leader says goodbye, or its daemon dies, the next one leads. A leader that is
 killed or hangs while its daemon lives would stay a member; so the leader sets the group's value each second, and the
-others expel it where they have not heard that for three seconds.
+others expel it where they have not heard that for three seconds, or as many as `--patience` says.
 
 Where the members are not those of more than half of the nodes, nobody leads: so of a cluster that has parted one side
 at most has a leader, as soon as its daemons have missed each other."""
@@ -20,7 +20,7 @@ import hags_client
 from hags_client import Asked, CallRefused, Heard, NoReply, SessionLost, Told
 
 GROUP = "leader"
-BEAT, PATIENCE = 1, 3  # seconds
+BEAT = 1  # seconds from one sign of life to the next
 SILENT = "the daemon is silent, so this candidate knows of no leader"
 
 
@@ -29,8 +29,8 @@ def node_of(member):
 
 
 class Candidate:
-    def __init__(self, client, nodes):
-        self.client, self.nodes, self.said = client, nodes, None
+    def __init__(self, client, nodes, patience):
+        self.client, self.nodes, self.patience, self.said = client, nodes, patience, None
         self.join()
 
     def join(self):
@@ -78,7 +78,7 @@ class Candidate:
         elif self.members and self.members[0] == self.me and now > self.beaten + BEAT:
             self.beaten, self.beats = now, self.beats + 1
             self.client.state(GROUP, str(self.beats))
-        elif self.members and self.members[0] != self.me and self.have_most() and now > self.heard + PATIENCE:
+        elif self.members and self.members[0] != self.me and self.have_most() and now > self.heard + self.patience:
             self.heard = now
             self.client.call(f"expel {self.client.name} {GROUP} 1 {self.members[0]}")
 
@@ -104,12 +104,13 @@ def main():
     parser = argparse.ArgumentParser(description=__doc__, formatter_class=argparse.RawDescriptionHelpFormatter)
     parser.add_argument("--node", metavar="N", type=int, required=True, help="the node whose daemon it uses")
     parser.add_argument("--settings", metavar="FILE", type=pathlib.Path, default="settings", help="settings")
+    parser.add_argument("--patience", metavar="S", type=float, default=3, help="seconds until a leader is missed (3)")
     options = parser.parse_args()
     settings = options.settings.read_text()
     nodes = sum(line.startswith("node ") for line in settings.splitlines())
     with hags_client.connect(settings, options.node, f"leader-{os.getpid()}") as client:
         client.seconds = 1
-        Candidate(client, nodes).go_on()
+        Candidate(client, nodes, options.patience).go_on()
 
 
 if __name__ == "__main__":
