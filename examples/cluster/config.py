@@ -22,6 +22,9 @@ GROUP = "config"
 
 
 class Voter:
+    """A client that is a member of the group, in a cluster of so many nodes. It rejects what has `never` in it, and
+    proposes what is `wanted`, if anything."""
+
     def __init__(self, client, nodes, never, wanted):
         self.client, self.nodes, self.never, self.wanted = client, nodes, never, wanted
         self.is_refused = False
@@ -42,6 +45,7 @@ class Voter:
         self.next, self.proposer = proposed if len(proposed) == 2 else (None, None)
 
     def opinion(self, members):
+        """The vote on what was proposed, where these are the members."""
         here = {member.split(".")[0] for member in members}
         if self.next is None or 2 * len(here) <= self.nodes:
             return REJECT

@@ -25,10 +25,13 @@ SILENT = "the daemon is silent, so this candidate knows of no leader"
 
 
 def node_of(member):
+    """The node of a member, such as 2 of 2.1795943417.35066.1."""
     return int(member.split(".")[0])
 
 
 class Candidate:
+    """A client that is a member of the group, in a cluster of so many nodes."""
+
     def __init__(self, client, nodes, patience):
         self.client, self.nodes, self.patience, self.said = client, nodes, patience, None
         self.join()
@@ -40,6 +43,7 @@ class Candidate:
         self.client.join(GROUP)
 
     def say(self, text):
+        """Says this, once."""
         if text != self.said:
             print(f"at node {self.client.node}: {text}\n", end="", flush=True)  # whole, also beside others
         self.said = text
@@ -49,6 +53,7 @@ class Candidate:
         return 2 * len(set(map(node_of, self.members))) > self.nodes
 
     def take(self, event):
+        """Takes an event, if there is one, and says who leads after it."""
         if isinstance(event, Asked) and event.kind == "join":
             self.me, self.request = event.provider, event.request
         if isinstance(event, Told) and event.provider == self.me:
@@ -83,6 +88,7 @@ class Candidate:
             self.client.call(f"expel {self.client.name} {GROUP} 1 {self.members[0]}")
 
     def go_on(self):
+        """Takes part, until the process ends."""
         while True:
             try:
                 if not self.client.is_open:

@@ -22,6 +22,7 @@ CLEAR = "\x1b[H\x1b[J"
 
 
 def items_of(word):
+    """The items of a list, as a line spells it."""
     return () if word == "-" else tuple(word.split(","))
 
 
@@ -61,6 +62,7 @@ class Watch:
             self.subscribed.discard(group)
 
     def row(self, group):
+        """The line of a group, or of the nodes."""
         members, value = self.rows[group]
         nodes = ", ".join(f"node {it.split('.')[0]}" for it in members) or "nobody"
         return f"nodes     {nodes}" if group == HOSTS else f"{group:9} {nodes:24} {value}".rstrip()
@@ -77,6 +79,7 @@ class Watch:
         self.shown = rows
 
     def follow(self):
+        """Shows what there is and what changes, until the process ends."""
         due = 0
         while True:
             try:
