@@ -32,7 +32,7 @@ class RoughNetwork:
         self.chance = chance
         self.weather = CALM
         self.cuts = set()
-        self.ports, self.sockets, self.pairs = {}, {}, {}
+        self.ports, self.sockets, self.pairs, self.senders = {}, {}, {}, {}
         self.waiting, self.order = [], itertools.count()
         self.passed = self.lost = self.repeated = self.held_back = self.cut_off = 0
         for node in range(1, nodes + 1):
@@ -78,7 +78,7 @@ class RoughNetwork:
         opened = self.sockets[pair]
         for _ in range(64):
             try:
-                datagram = opened.recv(MOST_BYTES)
+                datagram, self.senders[pair] = opened.recvfrom(MOST_BYTES)
             except BlockingIOError:
                 return
             if datagram:

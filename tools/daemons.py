@@ -94,13 +94,14 @@ class View:
 
 
 class Daemon:
-    """The daemon of a node. `lives` are the transcripts of its starts, in their order; all of its files are in `folder`."""
+    """The daemon of a node. `lives` are the transcripts of its starts, in their order; all of its files are in `folder`.
+    `words` are words more for each start, as --remote."""
 
-    def __init__(self, program, node, settings, folder, turns=None):
+    def __init__(self, program, node, settings, folder, turns=None, words=()):
         self.program, self.node, self.folder = str(program), node, folder
         self.settings = folder / f"settings-{node}"
         self.settings.write_text(settings)
-        self.turns = turns
+        self.turns, self.words = turns, words
         self.process = None
         self.lives = []
 
@@ -110,7 +111,7 @@ class Daemon:
         transcript = self.folder / f"node-{self.node}-life-{life}"
         kept = self.folder / f"incarnation-{self.node}"
         words = [TOP / "tools" / "hags-daemon", "--kept", kept, "--program", self.program, "--node", str(self.node)]
-        words += ["--turns", str(self.turns)] if self.turns else []
+        words += [*self.words, *(["--turns", str(self.turns)] if self.turns else [])]
         said = transcript.with_suffix(".said")
         with self.settings.open() as settings, transcript.open("w") as out, said.open("w") as err:
             self.process = subprocess.Popen(words, stdin=settings, stdout=out, stderr=err, preexec_fn=die_with_parent)
