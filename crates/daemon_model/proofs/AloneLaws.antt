@@ -35,7 +35,7 @@ pub stepped_alone : (calling : Option ℕ) (f : Answering) (e : NodeEvent) (d : 
 unfolding stepped_for
 stepped_alone calling f e d h = left_alone calling d (stepped f d.core e) h
 
-tick_alone : (due : Bool) (moment : ℕ) (f : Answering) (d : Daemon) → IsAlone d → IsAlone (ticked_if due moment f d)
+pub tick_alone : (due : Bool) (moment : ℕ) (f : Answering) (d : Daemon) → IsAlone d → IsAlone (ticked_if due moment f d)
 tick_alone true moment f d h = stepped_alone None f Ticks (record d { last = moment }) h
 tick_alone false moment f d h = h
 
@@ -60,7 +60,7 @@ unfolding turned_all
 turned_all_alone d [] h = h
 turned_all_alone d (t ∷ ts) h = turned_all_alone (turned d t) ts (turned_alone d t h)
 
-opened_alone : (d : Daemon) (o : Opening) → IsAlone d → IsAlone (opened d o)
+pub opened_alone : (d : Daemon) (o : Opening) → IsAlone d → IsAlone (opened d o)
 unfolding opened
 opened_alone d o h = stepped_alone None o.answers (Calls o.call) d h
 

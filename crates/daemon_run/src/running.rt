@@ -137,8 +137,8 @@ impl<C: Callbacks> Running<C> {
         requires within { self.old.me ≤ 32 }
         requires taken { IsTrue (is_taken event) }
         ensures done { OnOk result (StepsAs (Attend C.stands_for C.script)
-            (Attend C.stands_for C.script) None self.old self.new (L.calls link.old) (L.calls link.new)
-            (K.held out.old) (K.held out.new) (event_in event.entry)) }
+            (Attend C.stands_for C.script) None self.old self.new (L.calls link.old)
+            (L.calls link.new) (K.held out.old) (K.held out.new) (event_in event.entry)) }
         ensures broke { OnErr result (StepBreaks None self.old (L.calls link.old) (L.calls link.new)
             (K.held out.old) (K.held out.new) (event_in event.entry)) }
         ensures same { IsSame self.old self.new }

@@ -67,8 +67,8 @@ fn started<C: Callbacks>(
     serving: Serving,
     moment: u64,
 ) -> Result<Running<C>, NoMemory>
-    ensures { IfOk result (λ r. r ≡ fresh_running serving.remote script.now.config serving.me serving.incarnation
-        moment) }
+    ensures { IfOk result (λ r. r ≡ fresh_running serving.remote script.now.config serving.me
+        serving.incarnation moment) }
 {
     Ok(Running {
         me: serving.me,
@@ -99,8 +99,9 @@ fn begin<C: Callbacks, H: Hosts<C>, K: Sink, L: Link>(
         (AttendWith (H.stand hosts.new) C.stands_for C.script) serving.remote script.now serving.me
         serving.incarnation moment r (L.calls link.old) (L.calls link.new) (K.held out.old)
         (K.held out.new)) }
-    ensures broke { OnErr result (BeginBreaks serving.remote script.now serving.me serving.incarnation moment
-        (L.calls link.old) (L.calls link.new) (K.held out.old) (K.held out.new)) }
+    ensures broke { OnErr result (BeginBreaks serving.remote script.now serving.me
+        serving.incarnation moment (L.calls link.old) (L.calls link.new) (K.held out.old)
+        (K.held out.new)) }
     ensures within { IfOk result (λ r. r.me ≤ 32) }
     ensures keeps { KeepsLink (L.places link.old) (L.places link.new) (L.opened link.old)
         (L.opened link.new) (L.faults link.old) (L.faults link.new) }
@@ -128,37 +129,33 @@ fn live<C: Callbacks, H: Hosts<C>, K: Sink, L: Link, M: Clock>(
 ) -> Result<Node<C>, Ending>
     requires { serving.me ≤ 32 }
     ensures done { IfOk result (λ node. ServesAs script.now serving.me serving.incarnation
-        serving.remote serving.turns (at_work node.core) (L.calls link.old) (L.calls link.new) (K.held out.old)
-        (K.held out.new) (M.moments clock.old) (M.moments clock.new)) }
+        serving.remote serving.turns (at_work node.core) (L.calls link.old) (L.calls link.new)
+        (K.held out.old) (K.held out.new) (M.moments clock.old) (M.moments clock.new)) }
     ensures hands { IfOk result (λ node. HandsOver (H.stand hosts.old)
-        C.stands_for C.script script.now serving.me serving.incarnation serving.remote serving.turns node
-        (L.calls link.old) (L.calls link.new) (K.held out.old) (K.held out.new)
-        (M.moments clock.old) (M.moments clock.new)) }
+        C.stands_for C.script script.now serving.me serving.incarnation serving.remote
+        serving.turns node (L.calls link.old) (L.calls link.new) (K.held out.old)
+        (K.held out.new) (M.moments clock.old) (M.moments clock.new)) }
     ensures ended { result ≡ Err Ending.LinkFault → ServesTo script.now serving.me
-        serving.incarnation serving.remote serving.turns (L.calls link.old) (L.calls link.new) (K.held out.old)
-        (K.held out.new) (M.moments clock.old) (M.moments clock.new) }
+        serving.incarnation serving.remote serving.turns (L.calls link.old) (L.calls link.new)
+        (K.held out.old) (K.held out.new) (M.moments clock.old) (M.moments clock.new) }
     ensures written { result ≡ Err Ending.WriteFault → ServesFront script.now serving.me
-        serving.incarnation serving.remote serving.turns (L.calls link.old) (L.calls link.new) (K.held out.old)
-        (K.held out.new) (M.moments clock.old) (M.moments clock.new) }
+        serving.incarnation serving.remote serving.turns (L.calls link.old) (L.calls link.new)
+        (K.held out.old) (K.held out.new) (M.moments clock.old) (M.moments clock.new) }
     ensures memory { result ≡ Err Ending.NoMemory → ServesFront script.now serving.me
-        serving.incarnation serving.remote serving.turns (L.calls link.old) (L.calls link.new) (K.held out.old)
-        (K.held out.new) (M.moments clock.old) (M.moments clock.new) }
+        serving.incarnation serving.remote serving.turns (L.calls link.old) (L.calls link.new)
+        (K.held out.old) (K.held out.new) (M.moments clock.old) (M.moments clock.new) }
     ensures keeps { KeepsLink (L.places link.old) (L.places link.new) (L.opened link.old)
         (L.opened link.new) (L.faults link.old) (L.faults link.new) }
     ensures fault { result ≡ Err Ending.WriteFault → Rose (K.faults out.old) (K.faults out.new) }
     ensures failed { result ≡ Err Ending.LinkFault → Rose (L.faults link.old) (L.faults link.new) }
 {
     let moment = clock.now();
-    let Ok(mut room) = buffer(alloc, 65536) else {
-        return Err(Ending::NoMemory);
-    };
     let mut running = match begin::<C, H, K, L>(alloc, script, serving, moment, hosts, out, link) {
         Ok(running) => running,
         Err(Stop::WriteFault) => return Err(Ending::WriteFault),
         Err(Stop::NoMemory) => return Err(Ending::NoMemory),
     };
-    let buf = room.as_mut_slice();
-    match running.serve_turns(alloc, serving.turns, buf, hosts, out, link, clock) {
+    match running.serve_turns(alloc, serving.turns, hosts, out, link, clock) {
         Ok(()) => {
             let Running { node, .. } = running;
             Ok(node)
@@ -208,22 +205,23 @@ pub fn serve<C: Callbacks, H: Hosts<C>, K: Sink, L: Link, M: Clock>(
     ensures opened { Opens (L.opened link.old) (L.opened link.new)
         (script.now.config.port + serving.me) result.status (NothingDone (L.calls link.old)
         (L.calls link.new) (K.held out.old) (K.held out.new) (M.moments clock.old)
-        (M.moments clock.new)) (ServesTo script.now serving.me serving.incarnation serving.remote serving.turns
-        (L.calls link.old) (L.calls link.new) (K.held out.old) (K.held out.new)
+        (M.moments clock.new)) (ServesTo script.now serving.me serving.incarnation serving.remote
+        serving.turns (L.calls link.old) (L.calls link.new) (K.held out.old) (K.held out.new)
         (M.moments clock.old) (M.moments clock.new)) }
     ensures served { result.status ≡ 0 → IfSome result.node (λ node. ServesAs script.now serving.me
-        serving.incarnation serving.remote serving.turns (at_work node.core) (L.calls link.old) (L.calls link.new)
-        (K.held out.old) (K.held out.new) (M.moments clock.old) (M.moments clock.new)) }
+        serving.incarnation serving.remote serving.turns (at_work node.core) (L.calls link.old)
+        (L.calls link.new) (K.held out.old) (K.held out.new) (M.moments clock.old)
+        (M.moments clock.new)) }
     ensures hands { result.status ≡ 0 → IfSome result.node (λ node. HandsOver (H.stand hosts.old)
-        C.stands_for C.script script.now serving.me serving.incarnation serving.remote serving.turns node
-        (L.calls link.old) (L.calls link.new) (K.held out.old) (K.held out.new)
-        (M.moments clock.old) (M.moments clock.new)) }
+        C.stands_for C.script script.now serving.me serving.incarnation serving.remote
+        serving.turns node (L.calls link.old) (L.calls link.new) (K.held out.old)
+        (K.held out.new) (M.moments clock.old) (M.moments clock.new)) }
     ensures memory { result.status ≡ 3 → ServesFront script.now serving.me serving.incarnation
-        serving.remote serving.turns (L.calls link.old) (L.calls link.new) (K.held out.old) (K.held out.new)
-        (M.moments clock.old) (M.moments clock.new) }
+        serving.remote serving.turns (L.calls link.old) (L.calls link.new) (K.held out.old)
+        (K.held out.new) (M.moments clock.old) (M.moments clock.new) }
     ensures written { result.status ≡ 5 → ServesFront script.now serving.me serving.incarnation
-        serving.remote serving.turns (L.calls link.old) (L.calls link.new) (K.held out.old) (K.held out.new)
-        (M.moments clock.old) (M.moments clock.new) }
+        serving.remote serving.turns (L.calls link.old) (L.calls link.new) (K.held out.old)
+        (K.held out.new) (M.moments clock.old) (M.moments clock.new) }
     ensures write_fault { result.status ≡ 5 → Rose (K.faults out.old) (K.faults out.new) }
     ensures link_fault { result.status ≡ 6 → Rose (L.faults link.old) (L.faults link.new) }
     ensures statuses { (result.status ≡ 0) ⊎ (result.status ≡ 3) ⊎ (result.status ≡ 5)

@@ -8,6 +8,7 @@ ghost use Rattle.daemon_run.specs.Serving.{TurnsDone, TurnsEnded, TurnsBroken};
 
 use crate::calls::Hosts;
 use crate::running::Running;
+use crate::serving::buffer;
 use crate::writing::Stop;
 use client_callbacks::Callbacks;
 use hags_io::{Clock, Got, Link, Sink};
@@ -163,19 +164,17 @@ impl<C: Callbacks> Running<C> {
     }
 
     /// So many turns; fewer where 16 receives fail in a row.
-    #[tactic(auto, using(crate::proofs::ServeLaws::turns_none, crate::proofs::ServeLaws::turns_next, crate::proofs::ServeLaws::turns_ended, crate::proofs::ServeLaws::turns_broken, crate::proofs::ServeLaws::turns_all, crate::proofs::KeepLaws::keeps_itself, crate::proofs::KeepLaws::keeps_on))]
+    #[tactic(auto, using(crate::proofs::ServeLaws::turns_none, crate::proofs::ServeLaws::turns_unbegun, crate::proofs::ServeLaws::turns_next, crate::proofs::ServeLaws::turns_ended, crate::proofs::ServeLaws::turns_broken, crate::proofs::ServeLaws::turns_all, crate::proofs::KeepLaws::keeps_itself, crate::proofs::KeepLaws::keeps_on))]
     pub fn serve_turns<H: Hosts<C>, K: Sink, L: Link, M: Clock>(
         &mut self,
         alloc: Global,
         turns: u32,
-        buf: &mut [u8],
         hosts: &mut H,
         out: &mut K,
         link: &mut L,
         clock: &mut M,
     ) -> Result<(), Ending>
-        requires within { self.old.me ≤ 32 }
-        requires room { 65536 ≤ length buf.old }
+        requires { self.old.me ≤ 32 }
         ensures done { OnOk result (TurnsDone (Attend C.stands_for C.script) self.old self.new
             turns (L.calls link.old) (L.calls link.new) (K.held out.old) (K.held out.new)
             (M.moments clock.old) (M.moments clock.new)) }
@@ -196,6 +195,10 @@ impl<C: Callbacks> Running<C> {
         ensures failed { result ≡ Err Ending.LinkFault
             → Rose (L.faults link.old) (L.faults link.new) }
     {
+        let Ok(mut room) = buffer(alloc, 65536) else {
+            return Err(Ending::NoMemory);
+        };
+        let buf = room.as_mut_slice();
         for _ in 0..turns {
             match self.turn(alloc, buf, hosts, out, link, clock) {
                 Ok(()) => {}

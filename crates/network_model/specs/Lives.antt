@@ -7,10 +7,11 @@ use Rattle.node_state.specs.Step.{started}
 use Rattle.daemon_model.specs.Daemon.{Life, lived}
 use Rattle.network_model.specs.Network.{Act, Begins, Opens, Turns, Ends, Net, no_net, acted}
 
--- a life that a daemon lived, and its incarnation
+-- a life that a daemon lived which serves no clients on other machines, and its incarnation
 pub record LifeIn : Type 0 where
   pub incarnation : ℕ
   pub life : Life
+  pub alone : life.remote ≡ false
 
 unfoldable pub acts_of : ℕ → LifeIn → List Act
 acts_of n l = Begins n l.incarnation l.life.start ∷ map (Opens n) l.life.opening ++ (map (Turns n) l.life.turns ++ Ends n ∷ [])

@@ -154,7 +154,7 @@ module _ (c : Config) (net : Net) (es : List Answered) (w : World) (k : Stand c 
 -- no message: nothing changes
 pub none_given : (c : Config) (net : Net) (es : List Answered) (w : World) → Stand c net es w → (n : ℕ) (d : Daemon) → net.daemons n ≡ Some d → Stand c (went_on n d d net) es w
 none_given c net es w k n d at =
-    keeps_stands c net es w k n d at d refl refl refl refl (own_up c net es w k n d at).joined (nothing_sent d d refl) (noted_is d d [] (sym (append-nil d.records)))
+    keeps_stands c net es w k n d at d refl refl refl refl (own_up c net es w k n d at).joined (own_up c net es w k n d at).alone (nothing_sent d d refl) (noted_is d d [] (sym (append-nil d.records)))
 
 abbrev pub IsKnownIf : World → Option (List ℕ) → Type 0
 IsKnownIf w None = Unit {0}

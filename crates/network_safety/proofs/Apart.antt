@@ -9,7 +9,8 @@ use Rattle.node_state.specs.declared.happened.Happened.TheVariants as happened
 use Rattle.node_state.specs.Step.{started}
 use Rattle.step_refinement.specs.Rules.{at_node}
 use Rattle.step_refinement.proofs.Changed.{set_here, set_there}
-use Rattle.daemon_model.specs.Daemon.{Daemon, Opening, Turn, begun, opened, opened_all, turned, turned_all, lived}
+use Rattle.daemon_model.specs.Daemon.{Daemon, Opening, Turn, begun, opened, opened_all, turned, turned_all, lived, begun_for}
+use Rattle.daemon_model.proofs.AloneLaws.{IsAlone, opened_alone, opened_all_alone, turned_alone, begun_alone}
 use Rattle.network_model.specs.Network.{Act, Begins, Opens, Turns, Ends, Net, no_net, noted_since, went_on, starts, ends, idles, begins, does_if, acted}
 use Rattle.network_model.specs.Lives.{LifeIn, acts_of, is_at, noted_if, records_at, idle_records, lives_records, NodesRecordTheirLives}
 use Rattle.network_safety.proofs.Going.{More, noted_is}
@@ -155,25 +156,25 @@ all_same c n (a ∷ acts) net = by (is_at n a) refl (all_same c n acts (acted c 
 -- ---- a life
 
 -- a daemon goes on, act after act, and then come other acts
-module _ (c : Config) (n last : ℕ) {X : Type 0} (act : X → Act) (f : Daemon → X → Daemon) (more : (d : Daemon) (x : X) → More d (f d x))
+module _ (c : Config) (n last : ℕ) {X : Type 0} (act : X → Act) (f : Daemon → X → Daemon) (more : (d : Daemon) (x : X) → IsAlone d → More d (f d x)) (keeps : (d : Daemon) (x : X) → IsAlone d → IsAlone (f d x))
     (state : (d : Daemon) (x : X) → acted_at c n (record { daemon = Some d; last = last }) (act x) ≡ record { daemon = Some (f d x); last = last })
     (noted : (d : Daemon) (x : X) → noted_at c n (record { daemon = Some d; last = last }) (act x) ≡ noted_since d (f d x)) where
-  goes_at : (xs : List X) (d : Daemon) (rest : List Act) → d.records ++ all_at c n (record { daemon = Some d; last = last }) (map act xs ++ rest) ≡ (fold f d xs).records ++ all_at c n (record { daemon = Some (fold f d xs); last = last }) rest
+  goes_at : (xs : List X) (d : Daemon) (rest : List Act) → IsAlone d → d.records ++ all_at c n (record { daemon = Some d; last = last }) (map act xs ++ rest) ≡ (fold f d xs).records ++ all_at c n (record { daemon = Some (fold f d xs); last = last }) rest
   unfolding all_at
-  goes_at [] d rest = refl
-  goes_at (x ∷ xs) d rest =
-      let m : More d (f d x) = more d x in
+  goes_at [] d rest alone = refl
+  goes_at (x ∷ xs) d rest alone =
+      let m : More d (f d x) = more d x alone in
       let later : List Happened = all_at c n (record { daemon = Some (f d x); last = last }) (map act xs ++ rest) in
       ap (λ ys. d.records ++ (ys ++ all_at c n (acted_at c n (record { daemon = Some d; last = last }) (act x)) (map act xs ++ rest))) (noted d x) ∙ ap (λ s. d.records ++ (noted_since d (f d x) ++ all_at c n s (map act xs ++ rest))) (state d x)
-      ∙ sym (append_assoc d.records (noted_since d (f d x)) later) ∙ ap (λ ys. (d.records ++ ys) ++ later) (noted_is d (f d x) m.records m.recorded) ∙ ap (λ ys. ys ++ later) (sym m.recorded) ∙ goes_at xs (f d x) rest
+      ∙ sym (append_assoc d.records (noted_since d (f d x)) later) ∙ ap (λ ys. (d.records ++ ys) ++ later) (noted_is d (f d x) m.records m.recorded) ∙ ap (λ ys. ys ++ later) (sym m.recorded) ∙ goes_at xs (f d x) rest (keeps d x alone)
 
-open_at : (c : Config) (n last : ℕ) (os : List Opening) (d : Daemon) (rest : List Act) → d.records ++ all_at c n (record { daemon = Some d; last = last }) (map (Opens n) os ++ rest) ≡ (opened_all d os).records ++ all_at c n (record { daemon = Some (opened_all d os); last = last }) rest
+open_at : (c : Config) (n last : ℕ) (os : List Opening) (d : Daemon) (rest : List Act) → IsAlone d → d.records ++ all_at c n (record { daemon = Some d; last = last }) (map (Opens n) os ++ rest) ≡ (opened_all d os).records ++ all_at c n (record { daemon = Some (opened_all d os); last = last }) rest
 unfolding opened_all acted_at noted_at with_daemon noted_by
-open_at c n last = goes_at c n last (Opens n) opened open_more (λ d o. refl) (λ d o. refl)
+open_at c n last = goes_at c n last (Opens n) opened (λ d o alone. open_more d o) opened_alone (λ d o. refl) (λ d o. refl)
 
-turn_at : (c : Config) (n last : ℕ) (ts : List Turn) (d : Daemon) (rest : List Act) → d.records ++ all_at c n (record { daemon = Some d; last = last }) (map (Turns n) ts ++ rest) ≡ (turned_all d ts).records ++ all_at c n (record { daemon = Some (turned_all d ts); last = last }) rest
+turn_at : (c : Config) (n last : ℕ) (ts : List Turn) (d : Daemon) (rest : List Act) → IsAlone d → d.records ++ all_at c n (record { daemon = Some d; last = last }) (map (Turns n) ts ++ rest) ≡ (turned_all d ts).records ++ all_at c n (record { daemon = Some (turned_all d ts); last = last }) rest
 unfolding turned_all acted_at noted_at with_daemon noted_by
-turn_at c n last = goes_at c n last (Turns n) turned turn_more (λ d t. refl) (λ d t. refl)
+turn_at c n last = goes_at c n last (Turns n) turned turn_more turned_alone (λ d t. refl) (λ d t. refl)
 
 life_at : (c : Config) (n last : ℕ) (l : LifeIn) (rest : List Act) → all_at c n (record { daemon = None; last = last }) (acts_of n l ++ rest)
     ≡ idle_records c n last (l.incarnation - 1 - last) ++ ((lived c n l.incarnation l.life).records ++ happened.Down n ∷ all_at c n (record { daemon = None; last = l.incarnation }) rest)
@@ -184,9 +185,12 @@ life_at c n last l rest =
     let turns : List Act = map (Turns n) l.life.turns ++ Ends n ∷ [] in
     let idle : List Happened = idle_records c n last (l.incarnation - 1 - last) in
     let up : Daemon → At = λ d. record { daemon = Some d; last = l.incarnation } in
+    let alone : IsAlone b = begun_alone false c n l.incarnation l.life.start refl in
+    let is : turned_all o l.life.turns ≡ lived c n l.incarnation l.life = ap (λ (remote : Bool). turned_all (opened_all (begun_for remote c n l.incarnation l.life.start) l.life.opening) l.life.turns) (sym l.alone) in
     append_assoc idle b.records (all_at c n (up b) ((map (Opens n) l.life.opening ++ turns) ++ rest))
-    ∙ ap (λ zs. idle ++ (b.records ++ all_at c n (up b) zs)) (append_assoc (map (Opens n) l.life.opening) turns rest) ∙ ap (λ ys. idle ++ ys) (open_at c n l.incarnation l.life.opening b (turns ++ rest))
-    ∙ ap (λ zs. idle ++ (o.records ++ all_at c n (up o) zs)) (append_assoc (map (Turns n) l.life.turns) (Ends n ∷ []) rest) ∙ ap (λ ys. idle ++ ys) (turn_at c n l.incarnation l.life.turns o (Ends n ∷ rest))
+    ∙ ap (λ zs. idle ++ (b.records ++ all_at c n (up b) zs)) (append_assoc (map (Opens n) l.life.opening) turns rest) ∙ ap (λ ys. idle ++ ys) (open_at c n l.incarnation l.life.opening b (turns ++ rest) alone)
+    ∙ ap (λ zs. idle ++ (o.records ++ all_at c n (up o) zs)) (append_assoc (map (Turns n) l.life.turns) (Ends n ∷ []) rest) ∙ ap (λ ys. idle ++ ys) (turn_at c n l.incarnation l.life.turns o (Ends n ∷ rest) (opened_all_alone b l.life.opening alone))
+    ∙ ap (λ (d : Daemon). idle ++ (d.records ++ happened.Down n ∷ all_at c n (record { daemon = None; last = l.incarnation }) rest)) is
 
 lives_at : (c : Config) (n last : ℕ) (ls : List LifeIn) → all_at c n (record { daemon = None; last = last }) (flat_map (acts_of n) ls) ≡ lives_records c n last ls
 unfolding all_at lives_records

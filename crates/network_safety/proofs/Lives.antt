@@ -42,7 +42,7 @@ begun_core c n inc moment = refl
 
 begun_up : (ms : List Message) (c : Config) (n inc moment : ℕ) → n ≤ 32 → inc < 2 ^ 32 → IsUp ms n inc (begun c n inc moment)
 unfolding begun_for left_for
-begun_up ms c n inc moment most fits = record { most = most; fits = fits; me = refl; incarnation = refl; rests = start_rests c n inc; joined = none_joined ms }
+begun_up ms c n inc moment most fits = record { most = most; fits = fits; me = refl; incarnation = refl; rests = start_rests c n inc; joined = none_joined ms; alone = refl }
 
 begun_inc : (c : Config) (n inc moment : ℕ) → (begun c n inc moment).incarnation ≡ inc
 unfolding begun_for left_for

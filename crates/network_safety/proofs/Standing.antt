@@ -31,6 +31,7 @@ use Rattle.world_safety.proofs.Runs.{every_run_is_reached}
 use Rattle.piece_link.specs.Pieces.{Message, pieces_of}
 use Rattle.piece_link.specs.Answers.{Among, CanBeCut, AreDistinct}
 use Rattle.daemon_model.specs.Daemon.{Daemon}
+use Rattle.daemon_model.proofs.AloneLaws.{IsAlone}
 use Rattle.network_model.specs.Network.{Net}
 use Rattle.network_safety.proofs.Quiet.{IsTalk}
 use Rattle.network_safety.proofs.Joins.{IsJoinedOf}
@@ -72,7 +73,7 @@ pub record IsPast (net : Net) (m : Message) : Type 0 where
   pub incarnation : m.incarnation ≤ net.incarnations m.sender
   pub before : IsBefore m (net.daemons m.sender)
 
--- a daemon that is up: who it is, that its node rests, and what it joins
+-- a daemon that is up: who it is, that its node rests, what it joins, and that it serves no clients on other machines
 pub record IsUp (messages : List Message) (n inc : ℕ) (d : Daemon) : Type 0 where
   pub most : n ≤ 32
   pub fits : inc < 2 ^ 32
@@ -80,6 +81,7 @@ pub record IsUp (messages : List Message) (n inc : ℕ) (d : Daemon) : Type 0 wh
   pub incarnation : d.incarnation ≡ inc
   pub rests : Resting d.core
   pub joined : IsJoinedOf messages d.joining
+  pub alone : IsAlone d
 
 abbrev pub IsUpIf : List Message → ℕ → ℕ → Option Daemon → Type 0
 IsUpIf messages n inc None = Unit {0}

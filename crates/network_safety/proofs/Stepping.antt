@@ -21,6 +21,7 @@ use Rattle.piece_link.specs.Answers.{Among, SameKey}
 use Rattle.piece_link.proofs.OnceLaw.{among_append}
 use Rattle.daemon_model.specs.Sent.{goes_out, sent_calls, number_after}
 use Rattle.daemon_model.specs.Daemon.{Daemon, stepped_by, left_for, stepped_for}
+use Rattle.daemon_model.proofs.AloneLaws.{IsAlone, stepped_alone}
 use Rattle.network_model.specs.Network.{Net, datagrams_of, sent_since, noted_since, went_on}
 use Rattle.network_safety.proofs.Quiet.{IsTalk, step_rests}
 use Rattle.network_safety.proofs.Messages.{among_left, among_right, messages_of, IsOne, each_one, after_le, one_fits, own_distinct, distinct_both, sent_pieces}
@@ -134,7 +135,7 @@ module _ (c : Config) (net : Net) (es : List Answered) (w : World) (k : Stand c 
           wider : (m : ℕ) (o : Option Daemon) → IsUpIf k.wires.messages m (net.incarnations m) o → IsUpIf (new ++ k.wires.messages) m (net.incarnations m) o
           wider m None u = tt
           wider m (Some g) u =
-              record { most = u.most; fits = u.fits; me = u.me; incarnation = u.incarnation; rests = u.rests; joined = more_joined new k.wires.messages g.joining u.joined }
+              record { most = u.most; fits = u.fits; me = u.me; incarnation = u.incarnation; rests = u.rests; joined = more_joined new k.wires.messages g.joining u.joined; alone = u.alone }
 
       pub step_stands : Stand c (went_on n d (stepped_by f e d) net) (es ++ a ∷ []) (goes_on w a)
       unfolding went_on stepped_for left_for
@@ -148,7 +149,7 @@ module _ (c : Config) (net : Net) (es : List Answered) (w : World) (k : Stand c 
               distinct = distinct_both new k.wires.messages (own_distinct d.me d.incarnation d.number t.sends) k.wires.distinct apart;
               known = known_on;
               past = past_on (stepped_by f e d) refl refl (went_on n d (stepped_by f e d) net) refl refl;
-              up = up_on (stepped_by f e d) (record { most = own_up.most; fits = own_up.fits; me = own_up.me; incarnation = own_up.incarnation; rests = step_rests f d.core e own_up.rests; joined = more_joined new k.wires.messages d.joining own_up.joined });
+              up = up_on (stepped_by f e d) (record { most = own_up.most; fits = own_up.fits; me = own_up.me; incarnation = own_up.incarnation; rests = step_rests f d.core e own_up.rests; joined = more_joined new k.wires.messages d.joining own_up.joined; alone = stepped_alone None f e d own_up.alone });
             };
           }
         where
@@ -157,7 +158,7 @@ module _ (c : Config) (net : Net) (es : List Answered) (w : World) (k : Stand c 
 
   -- ---- only the daemon changes
 
-  module _ (e : Daemon) (core : e.core ≡ d.core) (me : e.me ≡ d.me) (inc : e.incarnation ≡ d.incarnation) (number : e.number ≡ d.number) (joined : IsJoinedOf k.wires.messages e.joining) (quiet : sent_since d e ≡ []) (still : noted_since d e ≡ []) where
+  module _ (e : Daemon) (core : e.core ≡ d.core) (me : e.me ≡ d.me) (inc : e.incarnation ≡ d.incarnation) (number : e.number ≡ d.number) (joined : IsJoinedOf k.wires.messages e.joining) (alone : IsAlone e) (quiet : sent_since d e ≡ []) (still : noted_since d e ≡ []) where
     pub keeps_stands : Stand c (went_on n d e net) es w
     unfolding went_on
     keeps_stands =
@@ -177,7 +178,7 @@ module _ (c : Config) (net : Net) (es : List Answered) (w : World) (k : Stand c 
             distinct = k.wires.distinct;
             known = k.wires.known;
             past = past;
-            up = each_set (λ m o. IsUpIf k.wires.messages m (net.incarnations m) o) net.daemons n (Some e) (record { most = own_up.most; fits = own_up.fits; me = me ∙ own_up.me; incarnation = inc ∙ own_up.incarnation; rests = subst Resting (sym core) own_up.rests; joined = joined }) (λ m ne. k.wires.up m);
+            up = each_set (λ m o. IsUpIf k.wires.messages m (net.incarnations m) o) net.daemons n (Some e) (record { most = own_up.most; fits = own_up.fits; me = me ∙ own_up.me; incarnation = inc ∙ own_up.incarnation; rests = subst Resting (sym core) own_up.rests; joined = joined; alone = alone }) (λ m ne. k.wires.up m);
           };
         }
       where

@@ -21,6 +21,7 @@ use Rattle.piece_link.specs.Answers.{Among}
 use Rattle.piece_link.proofs.UnchangedLaw.{unchanged, answered_at_once}
 use Rattle.daemon_model.specs.Sent.{as_sent, goes_out}
 use Rattle.daemon_model.specs.Daemon.{Daemon, Opening, Turn, stepped_by, opened, is_due, ticked_if, ticked, joined_by, received, given, heard, turned, left_for, stepped_for}
+use Rattle.daemon_model.proofs.AloneLaws.{IsAlone, tick_alone, heard_alone}
 use Rattle.network_model.specs.Network.{Net, datagrams_of, went_on}
 use Rattle.network_model.specs.Packets.{tick_packets, given_packets, turn_packets}
 use Rattle.network_model.specs.Fits.{IsQuestion, AsksAtMost, IsOfClient, MayCome, MayTurn}
@@ -58,7 +59,7 @@ tick_goes c net es w k n d at false moment f spelled few =
     record { world = w; stand = subst (λ zs. Stand c (went_on n d d net) zs w) (sym (append-nil es)) (none_given c net es w k n d at) }
 tick_goes c net es w k n d at true moment f spelled few =
     let e : Daemon = record d { last = moment } in
-    let k1 : Stand c (went_on n d e net) es w = keeps_stands c net es w k n d at e refl refl refl refl (own_up c net es w k n d at).joined (nothing_sent d e refl) (noted_is d e [] (sym (append-nil d.records))) in
+    let k1 : Stand c (went_on n d e net) es w = keeps_stands c net es w k n d at e refl refl refl refl (own_up c net es w k n d at).joined (own_up c net es w k n d at).alone (nothing_sent d e refl) (noted_is d e [] (sym (append-nil d.records))) in
     let up = went_here n d e net in
     let k2 = step_stands c (went_on n d e net) es w k1 n e up f Ticks (answered_by f (event.Tick n)) (stepped f (node_of c (went_on n d e net) es w k1.world n e up).node.core Ticks) (ticks c (went_on n d e net) es w k1 n e up f) spelled few in
     record { world = goes_on w (answered_by f (event.Tick n)); stand = subst (λ z. Stand c z (es ++ answered_by f (event.Tick n) ∷ []) (goes_on w (answered_by f (event.Tick n)))) (goes_twice n d e (stepped_by f Ticks e) net (due_more moment d) (step_more f Ticks e)) k2 }
@@ -115,7 +116,7 @@ receives : (c : Config) (net : Net) (es : List Answered) (w : World) (k : Stand 
 unfolding received
 receives c net es w k n d at got may =
     let r : Comes k.wires.messages w (joined_by got d.joining) = comes net w k.wires d.joining (own_up c net es w k n d at).joined got may in
-    (keeps_stands c net es w k n d at (received got d) refl refl refl refl r.joined (sent_is d (received got d) (as_sent got ∷ []) refl ∙ no_datagram net.wire got may) (noted_is d (received got d) [] (sym (append-nil d.records))), r.known)
+    (keeps_stands c net es w k n d at (received got d) refl refl refl refl r.joined (own_up c net es w k n d at).alone (sent_is d (received got d) (as_sent got ∷ []) refl ∙ no_datagram net.wire got may) (noted_is d (received got d) [] (sym (append-nil d.records))), r.known)
 
 -- ---- the turn
 
@@ -128,11 +129,19 @@ pub open_more : (d : Daemon) (o : Opening) → More d (opened d o)
 unfolding opened
 open_more d o = step_more o.answers (Calls o.call) d
 
-pub turn_more : (d : Daemon) (t : Turn) → More d (turned d t)
-unfolding turned heard
-turn_more d t =
+-- a turn of a daemon that serves no clients on other machines: its message is the node's
+abbrev last_of : Daemon → Turn → Daemon
+last_of d t = given (joined_by t.got (ticked t.moment t.tick d).joining).message t.answers (received t.got (ticked t.moment t.tick d))
+
+turned_is : (d : Daemon) (t : Turn) → IsAlone d → turned d t ≡ last_of d t
+unfolding turned
+turned_is d t alone = heard_alone (ticked t.moment t.tick d) t.got t.answers (tick_alone (is_due d.last t.moment) t.moment t.tick d alone)
+
+pub turn_more : (d : Daemon) (t : Turn) → IsAlone d → More d (turned d t)
+turn_more d t alone =
     let e : Daemon = ticked t.moment t.tick d in
-    more_on d e (turned d t) (tick_more (is_due d.last t.moment) t.moment t.tick d) (more_on e (received t.got e) (turned d t) (received_more t.got e) (given_more (joined_by t.got e.joining).message t.answers (received t.got e)))
+    let last : More e (last_of d t) = more_on e (received t.got e) (last_of d t) (received_more t.got e) (given_more (joined_by t.got e.joining).message t.answers (received t.got e)) in
+    subst (More d) (sym (turned_is d t alone)) (more_on d e (last_of d t) (tick_more (is_due d.last t.moment) t.moment t.tick d) last)
 
 given_later : (message : Option (List ℕ)) (f : Answering) (d : Daemon) → d.number ≤ (given message f d).number
 unfolding given stepped_for left_for
@@ -150,13 +159,13 @@ pub record TurnGoes (c : Config) (net : Net) (es : List Answered) (n : ℕ) (d :
   pub stand : Stand c (went_on n d (turned d t) net) (es ++ events) world
 
 pub turn_goes : (c : Config) (net : Net) (es : List Answered) (w : World) → Stand c net es w → (n : ℕ) (d : Daemon) → net.daemons n ≡ Some d → (t : Turn) → MayTurn net t d → TurnGoes c net es n d t
-unfolding turned heard turn_packets went_on
+unfolding turn_packets went_on
 turn_goes c net es w k n d at t may =
     record {
       events = tick_events due n t.tick ++ g.events;
       are = record { given = g.events; gives = g.are; are = refl };
       world = g.world;
-      stand = subst (λ zs. Stand c (went_on n d last net) zs g.world) (append_assoc es (tick_events due n t.tick) g.events) (subst (λ z. Stand c z ((es ++ tick_events due n t.tick) ++ g.events) g.world) whole g.stand);
+      stand = subst (λ z. Stand c (went_on n d z net) (es ++ (tick_events due n t.tick ++ g.events)) g.world) (sym is) (subst (λ zs. Stand c (went_on n d last net) zs g.world) (append_assoc es (tick_events due n t.tick) g.events) (subst (λ z. Stand c z ((es ++ tick_events due n t.tick) ++ g.events) g.world) whole g.stand));
     }
   where
     due : Bool
@@ -174,8 +183,11 @@ turn_goes c net es w k n d at t may =
     last : Daemon
     last = given message t.answers got
 
+    is : turned d t ≡ last
+    is = turned_is d t (own_up c net es w k n d at).alone
+
     few : last.number ≤ 2 ^ 64
-    few = may.sends.numbered
+    few = subst (λ (z : Daemon). z.number ≤ 2 ^ 64) is may.sends.numbered
 
     few_then : e.number ≤ 2 ^ 64
     few_then =

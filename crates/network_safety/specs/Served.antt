@@ -11,7 +11,7 @@ use Rattle.network_model.specs.Lives.{LifeIn, AreLives, records_at, lives_record
 use Rattle.network_model.specs.Fits.{NetworkRun}
 use Rattle.network_safety.specs.Safe.{IsSafeNetwork}
 
--- what the clauses of `serve` say of a daemon that it ran: its status was 0, or 6 after the link was open, or 3 or 5
+-- what the clauses of `serve` say of a daemon that it ran for no clients on other machines: its status was 0, or 6 after the link was open, or 3 or 5
 pub data IsServed (script : Script) (me incarnation turns : ℕ) (a b : Option (List LinkCall)) (x y : Option (List ℕ)) (u v : Option (List ℕ)) : Type 0 where
   Done : (core : Core) → ServesAs script me incarnation false turns core a b x y u v → IsServed script me incarnation turns a b x y u v
   Ended : ServesTo script me incarnation false turns a b x y u v → IsServed script me incarnation turns a b x y u v
@@ -36,10 +36,21 @@ life_served script me incarnation turns a b x y u v (Done core s) = s.life
 life_served script me incarnation turns a b x y u v (Ended s) = s.life
 life_served script me incarnation turns a b x y u v (Broken s) = s.life
 
+-- in none of them were clients on other machines served
+abbrev pub served_alone : (script : Script) (me incarnation turns : ℕ) (a b : Option (List LinkCall)) (x y : Option (List ℕ)) (u v : Option (List ℕ)) (s : IsServed script me incarnation turns a b x y u v)
+    → (life_served script me incarnation turns a b x y u v s).remote ≡ false
+served_alone script me incarnation turns a b x y u v (Done core s) = s.lived.serves
+served_alone script me incarnation turns a b x y u v (Ended s) = s.lived.serves
+served_alone script me incarnation turns a b x y u v (Broken s) = s.lived.serves
+
 -- the life that the clauses give
 abbrev pub life_of : (c : Config) (n : ℕ) → Served c n → LifeIn
 life_of c n r =
-    record { incarnation = r.incarnation; life = life_served r.script n r.incarnation r.turns (Some r.calls) (Some r.calls_after) r.held r.held_after r.moments r.moments_after r.is }
+    record {
+      incarnation = r.incarnation;
+      life = life_served r.script n r.incarnation r.turns (Some r.calls) (Some r.calls_after) r.held r.held_after r.moments r.moments_after r.is;
+      alone = served_alone r.script n r.incarnation r.turns (Some r.calls) (Some r.calls_after) r.held r.held_after r.moments r.moments_after r.is;
+    }
 
 -- Let `serve` have run daemons over links that tell, for each node one after another, and let what they were given fit
 -- together. Then they are a safe network, whose records at each node are those of these daemons.
