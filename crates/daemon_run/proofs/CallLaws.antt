@@ -14,6 +14,7 @@ use Rattle.world_model.specs.declared.script.Line.{Line}
 use Rattle.world_model.specs.declared.script.Script.{Script}
 use Rattle.daemon_model.specs.Sent.{Went, WentFront}
 use Rattle.daemon_model.specs.Daemon.{Daemon, Opening, left_for, begun_for, stepped_by, opened, opened_all, own_call, own_calls, records_text}
+use Rattle.daemon_run.specs.declared.hosted.Hosted.{Hosted}
 use Rattle.daemon_run.specs.declared.running.Running.{Running}
 use Rattle.daemon_run.specs.Audience.{Audience, StepHands, OpeningHands}
 use Rattle.daemon_run.specs.Doing.{daemon_of, Goes, Broke, Breaks, Settles, SettlesFront, StepsAs, StepBreaks}
@@ -85,7 +86,7 @@ opening_on d (o ∷ os) ps u v w h k = (h.0, h.1, opening_on (opened d o) os ps 
 module _ {C : Type 0} where
   -- ---- one call
 
-  pub call_done : {A B : List C → Audience → Type 0} (r s : Running C) (c : CallLine) (own : List CallLine) (a b : Option (List LinkCall)) (x y : Option (List ℕ)) → own ≡ c ∷ [] → StepsAs A B None r s a b x y (Calls c) → CallsAs A B r s own a b x y
+  pub call_done : {A B : List (Hosted C) → Audience → Type 0} (r s : Running C) (c : CallLine) (own : List CallLine) (a b : Option (List LinkCall)) (x y : Option (List ℕ)) → own ≡ c ∷ [] → StepsAs A B None r s a b x y (Calls c) → CallsAs A B r s own a b x y
   unfolding opened_all opened
   call_done {B = B} r s c own a b x y is h = record {
     opening = record { call = c; answers = h.answers } ∷ [];
@@ -107,17 +108,17 @@ module _ {C : Type 0} where
     breaks = breaks_as r r a b x y (λ d. opened_all d (record { call = c; answers = h.answers } ∷ [])) (stepped_by h.answers (Calls c)) (λ before noted. refl) h.breaks;
   }
 
-  pub call_none : {A : List C → Audience → Type 0} (r : Running C) (own : List CallLine) (a : Option (List LinkCall)) (x : Option (List ℕ)) → own ≡ [] → CallsAs A A r r own a a x x
+  pub call_none : {A : List (Hosted C) → Audience → Type 0} (r : Running C) (own : List CallLine) (a : Option (List LinkCall)) (x : Option (List ℕ)) → own ≡ [] → CallsAs A A r r own a a x x
   unfolding opened_all
   call_none r own a x is = record { opening = []; are = sym is; goes = goes_as r r r a a x x (λ d. opened_all d []) (λ d. d) (λ before noted. refl) (goes_none r a x); attends = λ before noted u k. (u, refl, k) }
 
   -- ---- lines
 
-  pub lines_begin : {A : List C → Audience → Type 0} (r : Running C) (me : ℕ) (ls : List Line) (a : Option (List LinkCall)) (x : Option (List ℕ)) → CallsAs A A r r (own_calls me (take 0 ls)) a a x x
+  pub lines_begin : {A : List (Hosted C) → Audience → Type 0} (r : Running C) (me : ℕ) (ls : List Line) (a : Option (List LinkCall)) (x : Option (List ℕ)) → CallsAs A A r r (own_calls me (take 0 ls)) a a x x
   unfolding own_calls
   lines_begin r me ls a x = call_none r (own_calls me (take 0 ls)) a x (no_lines me ls)
 
-  calls_on : {A B D : List C → Audience → Type 0} (r s t : Running C) (cs es : List CallLine) (a b c : Option (List LinkCall)) (x y z : Option (List ℕ)) → CallsAs A B r s cs a b x y → CallsAs B D s t es b c y z → CallsAs A D r t (cs ++ es) a c x z
+  calls_on : {A B D : List (Hosted C) → Audience → Type 0} (r s t : Running C) (cs es : List CallLine) (a b c : Option (List LinkCall)) (x y z : Option (List ℕ)) → CallsAs A B r s cs a b x y → CallsAs B D s t es b c y z → CallsAs A D r t (cs ++ es) a c x z
   calls_on {A = A} {B = B} {D = D} r s t cs es a b c x y z p q = record {
     opening = p.opening ++ q.opening;
     are = map-append (λ (o : Opening). o.call) p.opening q.opening ∙ ap₂ (λ u v. u ++ v) p.are q.are;
@@ -129,12 +130,12 @@ module _ {C : Type 0} where
         (both.0, opening_on (daemon_of r before noted) p.opening q.opening u both.1.0 both.0 both.1.1 both.1.2, both.2);
   }
 
-  pub lines_next : {A B D : List C → Audience → Type 0} (r s t : Running C) (me m i : ℕ) (l : Line) (ls : List Line) (a b c : Option (List LinkCall)) (x y z : Option (List ℕ)) → i < length ls → l ≡ get_or ls i l → m ≡ me
+  pub lines_next : {A B D : List (Hosted C) → Audience → Type 0} (r s t : Running C) (me m i : ℕ) (l : Line) (ls : List Line) (a b c : Option (List LinkCall)) (x y z : Option (List ℕ)) → i < length ls → l ≡ get_or ls i l → m ≡ me
       → CallsAs A B r s (own_calls me (take i ls)) a b x y → CallsAs B D s t (own_call m l) b c y z → CallsAs A D r t (own_calls me (take (i + 1) ls)) a c x z
   lines_next {A = A} {D = D} r s t me m i l ls a b c x y z h is same p q =
       subst (λ cs. CallsAs A D r t cs a c x z) (sym (own_next me i l ls h is ∙ ap (λ k. own_calls me (take i ls) ++ own_call k l) (sym same))) (calls_on r s t _ _ a b c x y z p q)
 
-  pub lines_broke : {A B : List C → Audience → Type 0} (r s : Running C) (me m i : ℕ) (l : Line) (ls : List Line) (a b c : Option (List LinkCall)) (x y z : Option (List ℕ)) → i < length ls → l ≡ get_or ls i l → m ≡ me
+  pub lines_broke : {A B : List (Hosted C) → Audience → Type 0} (r s : Running C) (me m i : ℕ) (l : Line) (ls : List Line) (a b c : Option (List LinkCall)) (x y z : Option (List ℕ)) → i < length ls → l ≡ get_or ls i l → m ≡ me
       → CallsAs A B r s (own_calls me (take i ls)) a b x y → CallsBreak s (own_call m l) b c y z → CallsBreak r (own_calls me ls) a c x z
   lines_broke r s me m i l ls a b c x y z h is same p q =
       let rest : List Opening = unanswered (own_calls me (drop (i + 1) ls)) in
@@ -149,7 +150,7 @@ module _ {C : Type 0} where
             (breaks_more r a c x z (λ d. opened_all (opened_all d p.opening) q.opening) (λ d. opened_all d rest) (breaks_on r s a b c x y z (λ d. opened_all d p.opening) (λ d. opened_all d q.opening) p.goes q.breaks) (adds_opened_all rest));
       }
 
-  pub lines_all : {A B : List C → Audience → Type 0} (r s : Running C) (me i : ℕ) (ls : List Line) (a b : Option (List LinkCall)) (x y : Option (List ℕ)) → length ls ≤ i → CallsAs A B r s (own_calls me (take i ls)) a b x y → CallsAs A B r s (own_calls me ls) a b x y
+  pub lines_all : {A B : List (Hosted C) → Audience → Type 0} (r s : Running C) (me i : ℕ) (ls : List Line) (a b : Option (List LinkCall)) (x y : Option (List ℕ)) → length ls ≤ i → CallsAs A B r s (own_calls me (take i ls)) a b x y → CallsAs A B r s (own_calls me ls) a b x y
   lines_all {A = A} {B = B} r s me i ls a b x y le p = subst (λ ks. CallsAs A B r s (own_calls me ks) a b x y) (all_taken i ls le) p
 
   -- ---- from the start on
@@ -179,7 +180,7 @@ module _ {C : Type 0} where
 
   -- ---- it begins
 
-  pub begins_done : {A B : List C → Audience → Type 0} (remote : Bool) (script : Script) (me inc moment : ℕ) (s t : Running C) (a b c : Option (List LinkCall)) (x y z : Option (List ℕ)) → Settles None (fresh_running remote script.config me inc moment) s a b x y → CallsAs A B s t (own_calls me script.lines) b c y z
+  pub begins_done : {A B : List (Hosted C) → Audience → Type 0} (remote : Bool) (script : Script) (me inc moment : ℕ) (s t : Running C) (a b c : Option (List LinkCall)) (x y z : Option (List ℕ)) → Settles None (fresh_running remote script.config me inc moment) s a b x y → CallsAs A B s t (own_calls me script.lines) b c y z
       → BeginsAs A B remote script me inc moment t a c x z
   begins_done {A = A} {B = B} remote script me inc moment s t a b c x y z h q =
       let first : Reached (begun_for remote script.config me inc moment) s a b x y = reached_first remote script.config me inc moment s a b x y h in

@@ -11,6 +11,7 @@ use Rattle.node_state.specs.declared.happened.Happened.{Happened}
 use Rattle.world_model.specs.Text.{line_of}
 use Rattle.daemon_model.specs.Sent.{Went, WentFront}
 use Rattle.daemon_model.specs.Daemon.{Daemon, records_text}
+use Rattle.daemon_run.specs.declared.hosted.Hosted.{Hosted}
 use Rattle.daemon_run.specs.declared.running.Running.{Running}
 use Rattle.daemon_run.specs.Audience.{Audience}
 use Rattle.daemon_run.specs.Doing.{daemon_of, Goes, Broke, Breaks, Attends}
@@ -147,7 +148,7 @@ module _ {C : Type 0} where
   -- ---- what they hand
 
   -- in one part and in the next
-  pub attends_on : (A B D : List C → Audience → Type 0) (r s t : Running C) (a b : Option (List LinkCall)) (x y : Option (List ℕ)) (f : Daemon → Daemon) (H K : Daemon → Audience → Audience → Type 0) → Goes r s a b x y f
+  pub attends_on : (A B D : List (Hosted C) → Audience → Type 0) (r s t : Running C) (a b : Option (List LinkCall)) (x y : Option (List ℕ)) (f : Daemon → Daemon) (H K : Daemon → Audience → Audience → Type 0) → Goes r s a b x y f
       → Attends A B r s H → Attends B D s t K → Attends A D r t (λ d u w. (v : Audience) × H d u v × K (f d) v w)
   attends_on A B D r s t a b x y f H K p h k before noted u q =
       let one : (v : Audience) × H (daemon_of r before noted) u v × B s.node.clients v = h before noted u q in

@@ -10,6 +10,7 @@ use Rattle.node_state.specs.HandOn.{Answering}
 use Rattle.node_state.specs.Step.{Ticks, at_work}
 use Rattle.daemon_model.specs.Sent.{as_sent}
 use Rattle.daemon_model.specs.Daemon.{Daemon, Turn, stepped_by, is_due, ticked_if, ticked, joined_by, received, up_in, given_on, network_of, heard, turned}
+use Rattle.daemon_run.specs.declared.hosted.Hosted.{Hosted}
 use Rattle.daemon_run.specs.declared.running.Running.{Running}
 use Rattle.remote_session.specs.Daemon.{SeenUp, NotUp, KeysFull, KnownKey, CallMade}
 use Rattle.daemon_run.specs.Audience.{Audience, StepHands, TickHands, BroughtHands, GivenHands, TakenHands, HeardHands}
@@ -72,7 +73,7 @@ module _ {C : Type 0} where
       → ticked moment f (daemon_of r before noted) ≡ stepped_by f Ticks (daemon_of (record r { last = moment }) before noted)
   tick_is r moment f le before noted = ap (λ q. ticked_if q moment f (daemon_of r before noted)) (due r.last moment le)
 
-  pub tick_done : {A : List C → Audience → Type 0} (r s : Running C) (moment : ℕ) (a b : Option (List LinkCall)) (x y : Option (List ℕ)) → 100 ≤ moment - r.last → StepsAs A A None (record r { last = moment }) s a b x y Ticks → TicksAs A r s a b x y moment
+  pub tick_done : {A : List (Hosted C) → Audience → Type 0} (r s : Running C) (moment : ℕ) (a b : Option (List LinkCall)) (x y : Option (List ℕ)) → 100 ≤ moment - r.last → StepsAs A A None (record r { last = moment }) s a b x y Ticks → TicksAs A r s a b x y moment
   tick_done {A = A} r s moment a b x y le h = record {
     answers = h.answers;
     goes = goes_as r (record r { last = moment }) s a b x y (ticked moment h.answers) (stepped_by h.answers Ticks) (tick_is r moment h.answers le) h.goes;
@@ -87,7 +88,7 @@ module _ {C : Type 0} where
   pub tick_broke : (r : Running C) (moment : ℕ) (a b : Option (List LinkCall)) (x y : Option (List ℕ)) → 100 ≤ moment - r.last → StepBreaks None (record r { last = moment }) a b x y Ticks → TickBreaks r a b x y moment
   tick_broke r moment a b x y le h = record { answers = h.answers; breaks = breaks_as r (record r { last = moment }) a b x y (ticked moment h.answers) (stepped_by h.answers Ticks) (tick_is r moment h.answers le) h.breaks }
 
-  pub tick_not : {A : List C → Audience → Type 0} (r : Running C) (moment : ℕ) (a : Option (List LinkCall)) (x : Option (List ℕ)) → moment - r.last < 100 → TicksAs A r r a a x x moment
+  pub tick_not : {A : List (Hosted C) → Audience → Type 0} (r : Running C) (moment : ℕ) (a : Option (List LinkCall)) (x : Option (List ℕ)) → moment - r.last < 100 → TicksAs A r r a a x x moment
   tick_not r moment a x lt = record {
     answers = silent;
     goes = goes_as r r r a a x x (ticked moment silent) (λ d. d) (λ before noted. ap (λ q. ticked_if q moment silent (daemon_of r before noted)) (undue r.last moment lt)) (goes_none r a x);
@@ -96,7 +97,7 @@ module _ {C : Type 0} where
 
   -- ---- no message
 
-  pub give_nothing : {A : List C → Audience → Type 0} (r : Running C) (network : ℕ) (a : Option (List LinkCall)) (x : Option (List ℕ)) → GivesAs A r r a a x x network None
+  pub give_nothing : {A : List (Hosted C) → Audience → Type 0} (r : Running C) (network : ℕ) (a : Option (List LinkCall)) (x : Option (List ℕ)) → GivesAs A r r a a x x network None
   unfolding given_on
   give_nothing r network a x = record {
     answers = silent;
@@ -110,7 +111,7 @@ module _ {C : Type 0} where
       → taken_in network bytes f (daemon_of r before noted) ≡ given_on network m f (daemon_of (record r { joiner = j }) before noted)
   take_is r network bytes j m f h before noted = ap (λ (t : Joined). given_on network t.message f (record (daemon_of r before noted) { joining = t.joining })) (sym h)
 
-  pub take_done : {A : List C → Audience → Type 0} (r s : Running C) (network : ℕ) (bytes : List ℕ) (j : Joining) (m : Option (List ℕ)) (a b : Option (List LinkCall)) (x y : Option (List ℕ)) → joined_as j m ≡ taken r.joiner bytes → GivesAs A (record r { joiner = j }) s a b x y network m
+  pub take_done : {A : List (Hosted C) → Audience → Type 0} (r s : Running C) (network : ℕ) (bytes : List ℕ) (j : Joining) (m : Option (List ℕ)) (a b : Option (List LinkCall)) (x y : Option (List ℕ)) → joined_as j m ≡ taken r.joiner bytes → GivesAs A (record r { joiner = j }) s a b x y network m
       → TakesAs A r s a b x y network bytes
   take_done {A = A} r s network bytes j m a b x y is h = record {
     answers = h.answers;
@@ -151,7 +152,7 @@ module _ {C : Type 0} where
   told_goes : (r : Running C) (k : ℕ) (bytes : List ℕ) (a b : Option (List LinkCall)) (x : Option (List ℕ)) → Grows a b (call.Received k bytes ∷ []) → Goes r (record r { failed = 0 }) a b x x (told_of (call.Received k bytes))
   told_goes r k bytes a b x h = after_receive r (record r { failed = 0 }) (call.Received k bytes) a b x (told_of (call.Received k bytes)) refl h (λ before noted. refl)
 
-  pub hear_done : {A : List C → Audience → Type 0} (r s : Running C) (k : ℕ) (bytes : List ℕ) (a b c : Option (List LinkCall)) (x y : Option (List ℕ)) → Grows a b (call.Received k bytes ∷ []) → TakesAs A (record r { failed = 0 }) s b c x y k bytes → HearsAs A r s a c x y
+  pub hear_done : {A : List (Hosted C) → Audience → Type 0} (r s : Running C) (k : ℕ) (bytes : List ℕ) (a b c : Option (List LinkCall)) (x y : Option (List ℕ)) → Grows a b (call.Received k bytes ∷ []) → TakesAs A (record r { failed = 0 }) s b c x y k bytes → HearsAs A r s a c x y
   hear_done {A = A} r s k bytes a b c x y h g = record {
     got = call.Received k bytes;
     answers = g.answers;
@@ -173,11 +174,11 @@ module _ {C : Type 0} where
         (breaks_on r (record r { failed = 0 }) a b c x x y (told_of (call.Received k bytes)) (taken_in k bytes g.answers) (told_goes r k bytes a b x h) g.breaks);
   }
 
-  pub hear_quiet : {A : List C → Audience → Type 0} (r : Running C) (a b : Option (List LinkCall)) (x : Option (List ℕ)) → Grows a b (call.Quiet ∷ []) → HearsAs A r (record r { failed = 0 }) a b x x
+  pub hear_quiet : {A : List (Hosted C) → Audience → Type 0} (r : Running C) (a b : Option (List LinkCall)) (x : Option (List ℕ)) → Grows a b (call.Quiet ∷ []) → HearsAs A r (record r { failed = 0 }) a b x x
   unfolding heard received given_on
   hear_quiet r a b x h = record { got = call.Quiet; answers = silent; goes = after_receive r (record r { failed = 0 }) call.Quiet a b x (heard call.Quiet silent) refl h (λ before noted. refl); attends = λ before noted u k. (u, refl, k) }
 
-  pub hear_failed : {A : List C → Audience → Type 0} (r : Running C) (n : ℕ) (a b : Option (List LinkCall)) (x : Option (List ℕ)) → n ≡ min (r.failed + 1) 16 → Grows a b (call.Failed ∷ []) → HearsAs A r (record r { failed = n }) a b x x
+  pub hear_failed : {A : List (Hosted C) → Audience → Type 0} (r : Running C) (n : ℕ) (a b : Option (List LinkCall)) (x : Option (List ℕ)) → n ≡ min (r.failed + 1) 16 → Grows a b (call.Failed ∷ []) → HearsAs A r (record r { failed = n }) a b x x
   unfolding heard received given_on
   hear_failed r n a b x is h = record {
     got = call.Failed;
@@ -192,7 +193,7 @@ module _ {C : Type 0} where
 
   -- ---- a turn
 
-  pub turn_done : {A : List C → Audience → Type 0} (r s t : Running C) (moment : ℕ) (a b c : Option (List LinkCall)) (x y z u v : Option (List ℕ)) → Counts u v (moment ∷ []) → TicksAs A r s a b x y moment → HearsAs A s t b c y z → TurnsAs A r t a c x z u v
+  pub turn_done : {A : List (Hosted C) → Audience → Type 0} (r s t : Running C) (moment : ℕ) (a b c : Option (List LinkCall)) (x y z u v : Option (List ℕ)) → Counts u v (moment ∷ []) → TicksAs A r s a b x y moment → HearsAs A s t b c y z → TurnsAs A r t a c x z u v
   unfolding turned
   turn_done {A = A} r s t moment a b c x y z u v at p q = record {
     turn = record { moment = moment; tick = p.answers; got = q.got; answers = q.answers };
@@ -201,7 +202,7 @@ module _ {C : Type 0} where
     attends = attends_on A A A r s t a b x y (ticked moment p.answers) (λ d. TickHands (is_due d.last moment) p.answers d.core) (HeardHands q.got q.answers) p.goes p.attends q.attends;
   }
 
-  pub turn_broke : {A : List C → Audience → Type 0} (r s : Running C) (moment : ℕ) (a b c : Option (List LinkCall)) (x y z u v : Option (List ℕ)) → Counts u v (moment ∷ []) → TicksAs A r s a b x y moment → HearBreaks s b c y z → TurnBreaks r a c x z u v
+  pub turn_broke : {A : List (Hosted C) → Audience → Type 0} (r s : Running C) (moment : ℕ) (a b c : Option (List LinkCall)) (x y z u v : Option (List ℕ)) → Counts u v (moment ∷ []) → TicksAs A r s a b x y moment → HearBreaks s b c y z → TurnBreaks r a c x z u v
   unfolding turned
   turn_broke r s moment a b c x y z u v at p q = record {
     turn = record { moment = moment; tick = p.answers; got = q.got; answers = q.answers };

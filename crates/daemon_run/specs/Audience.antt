@@ -1,5 +1,5 @@
 -- What a daemon's run hands to the clients of its sessions, and the lists that they stand for.
-use Rattle.std.specs.Prelude.{◌≡◌, ℕ, Bool, true, false, List, [], ◌∷◌, ◌++◌, length, map, drop, get_or, is_none, Option, Some, None}
+use Rattle.std.specs.Prelude.{◌≡◌, ℕ, Bool, true, false, List, [], ◌∷◌, ◌++◌, length, map, drop, get_or, is_none, Option, Some, None, option_map}
 use Rattle.std.specs.Str.{bytes_eq}
 use Rattle.hags_io.specs.declared.link.LinkCall.{LinkCall}
 use Rattle.piece_link.specs.Joining.{taken}
@@ -18,25 +18,27 @@ use Rattle.node_state.specs.State.{state_of}
 use Rattle.node_state.specs.Step.{NodeEvent, Ticks, Asks, Given, Calls, at_work, stepped}
 use Rattle.node_state.specs.Step as step
 use Rattle.node_calls.specs.Calling.{clients_with}
-use Rattle.entry_delivery.specs.Received.{Handing, AreFor, logged_by, after_handings, WereHandedFrom}
+use Rattle.entry_delivery.specs.Received.{handed_by, AreLogs, Handing, AreFor, logged_by, after_handings}
 use Rattle.node_core.specs.Event.{called}
 use Rattle.world_model.specs.declared.script.Script.{Script}
 use Rattle.world_model.specs.Reading.{boxed_word}
 use Rattle.remote_session.specs.Daemon.{SeenUp, NotUp, KeysFull, KnownKey, CallMade}
 use Rattle.daemon_model.specs.Daemon.{Daemon, Opening, Turn, Life, is_due, ticked, joined_by, up_in, with_up, call_in, opened, turned, begun_for}
 use Rattle.daemon_model.specs.Lives.{first_of}
+use Rattle.daemon_run.specs.declared.hosted.Hosted.{Hosted}
+use Rattle.daemon_run.specs.Hosting.{StandWhere}
 
--- What is known of a daemon's clients: which lists the objects stand for that no client has taken. And of each session,
--- in order: whether its client is one of the objects, which list that stood for as the session began, and the records of
--- what it was handed and filled since, with the states of groups.
+-- What is known of a daemon's clients: of each object that no client has taken the list for which it stands, or nothing.
+-- And of each session, in order: whether its client is one of the objects, which list that stood for as the session began,
+-- if that is known, and the records of what it was handed and filled since, with the states of groups.
 pub record Audience : Type 0 where
-  pub left : List (List Handed)
+  pub left : List (Option (List Handed))
   pub boxed : List Bool
-  pub firsts : List (List Handed)
+  pub firsts : List (Option (List Handed))
   pub logs : List (List Logged)
 
--- objects that stand for these lists, and no session
-abbrev pub audience_of : List (List Handed) → Audience
+-- objects of which this is known, and no session
+abbrev pub audience_of : List (Option (List Handed)) → Audience
 audience_of lists = record { left = lists; boxed = []; firsts = []; logs = [] }
 
 -- ---- objects that are taken
@@ -44,19 +46,19 @@ audience_of lists = record { left = lists; boxed = []; firsts = []; logs = [] }
 abbrev pub is_boxed : List ℕ → Bool
 is_boxed votes = bytes_eq votes boxed_word
 
-abbrev pub first_if : Bool → List (List Handed) → List Handed
-first_if true lists = get_or lists 0 []
-first_if false lists = []
+abbrev pub first_if : Bool → List (Option (List Handed)) → Option (List Handed)
+first_if true lists = get_or lists 0 None
+first_if false lists = Some []
 
-abbrev pub left_if : Bool → List (List Handed) → List (List Handed)
+abbrev pub left_if : Bool → List (Option (List Handed)) → List (Option (List Handed))
 left_if true lists = drop 1 lists
 left_if false lists = lists
 
 -- the client of a votes word: for the word `boxed` the next of the objects, and else one that was handed nothing
-abbrev pub first_for : List ℕ → List (List Handed) → List Handed
+abbrev pub first_for : List ℕ → List (Option (List Handed)) → Option (List Handed)
 first_for votes lists = first_if (is_boxed votes) lists
 
-abbrev pub left_for : List ℕ → List (List Handed) → List (List Handed)
+abbrev pub left_for : List ℕ → List (Option (List Handed)) → List (Option (List Handed))
 left_for votes lists = left_if (is_boxed votes) lists
 
 -- ---- a call
@@ -148,14 +150,30 @@ LifeHands script me incarnation life old new =
 
 -- ---- clients
 
--- The clients of sessions are these: each stands for the list of its start and for what its log tells, in order; and just
--- those that are objects vote by no items.
-pub record Attend {C : Type 0} (R : C → List Handed → Type 0) (script : C → Option (List (Option VoteItem))) (clients : List C) (x : Audience) : Type 0 where
-  pub stand : WereHandedFrom R x.firsts clients x.logs
-  pub even : length x.firsts ≡ length x.logs
-  pub boxed : map is_none (map script clients) ≡ x.boxed
+-- for which lists clients stand that stood for these at first: each with what its log tells behind it, in order
+abbrev pub heard_since : Option (List Handed) → List Logged → Option (List Handed)
+heard_since first rs = option_map (λ h. h ++ handed_by rs) first
 
--- and the objects that are left stand for their lists
-pub record AttendWith {C : Type 0} (P : List (List Handed) → Type 0) (R : C → List Handed → Type 0) (script : C → Option (List (Option VoteItem))) (clients : List C) (x : Audience) : Type 0 where
+abbrev pub lists_now : List (Option (List Handed)) → List (List Logged) → List (Option (List Handed))
+lists_now [] rss = []
+lists_now (f ∷ fs) [] = []
+lists_now (f ∷ fs) (rs ∷ rss) = heard_since f rs ∷ lists_now fs rss
+
+abbrev pub client_stands : {C : Type 0} → (C → List Handed → Type 0) → Hosted C → List Handed → Type 0
+client_stands R c h = R c.client h
+
+abbrev pub client_script : {C : Type 0} → (C → Option (List (Option VoteItem))) → Hosted C → Option (List (Option VoteItem))
+client_script script c = script c.client
+
+-- The clients of sessions are these. Each of which it is known what it stood for at first stands for that and for what its
+-- log tells, in order, whatever is known of the others; and just those that are objects vote by no items.
+pub record Attend {C : Type 0} (R : C → List Handed → Type 0) (script : C → Option (List (Option VoteItem))) (clients : List (Hosted C)) (x : Audience) : Type 0 where
+  pub stand : StandWhere (client_stands R) clients (lists_now x.firsts x.logs)
+  pub even : length x.firsts ≡ length x.logs
+  pub logs : AreLogs x.logs
+  pub boxed : map is_none (map (client_script script) clients) ≡ x.boxed
+
+-- and of the objects that are left this is known
+pub record AttendWith {C : Type 0} (P : List (Option (List Handed)) → Type 0) (R : C → List Handed → Type 0) (script : C → Option (List (Option VoteItem))) (clients : List (Hosted C)) (x : Audience) : Type 0 where
   pub left : P x.left
   pub attend : Attend R script clients x
