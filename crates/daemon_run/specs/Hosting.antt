@@ -16,7 +16,7 @@ StandWhere R (x ∷ xs) (h ∷ hs) = IfSome h (R x) × StandWhere R xs hs
 
 -- What a client stood for at first is known or not: one thing before its list says which.
 abbrev pub mark : ℕ → Handed
-mark n = Informed (told.Refused (record { node = 1; incarnation = 1; instance = 1; join = 1 }) n Dissolved)
+mark n = Informed (told.Refused (record { node = 1; inc = 1; instance = 1; join = 1 }) n Dissolved)
 
 abbrev pub marked : Option (List Handed) → List Handed
 marked None = mark 0 ∷ []
