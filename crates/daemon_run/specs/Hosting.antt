@@ -5,8 +5,12 @@ use Rattle.client_callbacks.specs.declared.told.Why.TheVariants.{Dissolved}
 use Rattle.client_callbacks.specs.Handed.{Handed, Informed}
 use Rattle.daemon_run.specs.declared.hosted.Hosted.{Hosted}
 
--- Of each of these a list may be known for which it stands. Where none is, nothing is said of it.
-abbrev pub StandWhere : {X : Type 0} → (X → List Handed → Type 0) → List X → List (Option (List Handed)) → Type 0
+-- of each of some things the list for which it stands, or nothing
+abbrev pub Known : Type 0
+Known = List (Option (List Handed))
+
+-- Each stands for its list, where one is known. Where none is, nothing is said of it.
+abbrev pub StandWhere : {X : Type 0} → (X → List Handed → Type 0) → List X → Known → Type 0
 StandWhere R [] [] = Unit {0}
 StandWhere R [] (h ∷ hs) = ⊥
 StandWhere R (x ∷ xs) [] = ⊥
