@@ -276,7 +276,7 @@ module _ {C : Type 0} (R : C → List Handed → Type 0) (script : C → Option 
   boxed_added cs c = ap (map is_none) (map-append (client_script script) cs (c ∷ [])) ∙ map-append is_none (map (client_script script) cs) (script c.client ∷ [])
 
   even_firsts : (x : Audience) → length x.objects ≡ length x.logs → length (map (first_of_client known) x.objects) ≡ length x.logs
-  even_firsts x even = length-map (first_of_client known) x.objects ∙ even
+  even_firsts x even = length-map x.objects (first_of_client known) ∙ even
 
   -- a session that begins has its client behind all others
   pub attend_with : (c : Hosted C) (cs : List (Hosted C)) (x : Audience) (next : ℕ) (object : Option ℕ) (r : Result SessionState GsFault) → IfSome (first_of_client known object) (client_stands R c) → is_none (script c.client) ≡ is_some object → Attend R script known cs x
@@ -314,7 +314,7 @@ module _ {C : Type 0} (R : C → List Handed → Type 0) (script : C → Option 
       let even : length x.objects ≡ length (after_handings hs x.logs) = h.even ∙ sym (handings_even hs x.logs) in
       let after : WereHandedFrom (hosted_stands R) (map marked firsts) ds (after_handings hs x.logs) = received (map marked firsts) x.logs (record { stand = all_said R cs firsts x.logs (even_firsts x h.even) h.stand; logs = h.logs }) in
       record {
-        stand = all_known R ds firsts (after_handings hs x.logs) (length-map (first_of_client known) x.objects ∙ even) after.stand;
+        stand = all_known R ds firsts (after_handings hs x.logs) (length-map x.objects (first_of_client known) ∙ even) after.stand;
         even = even;
         logs = after.logs;
         boxed = ap (map is_none) same ∙ h.boxed;
