@@ -1,8 +1,8 @@
 -- Clients that come and go, and what the rules of a step hand to them.
 use Rattle.std.proofs.Common.{◌≡◌, ℕ, zero, suc, ◌+◌, Bool, true, false, List, [], ◌∷◌, ◌++◌, length, Option, Some, None, Result, Ok, Err, IsTrue, refl, sym, ap, ◌∙◌, subst, append-nil, length-append, arith}
-use Rattle.std.specs.Prelude.{map, remove, is_none, fold}
+use Rattle.std.specs.Prelude.{map, remove, drop, get_or, is_none, is_some, fold, IfSome}
 use Rattle.std.specs.List.{last_or}
-use Rattle.std.proofs.lemmas.List.{map-append}
+use Rattle.std.proofs.lemmas.List.{map-append, length-map, get_or-drop, drop-drop}
 use Rattle.client_callbacks.specs.declared.ballot.Filled.{Filled}
 use Rattle.client_callbacks.specs.declared.votes.VoteItem.{VoteItem}
 use Rattle.client_callbacks.specs.Handed.{Handed}
@@ -27,13 +27,15 @@ use Rattle.node_state.specs.Calls.{refuse_call, changed, ask_last, proposed, rec
 use Rattle.node_state.specs.Step.{NodeEvent, Ticks, Asks, Given, Calls, at_work}
 use Rattle.node_state.specs.Step as step
 use Rattle.node_calls.specs.Calling.{clients_with, is_within_session}
-use Rattle.entry_delivery.specs.Received.{handed_by, AreLogs, joined, Handing, logged, given_at, given_to, after_handings, Receive}
+use Rattle.entry_delivery.specs.Received.{handed_by, AreLogs, joined, WereHandedFrom, Handing, logged, given_at, given_to, after_handings, Receive}
 use Rattle.entry_delivery.specs.Doing.{Does}
 use Rattle.node_core.specs.declared.events.NodeEvent.TheVariants as event
 use Rattle.node_core.specs.declared.events.NodeEvent as events
 use Rattle.node_core.specs.Event.{called, is_taken}
 use Rattle.node_core.specs.Event as taken
-use Rattle.daemon_run.specs.Audience.{Audience, audience_called, attended, RowsHand, Attend}
+use Rattle.daemon_run.specs.declared.hosted.Hosted.{Hosted}
+use Rattle.daemon_run.specs.Hosting.{Known, StandWhere, marked, Says, hosted_stands}
+use Rattle.daemon_run.specs.Audience.{Audience, is_boxed, object_if, object_for, next_if, next_for, first_if, first_for, left_if, left_for, audience_called, attended, RowsHand, first_of_client, heard_since, lists_now, client_stands, client_script, Attend}
 
 -- ---- a call leaves the groups as they are
 
@@ -163,23 +165,23 @@ taken_attended (event.Call c) h s x = within_attended c.now h s x
 
 -- ---- lists of clients
 
-pub joined_added : (fs hs : List (List Handed)) (f h : List Handed) → length fs ≡ length hs → joined (fs ++ f ∷ []) (hs ++ h ∷ []) ≡ joined fs hs ++ (f ++ h) ∷ []
-joined_added [] [] f h e = refl
-joined_added [] (x ∷ hs) f h e = absurd (omega arith)
-joined_added (g ∷ fs) [] f h e = absurd (omega arith)
-joined_added (g ∷ fs) (x ∷ hs) f h e =
-    let below : length fs ≡ length hs = omega arith in ap (λ (t : List (List Handed)). (g ++ x) ∷ t) (joined_added fs hs f h below)
+lists_added : (fs : Known) (rss : List (List Logged)) (f : Option (List Handed)) → length fs ≡ length rss → lists_now (fs ++ f ∷ []) (rss ++ [] ∷ []) ≡ lists_now fs rss ++ heard_since f [] ∷ []
+lists_added [] [] f e = refl
+lists_added [] (rs ∷ rss) f e = absurd (omega arith)
+lists_added (g ∷ fs) [] f e = absurd (omega arith)
+lists_added (g ∷ fs) (rs ∷ rss) f e =
+    let below : length fs ≡ length rss = omega arith in ap (λ (t : Known). heard_since g rs ∷ t) (lists_added fs rss f below)
 
-joined_removed : (i : ℕ) (fs hs : List (List Handed)) → length fs ≡ length hs → joined (remove fs i) (remove hs i) ≡ remove (joined fs hs) i
-joined_removed zero [] [] e = refl
-joined_removed (suc i) [] [] e = refl
-joined_removed zero [] (x ∷ hs) e = absurd (omega arith)
-joined_removed (suc i) [] (x ∷ hs) e = absurd (omega arith)
-joined_removed zero (g ∷ fs) [] e = absurd (omega arith)
-joined_removed (suc i) (g ∷ fs) [] e = absurd (omega arith)
-joined_removed zero (g ∷ fs) (x ∷ hs) e = refl
-joined_removed (suc i) (g ∷ fs) (x ∷ hs) e =
-    let below : length fs ≡ length hs = omega arith in ap (λ (t : List (List Handed)). (g ++ x) ∷ t) (joined_removed i fs hs below)
+lists_removed : (i : ℕ) (fs : Known) (rss : List (List Logged)) → length fs ≡ length rss → lists_now (remove fs i) (remove rss i) ≡ remove (lists_now fs rss) i
+lists_removed zero [] [] e = refl
+lists_removed (suc i) [] [] e = refl
+lists_removed zero [] (rs ∷ rss) e = absurd (omega arith)
+lists_removed (suc i) [] (rs ∷ rss) e = absurd (omega arith)
+lists_removed zero (g ∷ fs) [] e = absurd (omega arith)
+lists_removed (suc i) (g ∷ fs) [] e = absurd (omega arith)
+lists_removed zero (g ∷ fs) (rs ∷ rss) e = refl
+lists_removed (suc i) (g ∷ fs) (rs ∷ rss) e =
+    let below : length fs ≡ length rss = omega arith in ap (λ (t : Known). heard_since g rs ∷ t) (lists_removed i fs rss below)
 
 even_removed : {X Y : Type 0} (i : ℕ) (xs : List X) (ys : List Y) → length xs ≡ length ys → length (remove xs i) ≡ length (remove ys i)
 even_removed zero [] [] e = refl
@@ -223,68 +225,126 @@ unfolding after_handings
 handings_even [] rss = refl
 handings_even (h ∷ hs) rss = handings_even hs (given_to h.place (logged h) rss) ∙ to_even h.place (logged h) rss
 
-map_even : (rss : List (List Logged)) → length (map handed_by rss) ≡ length rss
-map_even [] = refl
-map_even (rs ∷ rss) = ap suc (map_even rss)
+module _ {X : Type 0} (R : X → List Handed → Type 0) where
+  stand_added : (xs : List X) (hs : Known) (x : X) (h : Option (List Handed)) → IfSome h (R x) → StandWhere R xs hs → StandWhere R (xs ++ x ∷ []) (hs ++ h ∷ [])
+  stand_added [] [] x h new p = (new, tt)
+  stand_added [] (g ∷ hs) x h new p = absurd p
+  stand_added (y ∷ xs) [] x h new p = absurd p
+  stand_added (y ∷ xs) (g ∷ hs) x h new p = (p.0, stand_added xs hs x h new p.1)
+
+  stand_removed : (i : ℕ) (xs : List X) (hs : Known) → StandWhere R xs hs → StandWhere R (remove xs i) (remove hs i)
+  stand_removed zero [] [] p = tt
+  stand_removed (suc i) [] [] p = tt
+  stand_removed i [] (g ∷ hs) p = absurd p
+  stand_removed i (y ∷ xs) [] p = absurd p
+  stand_removed zero (y ∷ xs) (g ∷ hs) p = p.1
+  stand_removed (suc i) (y ∷ xs) (g ∷ hs) p = (p.0, stand_removed i xs hs p.1)
 
 module _ {C : Type 0} (R : C → List Handed → Type 0) where
-  stand_added : (cs : List C) (xss : List (List Handed)) (c : C) (xs : List Handed) → R c xs → StandFor R cs xss → StandFor R (cs ++ c ∷ []) (xss ++ xs ∷ [])
-  stand_added [] [] c xs new h = (new, tt)
-  stand_added [] (ys ∷ xss) c xs new h = absurd h
-  stand_added (d ∷ cs) [] c xs new h = absurd h
-  stand_added (d ∷ cs) (ys ∷ xss) c xs new h = (h.0, stand_added cs xss c xs new h.1)
+  -- ---- as the node says it
 
-  stand_removed : (i : ℕ) (cs : List C) (xss : List (List Handed)) → StandFor R cs xss → StandFor R (remove cs i) (remove xss i)
-  stand_removed zero [] [] h = tt
-  stand_removed (suc i) [] [] h = tt
-  stand_removed i [] (ys ∷ xss) h = absurd h
-  stand_removed i (c ∷ cs) [] h = absurd h
-  stand_removed zero (c ∷ cs) (ys ∷ xss) h = h.1
-  stand_removed (suc i) (c ∷ cs) (ys ∷ xss) h = (h.0, stand_removed i cs xss h.1)
+  one_said : (c : Hosted C) (f : Option (List Handed)) (rs : List Logged) → IfSome (heard_since f rs) (client_stands R c) → Says R c.client (marked f ++ handed_by rs)
+  one_said c None rs h = tt
+  one_said c (Some f) rs h = h
 
-module _ {C : Type 0} (R : C → List Handed → Type 0) (script : C → Option (List (Option VoteItem))) where
-  boxed_added : (cs : List C) (c : C) → map is_none (map script (cs ++ c ∷ [])) ≡ map is_none (map script cs) ++ is_none (script c) ∷ []
-  boxed_added cs c = ap (map is_none) (map-append script cs (c ∷ [])) ∙ map-append is_none (map script cs) (script c ∷ [])
+  one_known : (c : Hosted C) (f : Option (List Handed)) (rs : List Logged) → Says R c.client (marked f ++ handed_by rs) → IfSome (heard_since f rs) (client_stands R c)
+  one_known c None rs h = tt
+  one_known c (Some f) rs h = h
+
+  all_said : (cs : List (Hosted C)) (fs : Known) (rss : List (List Logged)) → length fs ≡ length rss → StandWhere (client_stands R) cs (lists_now fs rss) → StandFor (hosted_stands R) cs (joined (map marked fs) (map handed_by rss))
+  all_said [] [] [] e h = tt
+  all_said (c ∷ cs) [] [] e h = absurd h
+  all_said cs [] (rs ∷ rss) e h = absurd (omega arith)
+  all_said cs (f ∷ fs) [] e h = absurd (omega arith)
+  all_said [] (f ∷ fs) (rs ∷ rss) e h = absurd h
+  all_said (c ∷ cs) (f ∷ fs) (rs ∷ rss) e h = let below : length fs ≡ length rss = omega arith in (one_said c f rs h.0, all_said cs fs rss below h.1)
+
+  all_known : (cs : List (Hosted C)) (fs : Known) (rss : List (List Logged)) → length fs ≡ length rss → StandFor (hosted_stands R) cs (joined (map marked fs) (map handed_by rss)) → StandWhere (client_stands R) cs (lists_now fs rss)
+  all_known [] [] [] e h = tt
+  all_known (c ∷ cs) [] [] e h = absurd h
+  all_known cs [] (rs ∷ rss) e h = absurd (omega arith)
+  all_known cs (f ∷ fs) [] e h = absurd (omega arith)
+  all_known [] (f ∷ fs) (rs ∷ rss) e h = absurd h
+  all_known (c ∷ cs) (f ∷ fs) (rs ∷ rss) e h = let below : length fs ≡ length rss = omega arith in (one_known c f rs h.0, all_known cs fs rss below h.1)
+
+  first_heard : (c : Hosted C) (f : Option (List Handed)) → IfSome f (client_stands R c) → IfSome (heard_since f []) (client_stands R c)
+  first_heard c None h = tt
+  first_heard c (Some f) h = subst (R c.client) (sym (append-nil f)) h
+
+module _ {C : Type 0} (R : C → List Handed → Type 0) (script : C → Option (List (Option VoteItem))) (known : Known) where
+  boxed_added : (cs : List (Hosted C)) (c : Hosted C) → map is_none (map (client_script script) (cs ++ c ∷ [])) ≡ map is_none (map (client_script script) cs) ++ is_none (script c.client) ∷ []
+  boxed_added cs c = ap (map is_none) (map-append (client_script script) cs (c ∷ [])) ∙ map-append is_none (map (client_script script) cs) (script c.client ∷ [])
+
+  even_firsts : (x : Audience) → length x.objects ≡ length x.logs → length (map (first_of_client known) x.objects) ≡ length x.logs
+  even_firsts x even = length-map x.objects (first_of_client known) ∙ even
 
   -- a session that begins has its client behind all others
-  pub attend_with : (c : C) (cs : List C) (x : Audience) (left : List (List Handed)) (first : List Handed) (b : Bool) (r : Result SessionState GsFault) → R c first → is_none (script c) ≡ b → Attend R script cs x
-      → Attend R script (clients_with c cs r) (record { left = left; boxed = clients_with b x.boxed r; firsts = clients_with first x.firsts r; logs = clients_with [] x.logs r })
-  attend_with c cs x left first b (Ok t) new is h = record {
-    stand = record {
-      stand =
-          let even : length x.firsts ≡ length (map handed_by x.logs) = h.even ∙ sym (map_even x.logs) in
-          subst (StandFor R (cs ++ c ∷ [])) (sym (ap (joined (x.firsts ++ first ∷ [])) (map-append handed_by x.logs ([] ∷ [])) ∙ joined_added x.firsts (map handed_by x.logs) first [] even))
-          (stand_added R cs (joined x.firsts (map handed_by x.logs)) c (first ++ []) (subst (R c) (sym (append-nil first)) new) h.stand.stand);
-      logs = logs_added x.logs h.stand.logs;
-    };
-    even = length-append x.firsts (first ∷ []) ∙ (ap (λ n. n + 1) h.even ∙ sym (length-append x.logs ([] ∷ [])));
-    boxed = boxed_added cs c ∙ (ap (λ bs. bs ++ is_none (script c) ∷ []) h.boxed ∙ ap (λ d. x.boxed ++ d ∷ []) is);
-  }
-  attend_with c cs x left first b (Err f) new is h = record { stand = h.stand; even = h.even; boxed = h.boxed }
+  pub attend_with : (c : Hosted C) (cs : List (Hosted C)) (x : Audience) (next : ℕ) (object : Option ℕ) (r : Result SessionState GsFault) → IfSome (first_of_client known object) (client_stands R c) → is_none (script c.client) ≡ is_some object → Attend R script known cs x
+      → Attend R script known (clients_with c cs r) (record { next = next; objects = clients_with object x.objects r; logs = clients_with [] x.logs r })
+  attend_with c cs x next object (Ok t) new is h =
+      let firsts : Known = map (first_of_client known) x.objects in
+      let first : Option (List Handed) = first_of_client known object in
+      record {
+        stand = subst (λ (fs : Known). StandWhere (client_stands R) (cs ++ c ∷ []) (lists_now fs (x.logs ++ [] ∷ []))) (sym (map-append (first_of_client known) x.objects (object ∷ [])))
+            (subst (StandWhere (client_stands R) (cs ++ c ∷ [])) (sym (lists_added firsts x.logs first (even_firsts x h.even))) (stand_added (client_stands R) cs (lists_now firsts x.logs) c (heard_since first []) (first_heard R c first new) h.stand));
+        even = length-append x.objects (object ∷ []) ∙ (ap (λ n. n + 1) h.even ∙ sym (length-append x.logs ([] ∷ [])));
+        logs = logs_added x.logs h.logs;
+        boxed = boxed_added cs c ∙ (ap (λ bs. bs ++ is_none (script c.client) ∷ []) h.boxed ∙ (ap (λ b. map is_some x.objects ++ b ∷ []) is ∙ sym (map-append is_some x.objects (object ∷ []))));
+      }
+  attend_with c cs x next object (Err f) new is h = record { stand = h.stand; even = h.even; logs = h.logs; boxed = h.boxed }
 
   -- one that ends takes its client away
-  pub attend_without : (place : Option ℕ) (cs : List C) (x : Audience) → Attend R script cs x
-      → Attend R script (removed_at place cs) (record { left = x.left; boxed = removed_at place x.boxed; firsts = removed_at place x.firsts; logs = removed_at place x.logs })
-  attend_without None cs x h = record { stand = h.stand; even = h.even; boxed = h.boxed }
-  attend_without (Some i) cs x h = record {
-    stand = record {
-      stand =
-          let even : length x.firsts ≡ length (map handed_by x.logs) = h.even ∙ sym (map_even x.logs) in
-          subst (StandFor R (remove cs i)) (sym (ap (joined (remove x.firsts i)) (map_removed handed_by i x.logs) ∙ joined_removed i x.firsts (map handed_by x.logs) even))
-          (stand_removed R i cs (joined x.firsts (map handed_by x.logs)) h.stand.stand);
-      logs = logs_removed i x.logs h.stand.logs;
-    };
-    even = even_removed i x.firsts x.logs h.even;
-    boxed = ap (map is_none) (map_removed script i cs) ∙ (map_removed is_none i (map script cs) ∙ ap (λ bs. remove bs i) h.boxed);
-  }
+  pub attend_without : (place : Option ℕ) (cs : List (Hosted C)) (x : Audience) → Attend R script known cs x
+      → Attend R script known (removed_at place cs) (record { next = x.next; objects = removed_at place x.objects; logs = removed_at place x.logs })
+  attend_without None cs x h = record { stand = h.stand; even = h.even; logs = h.logs; boxed = h.boxed }
+  attend_without (Some i) cs x h =
+      let firsts : Known = map (first_of_client known) x.objects in
+      record {
+        stand = subst (λ (fs : Known). StandWhere (client_stands R) (remove cs i) (lists_now fs (remove x.logs i))) (sym (map_removed (first_of_client known) i x.objects))
+            (subst (StandWhere (client_stands R) (remove cs i)) (sym (lists_removed i firsts x.logs (even_firsts x h.even))) (stand_removed (client_stands R) i cs (lists_now firsts x.logs) h.stand));
+        even = even_removed i x.objects x.logs h.even;
+        logs = logs_removed i x.logs h.logs;
+        boxed = ap (map is_none) (map_removed (client_script script) i cs) ∙ (map_removed is_none i (map (client_script script) cs) ∙ (ap (λ bs. remove bs i) h.boxed ∙ sym (map_removed is_some i x.objects)));
+      }
 
-  -- what rows hand
-  pub attend_rows : (cs ds : List C) (x : Audience) (hs : List Handing) → Receive R cs ds hs → map script ds ≡ map script cs → Attend R script cs x → Attend R script ds (record x { logs = after_handings hs x.logs })
-  attend_rows cs ds x hs received same h = record {
-    stand = received x.firsts x.logs h.stand;
-    even = h.even ∙ sym (handings_even hs x.logs);
-    boxed = ap (map is_none) same ∙ h.boxed;
-  }
+  -- what rules hand
+  pub attend_rows : (cs ds : List (Hosted C)) (x : Audience) (hs : List Handing) → Receive (hosted_stands R) cs ds hs → map (client_script script) ds ≡ map (client_script script) cs → Attend R script known cs x → Attend R script known ds (record x { logs = after_handings hs x.logs })
+  attend_rows cs ds x hs received same h =
+      let firsts : Known = map (first_of_client known) x.objects in
+      let even : length x.objects ≡ length (after_handings hs x.logs) = h.even ∙ sym (handings_even hs x.logs) in
+      let after : WereHandedFrom (hosted_stands R) (map marked firsts) ds (after_handings hs x.logs) = received (map marked firsts) x.logs (record { stand = all_said R cs firsts x.logs (even_firsts x h.even) h.stand; logs = h.logs }) in
+      record {
+        stand = all_known R ds firsts (after_handings hs x.logs) (length-map x.objects (first_of_client known) ∙ even) after.stand;
+        even = even;
+        logs = after.logs;
+        boxed = ap (map is_none) same ∙ h.boxed;
+      }
+
+-- ---- objects that are taken
+
+first_left : (b : Bool) (n : ℕ) (known : Known) → first_of_client known (object_if b n) ≡ first_if b (drop n known)
+first_left true n known = let same : n + 0 ≡ n = omega arith in sym (get_or-drop n known 0 None ∙ ap (λ k. get_or known k None) same)
+first_left false n known = refl
+
+pub first_taken : (P : List Handed → Type 0) (votes : List ℕ) (n : ℕ) (known : Known) → IfSome (first_for votes (drop n known)) P → IfSome (first_of_client known (object_for votes n)) P
+first_taken P votes n known h = subst (λ (f : Option (List Handed)). IfSome f P) (sym (first_left (is_boxed votes) n known)) h
+
+left_is : (b : Bool) (n : ℕ) (known : Known) → left_if b (drop n known) ≡ drop (next_if b n) known
+left_is true n known = drop-drop 1 n known
+left_is false n known = refl
+
+pub left_taken : (Q : Known → Type 0) (votes : List ℕ) (n m : ℕ) (known : Known) → m ≡ next_for votes n → Q (left_for votes (drop n known)) → Q (drop m known)
+left_taken Q votes n m known is h = subst (λ (k : ℕ). Q (drop k known)) (sym is) (subst Q (left_is (is_boxed votes) n known) h)
+
+object_is : (b : Bool) (n : ℕ) → is_some (object_if b n) ≡ b
+object_is true n = refl
+object_is false n = refl
+
+pub taken_boxed : (votes : List ℕ) (n : ℕ) (b : Bool) → b ≡ is_boxed votes → b ≡ is_some (object_for votes n)
+taken_boxed votes n b is = is ∙ sym (object_is (is_boxed votes) n)
+
+pub first_none : (P : List Handed → Type 0) (votes : List ℕ) (n : ℕ) (known : Known) → is_boxed votes ≡ false → P [] → IfSome (first_of_client known (object_for votes n)) P
+first_none P votes n known plain h = subst (λ (b : Bool). IfSome (first_of_client known (object_if b n)) P) (sym plain) h
 
 pub rows_hand : {scripts : List (Option (List (Option VoteItem)))} {P : List Handing → Type 0} {row : Answering → Core} (s t u : Core) (x : Audience) → t ≡ u → InNameOrder s.groups → (d : Does scripts P s t row) → RowsHand s u x (record x { logs = after_handings d.handings x.logs })
 rows_hand s t u x same order d = subst (λ v. RowsHand s v x (record x { logs = after_handings d.handings x.logs })) same (record {

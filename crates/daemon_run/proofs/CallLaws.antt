@@ -14,9 +14,11 @@ use Rattle.world_model.specs.declared.script.Line.{Line}
 use Rattle.world_model.specs.declared.script.Script.{Script}
 use Rattle.daemon_model.specs.Sent.{Went, WentFront}
 use Rattle.daemon_model.specs.Daemon.{Daemon, Opening, left_for, begun_for, stepped_by, opened, opened_all, own_call, own_calls, records_text}
+use Rattle.daemon_run.specs.Hosting.{Known}
+use Rattle.daemon_run.specs.declared.hosted.Hosted.{Hosted}
 use Rattle.daemon_run.specs.declared.running.Running.{Running}
 use Rattle.daemon_run.specs.Audience.{Audience, StepHands, OpeningHands}
-use Rattle.daemon_run.specs.Doing.{daemon_of, Goes, Broke, Breaks, Settles, SettlesFront, StepsAs, StepBreaks}
+use Rattle.daemon_run.specs.Doing.{daemon_of, Passes, Goes, Broke, Breaks, Settles, SettlesFront, StepsAs, StepBreaks}
 use Rattle.daemon_run.specs.Calling.{calls_in, CallsAs, CallsBreak, fresh_running, Reached, Stopped, BeginsAs, BeginBreaks}
 use Rattle.daemon_run.proofs.WentLaws.{next_item, went_on, none_went, went_front_on, went_front_more}
 use Rattle.daemon_run.proofs.GoesLaws.{Adds, attends_on, adds_none, adds_on, all_taken, goes_none, goes_on, goes_as, breaks_as, breaks_on, breaks_more, written_on, none_front, front_on, front_more}
@@ -85,14 +87,14 @@ opening_on d (o ∷ os) ps u v w h k = (h.0, h.1, opening_on (opened d o) os ps 
 module _ {C : Type 0} where
   -- ---- one call
 
-  pub call_done : {A B : List C → Audience → Type 0} (r s : Running C) (c : CallLine) (own : List CallLine) (a b : Option (List LinkCall)) (x y : Option (List ℕ)) → own ≡ c ∷ [] → StepsAs A B None r s a b x y (Calls c) → CallsAs A B r s own a b x y
+  pub call_done : {A B : Known → List (Hosted C) → Audience → Type 0} (r s : Running C) (c : CallLine) (own : List CallLine) (a b : Option (List LinkCall)) (x y : Option (List ℕ)) → own ≡ c ∷ [] → StepsAs A B None r s a b x y (Calls c) → CallsAs A B r s own a b x y
   unfolding opened_all opened
-  call_done {B = B} r s c own a b x y is h = record {
+  call_done {A = A} {B = B} r s c own a b x y is h = record {
     opening = record { call = c; answers = h.answers } ∷ [];
     are = sym is;
     goes = goes_as r r s a b x y (λ d. opened_all d (record { call = c; answers = h.answers } ∷ [])) (stepped_by h.answers (Calls c)) (λ before noted. refl) h.goes;
-    attends = λ before noted u k.
-        let t : (v : Audience) × StepHands h.answers (Calls c) (at_work r.node.core) u v × B s.node.clients v = h.attends before noted u k in (
+    attends = λ before noted u.
+        let t : (v : Audience) × StepHands h.answers (Calls c) (at_work r.node.core) u v × Passes A B r.node.clients s.node.clients u v = h.attends before noted u in (
           t.0,
           (t.0, t.1, refl),
           t.2,
@@ -107,34 +109,34 @@ module _ {C : Type 0} where
     breaks = breaks_as r r a b x y (λ d. opened_all d (record { call = c; answers = h.answers } ∷ [])) (stepped_by h.answers (Calls c)) (λ before noted. refl) h.breaks;
   }
 
-  pub call_none : {A : List C → Audience → Type 0} (r : Running C) (own : List CallLine) (a : Option (List LinkCall)) (x : Option (List ℕ)) → own ≡ [] → CallsAs A A r r own a a x x
+  pub call_none : {A : Known → List (Hosted C) → Audience → Type 0} (r : Running C) (own : List CallLine) (a : Option (List LinkCall)) (x : Option (List ℕ)) → own ≡ [] → CallsAs A A r r own a a x x
   unfolding opened_all
-  call_none r own a x is = record { opening = []; are = sym is; goes = goes_as r r r a a x x (λ d. opened_all d []) (λ d. d) (λ before noted. refl) (goes_none r a x); attends = λ before noted u k. (u, refl, k) }
+  call_none r own a x is = record { opening = []; are = sym is; goes = goes_as r r r a a x x (λ d. opened_all d []) (λ d. d) (λ before noted. refl) (goes_none r a x); attends = λ before noted u. (u, refl, λ known held. held) }
 
   -- ---- lines
 
-  pub lines_begin : {A : List C → Audience → Type 0} (r : Running C) (me : ℕ) (ls : List Line) (a : Option (List LinkCall)) (x : Option (List ℕ)) → CallsAs A A r r (own_calls me (take 0 ls)) a a x x
+  pub lines_begin : {A : Known → List (Hosted C) → Audience → Type 0} (r : Running C) (me : ℕ) (ls : List Line) (a : Option (List LinkCall)) (x : Option (List ℕ)) → CallsAs A A r r (own_calls me (take 0 ls)) a a x x
   unfolding own_calls
   lines_begin r me ls a x = call_none r (own_calls me (take 0 ls)) a x (no_lines me ls)
 
-  calls_on : {A B D : List C → Audience → Type 0} (r s t : Running C) (cs es : List CallLine) (a b c : Option (List LinkCall)) (x y z : Option (List ℕ)) → CallsAs A B r s cs a b x y → CallsAs B D s t es b c y z → CallsAs A D r t (cs ++ es) a c x z
+  calls_on : {A B D : Known → List (Hosted C) → Audience → Type 0} (r s t : Running C) (cs es : List CallLine) (a b c : Option (List LinkCall)) (x y z : Option (List ℕ)) → CallsAs A B r s cs a b x y → CallsAs B D s t es b c y z → CallsAs A D r t (cs ++ es) a c x z
   calls_on {A = A} {B = B} {D = D} r s t cs es a b c x y z p q = record {
     opening = p.opening ++ q.opening;
     are = map-append (λ (o : Opening). o.call) p.opening q.opening ∙ ap₂ (λ u v. u ++ v) p.are q.are;
     goes = goes_as r r t a c x z (λ d. opened_all d (p.opening ++ q.opening)) (λ d. opened_all (opened_all d p.opening) q.opening) (λ before noted. opened_append (daemon_of r before noted) p.opening q.opening)
         (goes_on r s t a b c x y z (λ d. opened_all d p.opening) (λ d. opened_all d q.opening) p.goes q.goes);
-    attends = λ before noted u k.
-        let both : (w : Audience) × ((v : Audience) × OpeningHands (daemon_of r before noted) p.opening u v × OpeningHands (opened_all (daemon_of r before noted) p.opening) q.opening v w) × D t.node.clients w
-        = attends_on A B D r s t a b x y (λ d. opened_all d p.opening) (λ d. OpeningHands d p.opening) (λ d. OpeningHands d q.opening) p.goes p.attends q.attends before noted u k in
+    attends = λ before noted u.
+        let both : (w : Audience) × ((v : Audience) × OpeningHands (daemon_of r before noted) p.opening u v × OpeningHands (opened_all (daemon_of r before noted) p.opening) q.opening v w) × Passes A D r.node.clients t.node.clients u w
+        = attends_on A B D r s t a b x y (λ d. opened_all d p.opening) (λ d. OpeningHands d p.opening) (λ d. OpeningHands d q.opening) p.goes p.attends q.attends before noted u in
         (both.0, opening_on (daemon_of r before noted) p.opening q.opening u both.1.0 both.0 both.1.1 both.1.2, both.2);
   }
 
-  pub lines_next : {A B D : List C → Audience → Type 0} (r s t : Running C) (me m i : ℕ) (l : Line) (ls : List Line) (a b c : Option (List LinkCall)) (x y z : Option (List ℕ)) → i < length ls → l ≡ get_or ls i l → m ≡ me
+  pub lines_next : {A B D : Known → List (Hosted C) → Audience → Type 0} (r s t : Running C) (me m i : ℕ) (l : Line) (ls : List Line) (a b c : Option (List LinkCall)) (x y z : Option (List ℕ)) → i < length ls → l ≡ get_or ls i l → m ≡ me
       → CallsAs A B r s (own_calls me (take i ls)) a b x y → CallsAs B D s t (own_call m l) b c y z → CallsAs A D r t (own_calls me (take (i + 1) ls)) a c x z
   lines_next {A = A} {D = D} r s t me m i l ls a b c x y z h is same p q =
       subst (λ cs. CallsAs A D r t cs a c x z) (sym (own_next me i l ls h is ∙ ap (λ k. own_calls me (take i ls) ++ own_call k l) (sym same))) (calls_on r s t _ _ a b c x y z p q)
 
-  pub lines_broke : {A B : List C → Audience → Type 0} (r s : Running C) (me m i : ℕ) (l : Line) (ls : List Line) (a b c : Option (List LinkCall)) (x y z : Option (List ℕ)) → i < length ls → l ≡ get_or ls i l → m ≡ me
+  pub lines_broke : {A B : Known → List (Hosted C) → Audience → Type 0} (r s : Running C) (me m i : ℕ) (l : Line) (ls : List Line) (a b c : Option (List LinkCall)) (x y z : Option (List ℕ)) → i < length ls → l ≡ get_or ls i l → m ≡ me
       → CallsAs A B r s (own_calls me (take i ls)) a b x y → CallsBreak s (own_call m l) b c y z → CallsBreak r (own_calls me ls) a c x z
   lines_broke r s me m i l ls a b c x y z h is same p q =
       let rest : List Opening = unanswered (own_calls me (drop (i + 1) ls)) in
@@ -149,7 +151,7 @@ module _ {C : Type 0} where
             (breaks_more r a c x z (λ d. opened_all (opened_all d p.opening) q.opening) (λ d. opened_all d rest) (breaks_on r s a b c x y z (λ d. opened_all d p.opening) (λ d. opened_all d q.opening) p.goes q.breaks) (adds_opened_all rest));
       }
 
-  pub lines_all : {A B : List C → Audience → Type 0} (r s : Running C) (me i : ℕ) (ls : List Line) (a b : Option (List LinkCall)) (x y : Option (List ℕ)) → length ls ≤ i → CallsAs A B r s (own_calls me (take i ls)) a b x y → CallsAs A B r s (own_calls me ls) a b x y
+  pub lines_all : {A B : Known → List (Hosted C) → Audience → Type 0} (r s : Running C) (me i : ℕ) (ls : List Line) (a b : Option (List LinkCall)) (x y : Option (List ℕ)) → length ls ≤ i → CallsAs A B r s (own_calls me (take i ls)) a b x y → CallsAs A B r s (own_calls me ls) a b x y
   lines_all {A = A} {B = B} r s me i ls a b x y le p = subst (λ ks. CallsAs A B r s (own_calls me ks) a b x y) (all_taken i ls le) p
 
   -- ---- from the start on
@@ -179,7 +181,7 @@ module _ {C : Type 0} where
 
   -- ---- it begins
 
-  pub begins_done : {A B : List C → Audience → Type 0} (remote : Bool) (script : Script) (me inc moment : ℕ) (s t : Running C) (a b c : Option (List LinkCall)) (x y z : Option (List ℕ)) → Settles None (fresh_running remote script.config me inc moment) s a b x y → CallsAs A B s t (own_calls me script.lines) b c y z
+  pub begins_done : {A B : Known → List (Hosted C) → Audience → Type 0} (remote : Bool) (script : Script) (me inc moment : ℕ) (s t : Running C) (a b c : Option (List LinkCall)) (x y z : Option (List ℕ)) → Settles None (fresh_running remote script.config me inc moment) s a b x y → CallsAs A B s t (own_calls me script.lines) b c y z
       → BeginsAs A B remote script me inc moment t a c x z
   begins_done {A = A} {B = B} remote script me inc moment s t a b c x y z h q =
       let first : Reached (begun_for remote script.config me inc moment) s a b x y = reached_first remote script.config me inc moment s a b x y h in
@@ -187,12 +189,12 @@ module _ {C : Type 0} where
         opening = q.opening;
         are = q.are;
         reached = reached_on (begun_for remote script.config me inc moment) s t (λ d. opened_all d q.opening) a b c x y z first q.goes;
-        attends = λ u k.
+        attends = λ u.
             let d : Daemon = begun_for remote script.config me inc moment in
-            let t : (v : Audience) × OpeningHands (daemon_of s d.calls d.records) q.opening u v × B t.node.clients v = q.attends d.calls d.records u (subst (λ (r : Running C). A r.node.clients u) (sym h.is) k) in (
+            let t : (v : Audience) × OpeningHands (daemon_of s d.calls d.records) q.opening u v × Passes A B s.node.clients t.node.clients u v = q.attends d.calls d.records u in (
               t.0,
               subst (λ (e : Daemon). OpeningHands e q.opening u t.0) (sym first.is) t.1,
-              t.2,
+              λ known held. t.2 known (subst (λ (r : Running C). A known r.node.clients u) (sym h.is) held),
             );
       }
 

@@ -11,11 +11,13 @@ use Rattle.world_model.specs.declared.script.Script.{Script}
 use Rattle.daemon_model.specs.Sent.{Went, WentFront}
 use Rattle.daemon_model.specs.Daemon.{Daemon, Life, Turn, begun_for, opened_all, turned_all, lived, turn_moments}
 use Rattle.daemon_model.specs.Lives.{GoesOn, Lived, ServesAs, ServesTo, ServesFront, most_failed}
+use Rattle.daemon_run.specs.declared.hosted.Hosted.{Hosted}
 use Rattle.daemon_run.specs.declared.running.Running.{Running}
-use Rattle.daemon_run.specs.Doing.{daemon_of}
+use Rattle.daemon_run.specs.Hosting.{Known}
+use Rattle.daemon_run.specs.Doing.{daemon_of, Passes}
 use Rattle.daemon_run.specs.Calling.{Reached, BeginsAs, BeginBreaks}
 use Rattle.daemon_run.specs.Ends.{NothingDone, Opens, HandsOver}
-use Rattle.daemon_run.specs.Audience.{Audience, audience_of, OpeningHands, TurnsHand, Attend, AttendWith}
+use Rattle.daemon_run.specs.Audience.{Audience, no_audience, OpeningHands, TurnsHand, Attend, AttendWith}
 use Rattle.hags_io.specs.Links.{Same, Tells, was_opened}
 use Rattle.daemon_run.specs.Serving.{TurnsDone, TurnsEnded, TurnsBroken}
 use Rattle.daemon_run.proofs.ServeLaws.{counts_on}
@@ -31,7 +33,7 @@ serves_none remote script me inc moment turns a b x y u v at h = record {
 }
 
 module _ {C : Type 0} where
-  pub lived_as : {A B : List C → Audience → Type 0} (remote : Bool) (script : Script) (me inc moment : ℕ) (s t : Running C) (turns : List Turn) (a b c : Option (List LinkCall)) (x y z u v w : Option (List ℕ)) → Counts u v (moment ∷ []) → (h : BeginsAs A B remote script me inc moment s a b x y)
+  pub lived_as : {A B : Known → List (Hosted C) → Audience → Type 0} (remote : Bool) (script : Script) (me inc moment : ℕ) (s t : Running C) (turns : List Turn) (a b c : Option (List LinkCall)) (x y z u v w : Option (List ℕ)) → Counts u v (moment ∷ []) → (h : BeginsAs A B remote script me inc moment s a b x y)
       → Reached (turned_all (opened_all (begun_for remote script.config me inc moment) h.opening) turns) t a c x z → Counts v w (turn_moments turns)
       → Lived script me inc remote (record { remote = remote; start = moment; opening = h.opening; turns = turns }) a c x z u w
   unfolding lived
@@ -43,7 +45,7 @@ module _ {C : Type 0} where
     written = r.written;
   }
 
-  unfoldable pub serves_all : {A B D : List C → Audience → Type 0} (remote : Bool) (script : Script) (me inc moment count : ℕ) (s t : Running C) (a b c : Option (List LinkCall)) (x y z u v w : Option (List ℕ)) → Counts u v (moment ∷ []) → BeginsAs A B remote script me inc moment s a b x y → TurnsDone D s t count b c y z v w
+  unfoldable pub serves_all : {A B D : Known → List (Hosted C) → Audience → Type 0} (remote : Bool) (script : Script) (me inc moment count : ℕ) (s t : Running C) (a b c : Option (List LinkCall)) (x y z u v w : Option (List ℕ)) → Counts u v (moment ∷ []) → BeginsAs A B remote script me inc moment s a b x y → TurnsDone D s t count b c y z v w
       → ServesAs script me inc remote count (at_work t.node.core) a c x z u w
   unfolding lived
   serves_all remote script me inc moment count s t a b c x y z u v w at h q =
@@ -58,26 +60,30 @@ module _ {C : Type 0} where
       }
 
   -- and what it handed to its clients
-  pub hands_over : {P Q : List (List Handed) → Type 0} {R : C → List Handed → Type 0} {votes : C → Option (List (Option VoteItem))} (remote : Bool) (script : Script) (me inc moment count : ℕ) (s t : Running C) (a b c : Option (List LinkCall)) (x y z u v w : Option (List ℕ)) → Counts u v (moment ∷ [])
+  pub hands_over : {P Q : Known → Type 0} {R : C → List Handed → Type 0} {votes : C → Option (List (Option VoteItem))} (remote : Bool) (script : Script) (me inc moment count : ℕ) (s t : Running C) (a b c : Option (List LinkCall)) (x y z u v w : Option (List ℕ)) → Counts u v (moment ∷ [])
       → BeginsAs (AttendWith P R votes) (AttendWith Q R votes) remote script me inc moment s a b x y → TurnsDone (Attend R votes) s t count b c y z v w → HandsOver P R votes script me inc remote count t.node a c x z u w
   unfolding lived serves_all
   hands_over {P = P} {Q = Q} {R = R} {votes = votes} remote script me inc moment count s t a b c x y z u v w at h q = record {
     serves = serves_all remote script me inc moment count s t a b c x y z u v w at h q;
-    hands = λ lists held.
-        let d : Daemon = opened_all (begun_for remote script.config me inc moment) h.opening in
-        let first : (m : Audience) × OpeningHands (begun_for remote script.config me inc moment) h.opening (audience_of lists) m × AttendWith Q R votes s.node.clients m = h.attends (audience_of lists) (attends_first lists held) in
-        let next : (n : Audience) × TurnsHand (daemon_of s d.calls d.records) q.turns first.0 n × Attend R votes t.node.clients n = q.attends d.calls d.records first.0 first.2.attend in (
-          next.0,
-          (first.0, first.1, subst (λ (e : Daemon). TurnsHand e q.turns first.0 next.0) (sym h.reached.is) next.1),
-          next.2,
-        );
+    last = next.0;
+    hands = (first.0, first.1, subst (λ (e : Daemon). TurnsHand e q.turns first.0 next.0) (sym h.reached.is) next.1);
+    stand = λ known held. next.2 known (first.2 known (attends_first known held)).attend;
   }
     where
-      -- no session, and the objects as they were handed in
-      attends_first : (lists : List (List Handed)) → P lists → AttendWith P R votes [] (audience_of lists)
-      attends_first lists held = record { left = held; attend = record { stand = record { stand = tt; logs = tt }; even = refl; boxed = refl } }
+      d : Daemon
+      d = opened_all (begun_for remote script.config me inc moment) h.opening
 
-  pub serves_to : {A B : List C → Audience → Type 0} (remote : Bool) (script : Script) (me inc moment count : ℕ) (s t : Running C) (a b c : Option (List LinkCall)) (x y z u v w : Option (List ℕ)) → Counts u v (moment ∷ []) → BeginsAs A B remote script me inc moment s a b x y → TurnsEnded s t count b c y z v w
+      first : (m : Audience) × OpeningHands (begun_for remote script.config me inc moment) h.opening no_audience m × Passes (AttendWith P R votes) (AttendWith Q R votes) [] s.node.clients no_audience m
+      first = h.attends no_audience
+
+      next : (n : Audience) × TurnsHand (daemon_of s d.calls d.records) q.turns first.0 n × Passes (Attend R votes) (Attend R votes) s.node.clients t.node.clients first.0 n
+      next = q.attends d.calls d.records first.0
+
+      -- no session, and the objects as they were handed in
+      attends_first : (known : Known) → P known → AttendWith P R votes known [] no_audience
+      attends_first known held = record { left = held; attend = record { stand = tt; even = refl; logs = tt; boxed = refl } }
+
+  pub serves_to : {A B : Known → List (Hosted C) → Audience → Type 0} (remote : Bool) (script : Script) (me inc moment count : ℕ) (s t : Running C) (a b c : Option (List LinkCall)) (x y z u v w : Option (List ℕ)) → Counts u v (moment ∷ []) → BeginsAs A B remote script me inc moment s a b x y → TurnsEnded s t count b c y z v w
       → ServesTo script me inc remote count a c x z u w
   unfolding lived
   serves_to remote script me inc moment count s t a b c x y z u v w at h q =
@@ -90,7 +96,7 @@ module _ {C : Type 0} where
         ended = subst (λ (n : ℕ). most_failed ≤ n) (sym (ap (λ (e : Daemon). e.failed) r.is)) q.ended;
       }
 
-  pub serves_front : {A B : List C → Audience → Type 0} (remote : Bool) (script : Script) (me inc moment count : ℕ) (s : Running C) (a b c : Option (List LinkCall)) (x y z u v w : Option (List ℕ)) → Counts u v (moment ∷ []) → BeginsAs A B remote script me inc moment s a b x y → TurnsBroken s count b c y z v w
+  pub serves_front : {A B : Known → List (Hosted C) → Audience → Type 0} (remote : Bool) (script : Script) (me inc moment count : ℕ) (s : Running C) (a b c : Option (List LinkCall)) (x y z u v w : Option (List ℕ)) → Counts u v (moment ∷ []) → BeginsAs A B remote script me inc moment s a b x y → TurnsBroken s count b c y z v w
       → ServesFront script me inc remote count a c x z u w
   unfolding lived
   serves_front remote script me inc moment count s a b c x y z u v w at h q =
@@ -150,11 +156,11 @@ unfoldable pub serves_all_before : (remote : Bool) (script : Script) (me inc tur
 serves_all_before remote script me inc turns core a q b x y u v h p =
     record { life = p.life; lived = lived_before remote script me inc p.life a q b x y u v h p.lived; so_many = p.so_many; goes_on = p.goes_on; core_is = p.core_is }
 
-pub hands_over_before : {C : Type 0} {P : List (List Handed) → Type 0} {R : C → List Handed → Type 0} {votes : C → Option (List (Option VoteItem))} (remote : Bool) (script : Script) (me inc turns : ℕ) (node : NodeView C) (a q b : Option (List LinkCall)) (x y u v : Option (List ℕ)) → Same a q
+pub hands_over_before : {C : Type 0} {P : Known → Type 0} {R : C → List Handed → Type 0} {votes : C → Option (List (Option VoteItem))} (remote : Bool) (script : Script) (me inc turns : ℕ) (node : NodeView (Hosted C)) (a q b : Option (List LinkCall)) (x y u v : Option (List ℕ)) → Same a q
     → HandsOver P R votes script me inc remote turns node q b x y u v → HandsOver P R votes script me inc remote turns node a b x y u v
 unfolding serves_all_before
 hands_over_before remote script me inc turns node a q b x y u v h p =
-    record { serves = serves_all_before remote script me inc turns (at_work node.core) a q b x y u v h p.serves; hands = p.hands }
+    record { serves = serves_all_before remote script me inc turns (at_work node.core) a q b x y u v h p.serves; last = p.last; hands = p.hands; stand = p.stand }
 
 pub serves_to_before : (remote : Bool) (script : Script) (me inc turns : ℕ) (a q b : Option (List LinkCall)) (x y u v : Option (List ℕ)) → Same a q → ServesTo script me inc remote turns q b x y u v → ServesTo script me inc remote turns a b x y u v
 serves_to_before remote script me inc turns a q b x y u v h p =

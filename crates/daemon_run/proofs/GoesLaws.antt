@@ -11,9 +11,11 @@ use Rattle.node_state.specs.declared.happened.Happened.{Happened}
 use Rattle.world_model.specs.Text.{line_of}
 use Rattle.daemon_model.specs.Sent.{Went, WentFront}
 use Rattle.daemon_model.specs.Daemon.{Daemon, records_text}
+use Rattle.daemon_run.specs.Hosting.{Known}
+use Rattle.daemon_run.specs.declared.hosted.Hosted.{Hosted}
 use Rattle.daemon_run.specs.declared.running.Running.{Running}
 use Rattle.daemon_run.specs.Audience.{Audience}
-use Rattle.daemon_run.specs.Doing.{daemon_of, Goes, Broke, Breaks, Attends}
+use Rattle.daemon_run.specs.Doing.{daemon_of, Goes, Broke, Breaks, Passes, Attends}
 use Rattle.daemon_run.proofs.WentLaws.{went_nothing, went_on, went_front_on, went_front_more}
 
 -- ---- lines
@@ -147,14 +149,14 @@ module _ {C : Type 0} where
   -- ---- what they hand
 
   -- in one part and in the next
-  pub attends_on : (A B D : List C → Audience → Type 0) (r s t : Running C) (a b : Option (List LinkCall)) (x y : Option (List ℕ)) (f : Daemon → Daemon) (H K : Daemon → Audience → Audience → Type 0) → Goes r s a b x y f
+  pub attends_on : (A B D : Known → List (Hosted C) → Audience → Type 0) (r s t : Running C) (a b : Option (List LinkCall)) (x y : Option (List ℕ)) (f : Daemon → Daemon) (H K : Daemon → Audience → Audience → Type 0) → Goes r s a b x y f
       → Attends A B r s H → Attends B D s t K → Attends A D r t (λ d u w. (v : Audience) × H d u v × K (f d) v w)
-  attends_on A B D r s t a b x y f H K p h k before noted u q =
-      let one : (v : Audience) × H (daemon_of r before noted) u v × B s.node.clients v = h before noted u q in
-      let next : (w : Audience) × K (daemon_of s (before ++ p.calls) (noted ++ p.records)) one.0 w × D t.node.clients w = k (before ++ p.calls) (noted ++ p.records) one.0 one.2 in (
+  attends_on A B D r s t a b x y f H K p h k before noted u =
+      let one : (v : Audience) × H (daemon_of r before noted) u v × Passes A B r.node.clients s.node.clients u v = h before noted u in
+      let next : (w : Audience) × K (daemon_of s (before ++ p.calls) (noted ++ p.records)) one.0 w × Passes B D s.node.clients t.node.clients one.0 w = k (before ++ p.calls) (noted ++ p.records) one.0 in (
         next.0,
         (one.0, one.1, subst (λ (d : Daemon). K d one.0 next.0) (sym (p.is before noted)) next.1),
-        next.2,
+        λ known held. next.2 known (one.2 known held),
       )
 
   -- ---- parts that broke off

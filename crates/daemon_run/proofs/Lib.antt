@@ -1,6 +1,7 @@
 pub mod KeepLaws
 pub mod WentLaws
 pub mod GoesLaws
+pub mod HostLaws
 pub mod AudienceLaws
 pub mod NodeLaws
 pub mod StepLaws

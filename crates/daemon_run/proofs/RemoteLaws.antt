@@ -14,9 +14,11 @@ use Rattle.remote_clients.specs.declared.sessions.Sessions.{Sessions}
 use Rattle.remote_clients.specs.Sessions.{is_refused, finished, turned_down}
 use Rattle.daemon_model.specs.Sent.{message_calls}
 use Rattle.daemon_model.specs.Daemon.{Daemon, left_for, stepped_for, stepped_by, given, up_in, with_up, call_in, key_called, line_carried, called_by, down_in, down_sent, brought, given_on}
+use Rattle.daemon_run.specs.Hosting.{Known}
+use Rattle.daemon_run.specs.declared.hosted.Hosted.{Hosted}
 use Rattle.daemon_run.specs.declared.running.Running.{Running}
 use Rattle.daemon_run.specs.Audience.{Audience, StepHands, LineHands, BroughtHands, GivenHands}
-use Rattle.daemon_run.specs.Doing.{daemon_of, Goes, Breaks, Attends, StepsAs, StepBreaks, is_up_taken, CallsKey, CallKeyBreaks, GivesAs, GiveBreaks, KeySteps, Sends, SendsFront}
+use Rattle.daemon_run.specs.Doing.{daemon_of, Goes, Breaks, Passes, Attends, StepsAs, StepBreaks, is_up_taken, CallsKey, CallKeyBreaks, GivesAs, GiveBreaks, KeySteps, Sends, SendsFront}
 use Rattle.daemon_run.proofs.WentLaws.{none_went}
 use Rattle.daemon_run.proofs.GoesLaws.{Adds, attends_on, adds_none, adds_on, goes_none, goes_on, goes_as, breaks_as, breaks_on, breaks_more, breaks_none, nothing_written, none_front}
 use Rattle.daemon_run.proofs.StepLaws.{silent, adds_left, adds_step}
@@ -102,14 +104,14 @@ module _ {C : Type 0} where
   -- ---- the line of a key
 
   -- it is refused without a step
-  pub line_refused : {A : List C → Audience → Type 0} (r s : Running C) (key : ℕ) (line : List ℕ) (a : Option (List LinkCall)) (x : Option (List ℕ)) → None ≡ call_in r.sessions r.me key line → s ≡ with_sessions r (option_map (turned_down key) r.sessions)
+  pub line_refused : {A : Known → List (Hosted C) → Audience → Type 0} (r s : Running C) (key : ℕ) (line : List ℕ) (a : Option (List LinkCall)) (x : Option (List ℕ)) → None ≡ call_in r.sessions r.me key line → s ≡ with_sessions r (option_map (turned_down key) r.sessions)
       → CallsKey A r s a a x x key line
   unfolding called_by
   line_refused {A = A} r s key line a x none is = record {
     answers = silent;
     goes = goes_as r s s a a x x (called_by key line silent) (λ d. d)
         (λ before noted. ap (λ (o : Option CallLine). line_carried key o silent (daemon_of r before noted)) (sym none) ∙ ap (λ (t : Running C). daemon_of t before noted) (sym is)) (goes_none s a x);
-    attends = λ before noted u k. (u, subst (λ (o : Option CallLine). LineHands o silent (at_work r.node.core) u u) none refl, subst (λ (t : Running C). A t.node.clients u) (sym is) k);
+    attends = λ before noted u. (u, subst (λ (o : Option CallLine). LineHands o silent (at_work r.node.core) u u) none refl, λ known held. subst (λ (t : Running C). A known t.node.clients u) (sym is) held);
   }
 
   line_is : (r : Running C) (key : ℕ) (line : List ℕ) (c : CallLine) (refused : Bool) (f : Answering) → Some c ≡ call_in r.sessions r.me key line → refused ≡ is_refused (stepped f (at_work r.node.core) (Calls c)).records → (before : List LinkCall) (noted : List Happened)
@@ -120,7 +122,7 @@ module _ {C : Type 0} where
       let one : called_by key line f d ≡ key_called key c (stepped f d.core (Calls c)) d = ap (λ (o : Option CallLine). line_carried key o f d) (sym some) in
       one ∙ ap (λ (t : Bool). with_finished key c t (left_for (Some key) d (stepped f d.core (Calls c)))) (sym is)
 
-  pub line_done : {A : List C → Audience → Type 0} (r q s : Running C) (key : ℕ) (line : List ℕ) (c : CallLine) (refused : Bool) (a b : Option (List LinkCall)) (x y : Option (List ℕ)) → Some c ≡ call_in r.sessions r.me key line → KeySteps A r q refused a b x y key c
+  pub line_done : {A : Known → List (Hosted C) → Audience → Type 0} (r q s : Running C) (key : ℕ) (line : List ℕ) (c : CallLine) (refused : Bool) (a b : Option (List LinkCall)) (x y : Option (List ℕ)) → Some c ≡ call_in r.sessions r.me key line → KeySteps A r q refused a b x y key c
       → s ≡ with_sessions q (option_map (finished key c (not refused)) q.sessions) → CallsKey A r s a b x y key line
   line_done {A = A} r q s key line c refused a b x y some h is =
       let last : Goes q s b b y y (with_finished key c refused) = goes_as q s s b b y y (with_finished key c refused) (λ d. d) (λ before noted. ap (λ (t : Running C). daemon_of t before noted) (sym is)) (goes_none s b y) in
@@ -128,11 +130,11 @@ module _ {C : Type 0} where
         answers = h.answers;
         goes = goes_as r r s a b x y (called_by key line h.answers) (λ d. with_finished key c refused (stepped_for (Some key) h.answers (Calls c) d)) (line_is r key line c refused h.answers some h.was)
             (goes_on r q s a b b x y y (stepped_for (Some key) h.answers (Calls c)) (with_finished key c refused) h.goes last);
-        attends = λ before noted u k.
-            let t : (v : Audience) × StepHands h.answers (Calls c) (at_work r.node.core) u v × A q.node.clients v = h.attends before noted u k in (
+        attends = λ before noted u.
+            let t : (v : Audience) × StepHands h.answers (Calls c) (at_work r.node.core) u v × Passes A A r.node.clients q.node.clients u v = h.attends before noted u in (
               t.0,
               subst (λ (o : Option CallLine). LineHands o h.answers (at_work r.node.core) u t.0) some t.1,
-              subst (λ (z : Running C). A z.node.clients t.0) (sym is) t.2,
+              λ known held. subst (λ (z : Running C). A known z.node.clients t.0) (sym is) (t.2 known held),
             );
       }
 
@@ -145,7 +147,7 @@ module _ {C : Type 0} where
   }
 
   -- after its step there was no memory
-  pub line_late : {A : List C → Audience → Type 0} (r q : Running C) (key : ℕ) (line : List ℕ) (c : CallLine) (refused : Bool) (a b : Option (List LinkCall)) (x y : Option (List ℕ)) → Some c ≡ call_in r.sessions r.me key line → KeySteps A r q refused a b x y key c
+  pub line_late : {A : Known → List (Hosted C) → Audience → Type 0} (r q : Running C) (key : ℕ) (line : List ℕ) (c : CallLine) (refused : Bool) (a b : Option (List LinkCall)) (x y : Option (List ℕ)) → Some c ≡ call_in r.sessions r.me key line → KeySteps A r q refused a b x y key c
       → CallKeyBreaks r a b x y key line
   line_late r q key line c refused a b x y some h = record {
     answers = h.answers;
@@ -188,13 +190,13 @@ module _ {C : Type 0} where
   unfolding given_on
   brought_is r u network message f is before noted = ap (λ (v : SeenUp). brought v network message f (daemon_of r before noted)) (sym is)
 
-  hands_as : (A : List C → Audience → Type 0) (r s : Running C) (u : SeenUp) (message : List ℕ) (f : Answering) → u ≡ up_in r.sessions message → Attends A A r s (BroughtHands u message f) → Attends A A r s (GivenHands (Some message) f)
-  hands_as A r s u message f is h before noted z k =
-      let t : (v : Audience) × BroughtHands u message f (daemon_of r before noted) z v × A s.node.clients v = h before noted z k in
+  hands_as : (A : Known → List (Hosted C) → Audience → Type 0) (r s : Running C) (u : SeenUp) (message : List ℕ) (f : Answering) → u ≡ up_in r.sessions message → Attends A A r s (BroughtHands u message f) → Attends A A r s (GivenHands (Some message) f)
+  hands_as A r s u message f is h before noted z =
+      let t : (v : Audience) × BroughtHands u message f (daemon_of r before noted) z v × Passes A A r.node.clients s.node.clients z v = h before noted z in
       (t.0, subst (λ (w : SeenUp). BroughtHands w message f (daemon_of r before noted) z t.0) is t.1, t.2)
 
   -- one for the node
-  pub give_done : {A : List C → Audience → Type 0} (r q s : Running C) (network : ℕ) (message : List ℕ) (a b : Option (List LinkCall)) (x y : Option (List ℕ)) → NotUp ≡ up_in r.sessions message → q ≡ is_up_taken r message → StepsAs A A None q s a b x y (event_of message) → GivesAs A r s a b x y network (Some message)
+  pub give_done : {A : Known → List (Hosted C) → Audience → Type 0} (r q s : Running C) (network : ℕ) (message : List ℕ) (a b : Option (List LinkCall)) (x y : Option (List ℕ)) → NotUp ≡ up_in r.sessions message → q ≡ is_up_taken r message → StepsAs A A None q s a b x y (event_of message) → GivesAs A r s a b x y network (Some message)
   unfolding brought given
   give_done {A = A} r q s network message a b x y is taken g =
       let h : StepsAs A A None r s a b x y (event_of message) = subst (λ (t : Running C). StepsAs A A None t s a b x y (event_of message)) (taken ∙ not_taken r message is) g in record {
@@ -227,20 +229,20 @@ module _ {C : Type 0} where
         (breaks_on r (is_up_taken r message) a a b x x x (with_up message) (down_sent key network) (up_goes r message a x) (down_breaks (is_up_taken r message) key network a b x h));
   }
 
-  pub known_done : {A : List C → Audience → Type 0} (r s : Running C) (key network : ℕ) (message : List ℕ) (a b : Option (List LinkCall)) (x : Option (List ℕ)) → KnownKey key ≡ up_in r.sessions message → Sends (is_up_taken r message) s a b network (down_in (is_up_taken r message).sessions key)
+  pub known_done : {A : Known → List (Hosted C) → Audience → Type 0} (r s : Running C) (key network : ℕ) (message : List ℕ) (a b : Option (List LinkCall)) (x : Option (List ℕ)) → KnownKey key ≡ up_in r.sessions message → Sends (is_up_taken r message) s a b network (down_in (is_up_taken r message).sessions key)
       → GivesAs A r s a b x x network (Some message)
   known_done {A = A} r s key network message a b x is h = record {
     answers = silent;
     goes = only_goes r s (KnownKey key) key network message a b x (known_only key) is h;
-    attends = hands_as A r s (KnownKey key) message silent is (λ before noted u k. (u, refl, subst (λ (t : Running C). A t.node.clients u) (sym h.is) k));
+    attends = hands_as A r s (KnownKey key) message silent is (λ before noted u. (u, refl, λ known held. subst (λ (t : Running C). A known t.node.clients u) (sym h.is) held));
   }
 
-  pub full_done : {A : List C → Audience → Type 0} (r s : Running C) (key limit network : ℕ) (message : List ℕ) (a b : Option (List LinkCall)) (x : Option (List ℕ)) → KeysFull key limit ≡ up_in r.sessions message → Sends (is_up_taken r message) s a b network (down_in (is_up_taken r message).sessions key)
+  pub full_done : {A : Known → List (Hosted C) → Audience → Type 0} (r s : Running C) (key limit network : ℕ) (message : List ℕ) (a b : Option (List LinkCall)) (x : Option (List ℕ)) → KeysFull key limit ≡ up_in r.sessions message → Sends (is_up_taken r message) s a b network (down_in (is_up_taken r message).sessions key)
       → GivesAs A r s a b x x network (Some message)
   full_done {A = A} r s key limit network message a b x is h = record {
     answers = silent;
     goes = only_goes r s (KeysFull key limit) key network message a b x (full_only key limit) is h;
-    attends = hands_as A r s (KeysFull key limit) message silent is (λ before noted u k. (u, refl, subst (λ (t : Running C). A t.node.clients u) (sym h.is) k));
+    attends = hands_as A r s (KeysFull key limit) message silent is (λ before noted u. (u, refl, λ known held. subst (λ (t : Running C). A known t.node.clients u) (sym h.is) held));
   }
 
   pub known_broke : (r : Running C) (key network : ℕ) (message : List ℕ) (a b : Option (List LinkCall)) (x : Option (List ℕ)) → KnownKey key ≡ up_in r.sessions message → SendsFront (is_up_taken r message) a b network (down_in (is_up_taken r message).sessions key) → GiveBreaks r a b x x network (Some message)
@@ -256,7 +258,7 @@ module _ {C : Type 0} where
   unfolding brought
   call_is r key network line message f is before noted = brought_is r (CallMade key line) network message f is before noted
 
-  pub call_done : {A : List C → Audience → Type 0} (r t s : Running C) (key network : ℕ) (line message : List ℕ) (a b c : Option (List LinkCall)) (x y : Option (List ℕ)) → CallMade key line ≡ up_in r.sessions message → CallsKey A (is_up_taken r message) t a b x y key line
+  pub call_done : {A : Known → List (Hosted C) → Audience → Type 0} (r t s : Running C) (key network : ℕ) (line message : List ℕ) (a b c : Option (List LinkCall)) (x y : Option (List ℕ)) → CallMade key line ≡ up_in r.sessions message → CallsKey A (is_up_taken r message) t a b x y key line
       → Sends t s b c network (down_in t.sessions key) → GivesAs A r s a c x y network (Some message)
   call_done {A = A} r t s key network line message a b c x y is h g = record {
     answers = h.answers;
@@ -264,9 +266,9 @@ module _ {C : Type 0} where
         (goes_on r t s a b c x y y (λ d. called_by key line h.answers (with_up message d)) (down_sent key network)
         (goes_on r (is_up_taken r message) t a a b x x y (with_up message) (called_by key line h.answers) (up_goes r message a x) h.goes) (down_goes t s key network b c y g));
     attends = hands_as A r s (CallMade key line) message h.answers is
-        (λ before noted u k.
-        let v : (w : Audience) × LineHands (call_in (is_up_taken r message).sessions r.me key line) h.answers (at_work r.node.core) u w × A t.node.clients w = h.attends before noted u k in
-        (v.0, v.1, subst (λ (z : Running C). A z.node.clients v.0) (sym g.is) v.2));
+        (λ before noted u.
+        let v : (w : Audience) × LineHands (call_in (is_up_taken r message).sessions r.me key line) h.answers (at_work r.node.core) u w × Passes A A r.node.clients t.node.clients u w = h.attends before noted u in
+        (v.0, v.1, λ known held. subst (λ (z : Running C). A known z.node.clients v.0) (sym g.is) (v.2 known held)));
   }
 
   pub call_broke_off : (r : Running C) (key network : ℕ) (line message : List ℕ) (a b : Option (List LinkCall)) (x y : Option (List ℕ)) → CallMade key line ≡ up_in r.sessions message → CallKeyBreaks (is_up_taken r message) a b x y key line → GiveBreaks r a b x y network (Some message)
@@ -276,7 +278,7 @@ module _ {C : Type 0} where
         (breaks_more r a b x y (λ d. called_by key line h.answers (with_up message d)) (down_sent key network) (breaks_on r (is_up_taken r message) a a b x x y (with_up message) (called_by key line h.answers) (up_goes r message a x) h.breaks) (adds_down key network));
   }
 
-  pub down_broke : {A : List C → Audience → Type 0} (r t : Running C) (key network : ℕ) (line message : List ℕ) (a b c : Option (List LinkCall)) (x y : Option (List ℕ)) → CallMade key line ≡ up_in r.sessions message → CallsKey A (is_up_taken r message) t a b x y key line
+  pub down_broke : {A : Known → List (Hosted C) → Audience → Type 0} (r t : Running C) (key network : ℕ) (line message : List ℕ) (a b c : Option (List LinkCall)) (x y : Option (List ℕ)) → CallMade key line ≡ up_in r.sessions message → CallsKey A (is_up_taken r message) t a b x y key line
       → SendsFront t b c network (down_in t.sessions key) → GiveBreaks r a c x y network (Some message)
   down_broke r t key network line message a b c x y is h g = record {
     answers = h.answers;

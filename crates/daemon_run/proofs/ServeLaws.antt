@@ -5,9 +5,11 @@ use Rattle.hags_io.specs.declared.link.LinkCall.{LinkCall}
 use Rattle.hags_io.specs.Links.{Counts}
 use Rattle.daemon_model.specs.Daemon.{Daemon, Turn, turned, turned_all, turn_moments}
 use Rattle.daemon_model.specs.Lives.{most_failed, GoesOn}
+use Rattle.daemon_run.specs.Hosting.{Known}
+use Rattle.daemon_run.specs.declared.hosted.Hosted.{Hosted}
 use Rattle.daemon_run.specs.declared.running.Running.{Running}
 use Rattle.daemon_run.specs.Audience.{Audience, TurnHands, TurnsHand}
-use Rattle.daemon_run.specs.Doing.{daemon_of, Goes, Attends, TurnsAs, TurnBreaks}
+use Rattle.daemon_run.specs.Doing.{daemon_of, Goes, Passes, Attends, TurnsAs, TurnBreaks}
 use Rattle.daemon_run.specs.Serving.{Turned, TurnsDone, TurnsEnded, TurnsBroken}
 use Rattle.daemon_run.proofs.WentLaws.{none_went}
 use Rattle.daemon_run.proofs.GoesLaws.{attends_on, adds_none, goes_none, goes_on, goes_as, breaks_as, breaks_on, breaks_none}
@@ -54,27 +56,27 @@ module _ {C : Type 0} where
   unfolding turned_all
   nothing_turned r a x = goes_as r r r a a x x (λ d. turned_all d []) (λ d. d) (λ before noted. refl) (goes_none r a x)
 
-  turned_on : {A : List C → Audience → Type 0} (r s t : Running C) (ts : List Turn) (a b c : Option (List LinkCall)) (x y z u v w : Option (List ℕ)) → Turned r s ts a b x y u v → (q : TurnsAs A s t b c y z v w) → Turned r t (ts ++ q.turn ∷ []) a c x z u w
+  turned_on : {A : Known → List (Hosted C) → Audience → Type 0} (r s t : Running C) (ts : List Turn) (a b c : Option (List LinkCall)) (x y z u v w : Option (List ℕ)) → Turned r s ts a b x y u v → (q : TurnsAs A s t b c y z v w) → Turned r t (ts ++ q.turn ∷ []) a c x z u w
   turned_on r s t ts a b c x y z u v w p q = record {
     moments = moments_last u v w ts q.turn p.moments q.moments;
     goes = goes_as r r t a c x z (λ d. turned_all d (ts ++ q.turn ∷ [])) (λ d. turned (turned_all d ts) q.turn) (λ before noted. turned_last (daemon_of r before noted) ts q.turn)
         (goes_on r s t a b c x y z (λ d. turned_all d ts) (λ d. turned d q.turn) p.goes q.goes);
   }
 
-  attends_last : {A : List C → Audience → Type 0} (r s t : Running C) (ts : List Turn) (a b c : Option (List LinkCall)) (x y z v w : Option (List ℕ)) → Goes r s a b x y (λ d. turned_all d ts) → Attends A A r s (λ d. TurnsHand d ts) → (q : TurnsAs A s t b c y z v w)
+  attends_last : {A : Known → List (Hosted C) → Audience → Type 0} (r s t : Running C) (ts : List Turn) (a b c : Option (List LinkCall)) (x y z v w : Option (List ℕ)) → Goes r s a b x y (λ d. turned_all d ts) → Attends A A r s (λ d. TurnsHand d ts) → (q : TurnsAs A s t b c y z v w)
       → Attends A A r t (λ d. TurnsHand d (ts ++ q.turn ∷ []))
-  attends_last {A = A} r s t ts a b c x y z v w p h q before noted o k =
-      let both : (n : Audience) × ((m : Audience) × TurnsHand (daemon_of r before noted) ts o m × TurnHands (turned_all (daemon_of r before noted) ts) q.turn m n) × A t.node.clients n
-      = attends_on A A A r s t a b x y (λ d. turned_all d ts) (λ d. TurnsHand d ts) (λ d. TurnHands d q.turn) p h q.attends before noted o k in
+  attends_last {A = A} r s t ts a b c x y z v w p h q before noted o =
+      let both : (n : Audience) × ((m : Audience) × TurnsHand (daemon_of r before noted) ts o m × TurnHands (turned_all (daemon_of r before noted) ts) q.turn m n) × Passes A A r.node.clients t.node.clients o n
+      = attends_on A A A r s t a b x y (λ d. turned_all d ts) (λ d. TurnsHand d ts) (λ d. TurnHands d q.turn) p h q.attends before noted o in
       (both.0, hand_last (daemon_of r before noted) ts q.turn o both.1.0 both.0 both.1.1 both.1.2, both.2)
 
-  pub turns_none : {A : List C → Audience → Type 0} (r : Running C) (a : Option (List LinkCall)) (x u : Option (List ℕ)) → TurnsDone A r r 0 a a x x u u
+  pub turns_none : {A : Known → List (Hosted C) → Audience → Type 0} (r : Running C) (a : Option (List LinkCall)) (x u : Option (List ℕ)) → TurnsDone A r r 0 a a x x u u
   turns_none r a x u = record {
     turns = [];
     so_many = refl;
     done = record { moments = counts_none u; goes = nothing_turned r a x };
     goes_on = λ calls records. tt;
-    attends = λ before noted o k. (o, refl, k);
+    attends = λ before noted o. (o, refl, λ known held. held);
   }
 
   -- there was no memory for the first of them
@@ -87,7 +89,7 @@ module _ {C : Type 0} where
     breaks = breaks_none r a a x (λ d. turned_all d []) (none_went a) adds_none;
   }
 
-  pub turns_next : {A : List C → Audience → Type 0} (r s t : Running C) (i : ℕ) (a b c : Option (List LinkCall)) (x y z u v w : Option (List ℕ)) → TurnsDone A r s i a b x y u v → TurnsAs A s t b c y z v w → t.failed < most_failed → TurnsDone A r t (i + 1) a c x z u w
+  pub turns_next : {A : Known → List (Hosted C) → Audience → Type 0} (r s t : Running C) (i : ℕ) (a b c : Option (List LinkCall)) (x y z u v w : Option (List ℕ)) → TurnsDone A r s i a b x y u v → TurnsAs A s t b c y z v w → t.failed < most_failed → TurnsDone A r t (i + 1) a c x z u w
   turns_next r s t i a b c x y z u v w p q below =
       let done : Turned r t (p.turns ++ q.turn ∷ []) a c x z u w = turned_on r s t p.turns a b c x y z u v w p.done q in
       record {
@@ -99,7 +101,7 @@ module _ {C : Type 0} where
         attends = attends_last r s t p.turns a b c x y z v w p.done.goes p.attends q;
       }
 
-  pub turns_ended : {A : List C → Audience → Type 0} (r s t : Running C) (i count : ℕ) (a b c : Option (List LinkCall)) (x y z u v w : Option (List ℕ)) → i < count → TurnsDone A r s i a b x y u v → TurnsAs A s t b c y z v w → most_failed ≤ t.failed → TurnsEnded r t count a c x z u w
+  pub turns_ended : {A : Known → List (Hosted C) → Audience → Type 0} (r s t : Running C) (i count : ℕ) (a b c : Option (List LinkCall)) (x y z u v w : Option (List ℕ)) → i < count → TurnsDone A r s i a b x y u v → TurnsAs A s t b c y z v w → most_failed ≤ t.failed → TurnsEnded r t count a c x z u w
   turns_ended r s t i count a b c x y z u v w lt p q above =
       let so : length (p.turns ++ q.turn ∷ []) ≡ i + 1 = one_more p.turns q.turn i p.so_many in
       record {
@@ -109,7 +111,7 @@ module _ {C : Type 0} where
         ended = above;
       }
 
-  pub turns_broken : {A : List C → Audience → Type 0} (r s : Running C) (i count : ℕ) (a b c : Option (List LinkCall)) (x y z u v w : Option (List ℕ)) → i < count → TurnsDone A r s i a b x y u v → TurnBreaks s b c y z v w → TurnsBroken r count a c x z u w
+  pub turns_broken : {A : Known → List (Hosted C) → Audience → Type 0} (r s : Running C) (i count : ℕ) (a b c : Option (List LinkCall)) (x y z u v w : Option (List ℕ)) → i < count → TurnsDone A r s i a b x y u v → TurnBreaks s b c y z v w → TurnsBroken r count a c x z u w
   turns_broken r s i count a b c x y z u v w lt p q =
       let so : length (p.turns ++ q.turn ∷ []) ≡ i + 1 = one_more p.turns q.turn i p.so_many in
       record {
@@ -120,7 +122,7 @@ module _ {C : Type 0} where
             (breaks_on r s a b c x y z (λ d. turned_all d p.turns) (λ d. turned d q.turn) p.done.goes q.breaks);
       }
 
-  pub turns_all : {A : List C → Audience → Type 0} (r s : Running C) (i count : ℕ) (a b : Option (List LinkCall)) (x y u v : Option (List ℕ)) → i ≤ count → count ≤ i → TurnsDone A r s i a b x y u v → TurnsDone A r s count a b x y u v
+  pub turns_all : {A : Known → List (Hosted C) → Audience → Type 0} (r s : Running C) (i count : ℕ) (a b : Option (List LinkCall)) (x y u v : Option (List ℕ)) → i ≤ count → count ≤ i → TurnsDone A r s i a b x y u v → TurnsDone A r s count a b x y u v
   turns_all r s i count a b x y u v p q h =
       let e : i ≡ count = omega arith in
       record { turns = h.turns; so_many = h.so_many ∙ e; done = h.done; goes_on = h.goes_on; attends = h.attends }

@@ -10,9 +10,11 @@ use Rattle.remote_clients.specs.Sessions.{is_refused}
 use Rattle.node_core.specs.Node.{NodeView}
 use Rattle.daemon_model.specs.Sent.{sent_calls}
 use Rattle.daemon_model.specs.Daemon.{Daemon, left_for, stepped_for}
+use Rattle.daemon_run.specs.Hosting.{Known}
+use Rattle.daemon_run.specs.declared.hosted.Hosted.{Hosted}
 use Rattle.daemon_run.specs.declared.running.Running.{Running}
 use Rattle.daemon_run.specs.Audience.{Audience, StepHands}
-use Rattle.daemon_run.specs.Doing.{daemon_of, Goes, Broke, Breaks, Settles, SettlesFront, IsStep, StepsAs, StepBreaks, KeySteps}
+use Rattle.daemon_run.specs.Doing.{daemon_of, Passes, Goes, Broke, Breaks, Settles, SettlesFront, IsStep, StepsAs, StepBreaks, KeySteps}
 use Rattle.daemon_run.proofs.WentLaws.{none_went}
 use Rattle.daemon_run.proofs.GoesLaws.{Adds, breaks_none}
 use Rattle.daemon_run.proofs.NodeLaws.{from_work}
@@ -76,19 +78,19 @@ module _ {C : Type 0} (calling : Option ℕ) where
   }
 
   -- what the node did is sent and written
-  pub step_done : {A B : List C → Audience → Type 0} (r q s : Running C) (a b : Option (List LinkCall)) (x y : Option (List ℕ)) (e : NodeEvent) → IsStep A B r q e → Settles calling q s a b x y → StepsAs A B calling r s a b x y e
-  step_done {B = B} r q s a b x y e h g = record {
+  pub step_done : {A B : Known → List (Hosted C) → Audience → Type 0} (r q s : Running C) (a b : Option (List LinkCall)) (x y : Option (List ℕ)) (e : NodeEvent) → IsStep A B r q e → Settles calling q s a b x y → StepsAs A B calling r s a b x y e
+  step_done {A = A} {B = B} r q s a b x y e h g = record {
     answers = h.answers;
     goes = done_at r s q.node a b x y e h.answers h.core (subst (λ (t : Running C). Settles calling t s a b x y) h.is g);
-    attends = λ before noted u k.
-        let t : (v : Audience) × StepHands h.answers e (at_work r.node.core) u v × B q.node.clients v = h.attends u k in (
+    attends = λ before noted u.
+        let t : (v : Audience) × StepHands h.answers e (at_work r.node.core) u v × Passes A B r.node.clients q.node.clients u v = h.attends u in (
           t.0,
           t.1,
-          subst (λ (z : Running C). B z.node.clients t.0) (sym g.is) t.2,
+          λ known held. subst (λ (z : Running C). B known z.node.clients t.0) (sym g.is) (t.2 known held),
         );
   }
 
-  pub step_broke : {A B : List C → Audience → Type 0} (r q : Running C) (a b : Option (List LinkCall)) (x y : Option (List ℕ)) (e : NodeEvent) → IsStep A B r q e → SettlesFront q a b x y → StepBreaks calling r a b x y e
+  pub step_broke : {A B : Known → List (Hosted C) → Audience → Type 0} (r q : Running C) (a b : Option (List LinkCall)) (x y : Option (List ℕ)) (e : NodeEvent) → IsStep A B r q e → SettlesFront q a b x y → StepBreaks calling r a b x y e
   step_broke r q a b x y e h g = broke_at r q.node a b x y e h.answers h.core (subst (λ (t : Running C). SettlesFront t a b x y) h.is g)
 
   -- any answers will do where the node had no memory for its step
@@ -97,7 +99,7 @@ module _ {C : Type 0} (calling : Option ℕ) where
 
 -- what a call of a key did is sent and written, and comes to who is to hear it
 module _ {C : Type 0} where
-  pub key_step_done : {A : List C → Audience → Type 0} (r q s : Running C) (key : ℕ) (c : CallLine) (refused : Bool) (a b : Option (List LinkCall)) (x y : Option (List ℕ)) → IsStep A A r q (Calls c) → Settles (Some key) q s a b x y → refused ≡ is_refused q.node.core.records
+  pub key_step_done : {A : Known → List (Hosted C) → Audience → Type 0} (r q s : Running C) (key : ℕ) (c : CallLine) (refused : Bool) (a b : Option (List LinkCall)) (x y : Option (List ℕ)) → IsStep A A r q (Calls c) → Settles (Some key) q s a b x y → refused ≡ is_refused q.node.core.records
       → KeySteps A r s refused a b x y key c
   unfolding step_done
   key_step_done r q s key c refused a b x y h g is =

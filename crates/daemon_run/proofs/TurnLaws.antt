@@ -10,10 +10,12 @@ use Rattle.node_state.specs.HandOn.{Answering}
 use Rattle.node_state.specs.Step.{Ticks, at_work}
 use Rattle.daemon_model.specs.Sent.{as_sent}
 use Rattle.daemon_model.specs.Daemon.{Daemon, Turn, stepped_by, is_due, ticked_if, ticked, joined_by, received, up_in, given_on, network_of, heard, turned}
+use Rattle.daemon_run.specs.Hosting.{Known}
+use Rattle.daemon_run.specs.declared.hosted.Hosted.{Hosted}
 use Rattle.daemon_run.specs.declared.running.Running.{Running}
 use Rattle.remote_session.specs.Daemon.{SeenUp, NotUp, KeysFull, KnownKey, CallMade}
 use Rattle.daemon_run.specs.Audience.{Audience, StepHands, TickHands, BroughtHands, GivenHands, TakenHands, HeardHands}
-use Rattle.daemon_run.specs.Doing.{daemon_of, Goes, StepsAs, StepBreaks, TicksAs, TickBreaks, GivesAs, GiveBreaks, taken_in, TakesAs, TakeBreaks, HearsAs, HearBreaks, TurnsAs, TurnBreaks}
+use Rattle.daemon_run.specs.Doing.{daemon_of, Passes, Goes, StepsAs, StepBreaks, TicksAs, TickBreaks, GivesAs, GiveBreaks, taken_in, TakesAs, TakeBreaks, HearsAs, HearBreaks, TurnsAs, TurnBreaks}
 use Rattle.daemon_run.proofs.WentLaws.{same_went, none_went}
 use Rattle.daemon_run.proofs.GoesLaws.{Adds, attends_on, adds_none, adds_on, goes_none, goes_on, goes_as, breaks_as, breaks_on, breaks_more, breaks_none, nothing_written}
 use Rattle.daemon_run.proofs.StepLaws.{silent, adds_step}
@@ -72,12 +74,12 @@ module _ {C : Type 0} where
       → ticked moment f (daemon_of r before noted) ≡ stepped_by f Ticks (daemon_of (record r { last = moment }) before noted)
   tick_is r moment f le before noted = ap (λ q. ticked_if q moment f (daemon_of r before noted)) (due r.last moment le)
 
-  pub tick_done : {A : List C → Audience → Type 0} (r s : Running C) (moment : ℕ) (a b : Option (List LinkCall)) (x y : Option (List ℕ)) → 100 ≤ moment - r.last → StepsAs A A None (record r { last = moment }) s a b x y Ticks → TicksAs A r s a b x y moment
+  pub tick_done : {A : Known → List (Hosted C) → Audience → Type 0} (r s : Running C) (moment : ℕ) (a b : Option (List LinkCall)) (x y : Option (List ℕ)) → 100 ≤ moment - r.last → StepsAs A A None (record r { last = moment }) s a b x y Ticks → TicksAs A r s a b x y moment
   tick_done {A = A} r s moment a b x y le h = record {
     answers = h.answers;
     goes = goes_as r (record r { last = moment }) s a b x y (ticked moment h.answers) (stepped_by h.answers Ticks) (tick_is r moment h.answers le) h.goes;
-    attends = λ before noted u k.
-        let t : (v : Audience) × StepHands h.answers Ticks (at_work r.node.core) u v × A s.node.clients v = h.attends before noted u k in (
+    attends = λ before noted u.
+        let t : (v : Audience) × StepHands h.answers Ticks (at_work r.node.core) u v × Passes A A r.node.clients s.node.clients u v = h.attends before noted u in (
           t.0,
           subst (λ q. TickHands q h.answers (at_work r.node.core) u t.0) (sym (due r.last moment le)) t.1,
           t.2,
@@ -87,21 +89,21 @@ module _ {C : Type 0} where
   pub tick_broke : (r : Running C) (moment : ℕ) (a b : Option (List LinkCall)) (x y : Option (List ℕ)) → 100 ≤ moment - r.last → StepBreaks None (record r { last = moment }) a b x y Ticks → TickBreaks r a b x y moment
   tick_broke r moment a b x y le h = record { answers = h.answers; breaks = breaks_as r (record r { last = moment }) a b x y (ticked moment h.answers) (stepped_by h.answers Ticks) (tick_is r moment h.answers le) h.breaks }
 
-  pub tick_not : {A : List C → Audience → Type 0} (r : Running C) (moment : ℕ) (a : Option (List LinkCall)) (x : Option (List ℕ)) → moment - r.last < 100 → TicksAs A r r a a x x moment
+  pub tick_not : {A : Known → List (Hosted C) → Audience → Type 0} (r : Running C) (moment : ℕ) (a : Option (List LinkCall)) (x : Option (List ℕ)) → moment - r.last < 100 → TicksAs A r r a a x x moment
   tick_not r moment a x lt = record {
     answers = silent;
     goes = goes_as r r r a a x x (ticked moment silent) (λ d. d) (λ before noted. ap (λ q. ticked_if q moment silent (daemon_of r before noted)) (undue r.last moment lt)) (goes_none r a x);
-    attends = λ before noted u k. (u, subst (λ q. TickHands q silent (at_work r.node.core) u u) (sym (undue r.last moment lt)) refl, k);
+    attends = λ before noted u. (u, subst (λ q. TickHands q silent (at_work r.node.core) u u) (sym (undue r.last moment lt)) refl, λ known held. held);
   }
 
   -- ---- no message
 
-  pub give_nothing : {A : List C → Audience → Type 0} (r : Running C) (network : ℕ) (a : Option (List LinkCall)) (x : Option (List ℕ)) → GivesAs A r r a a x x network None
+  pub give_nothing : {A : Known → List (Hosted C) → Audience → Type 0} (r : Running C) (network : ℕ) (a : Option (List LinkCall)) (x : Option (List ℕ)) → GivesAs A r r a a x x network None
   unfolding given_on
   give_nothing r network a x = record {
     answers = silent;
     goes = goes_as r r r a a x x (given_on network None silent) (λ d. d) (λ before noted. refl) (goes_none r a x);
-    attends = λ before noted u k. (u, refl, k);
+    attends = λ before noted u. (u, refl, λ known held. held);
   }
 
   -- ---- a datagram
@@ -110,13 +112,13 @@ module _ {C : Type 0} where
       → taken_in network bytes f (daemon_of r before noted) ≡ given_on network m f (daemon_of (record r { joiner = j }) before noted)
   take_is r network bytes j m f h before noted = ap (λ (t : Joined). given_on network t.message f (record (daemon_of r before noted) { joining = t.joining })) (sym h)
 
-  pub take_done : {A : List C → Audience → Type 0} (r s : Running C) (network : ℕ) (bytes : List ℕ) (j : Joining) (m : Option (List ℕ)) (a b : Option (List LinkCall)) (x y : Option (List ℕ)) → joined_as j m ≡ taken r.joiner bytes → GivesAs A (record r { joiner = j }) s a b x y network m
+  pub take_done : {A : Known → List (Hosted C) → Audience → Type 0} (r s : Running C) (network : ℕ) (bytes : List ℕ) (j : Joining) (m : Option (List ℕ)) (a b : Option (List LinkCall)) (x y : Option (List ℕ)) → joined_as j m ≡ taken r.joiner bytes → GivesAs A (record r { joiner = j }) s a b x y network m
       → TakesAs A r s a b x y network bytes
   take_done {A = A} r s network bytes j m a b x y is h = record {
     answers = h.answers;
     goes = goes_as r (record r { joiner = j }) s a b x y (taken_in network bytes h.answers) (given_on network m h.answers) (take_is r network bytes j m h.answers is) h.goes;
-    attends = λ before noted u k.
-        let t : (v : Audience) × GivenHands m h.answers (daemon_of (record r { joiner = j }) before noted) u v × A s.node.clients v = h.attends before noted u k in (
+    attends = λ before noted u.
+        let t : (v : Audience) × GivenHands m h.answers (daemon_of (record r { joiner = j }) before noted) u v × Passes A A r.node.clients s.node.clients u v = h.attends before noted u in (
           t.0,
           subst (λ (z : Joined). GivenHands z.message h.answers (daemon_of r before noted) u t.0) is (hands_alike m h.answers (daemon_of r before noted) j r.failed u t.0 t.1),
           t.2,
@@ -151,14 +153,14 @@ module _ {C : Type 0} where
   told_goes : (r : Running C) (k : ℕ) (bytes : List ℕ) (a b : Option (List LinkCall)) (x : Option (List ℕ)) → Grows a b (call.Received k bytes ∷ []) → Goes r (record r { failed = 0 }) a b x x (told_of (call.Received k bytes))
   told_goes r k bytes a b x h = after_receive r (record r { failed = 0 }) (call.Received k bytes) a b x (told_of (call.Received k bytes)) refl h (λ before noted. refl)
 
-  pub hear_done : {A : List C → Audience → Type 0} (r s : Running C) (k : ℕ) (bytes : List ℕ) (a b c : Option (List LinkCall)) (x y : Option (List ℕ)) → Grows a b (call.Received k bytes ∷ []) → TakesAs A (record r { failed = 0 }) s b c x y k bytes → HearsAs A r s a c x y
+  pub hear_done : {A : Known → List (Hosted C) → Audience → Type 0} (r s : Running C) (k : ℕ) (bytes : List ℕ) (a b c : Option (List LinkCall)) (x y : Option (List ℕ)) → Grows a b (call.Received k bytes ∷ []) → TakesAs A (record r { failed = 0 }) s b c x y k bytes → HearsAs A r s a c x y
   hear_done {A = A} r s k bytes a b c x y h g = record {
     got = call.Received k bytes;
     answers = g.answers;
     goes = goes_as r r s a c x y (heard (call.Received k bytes) g.answers) (λ d. taken_in k bytes g.answers (told_of (call.Received k bytes) d)) (hear_is r k bytes g.answers)
         (goes_on r (record r { failed = 0 }) s a b c x x y (told_of (call.Received k bytes)) (taken_in k bytes g.answers) (told_goes r k bytes a b x h) g.goes);
-    attends = λ before noted u q.
-        let t : (v : Audience) × TakenHands bytes g.answers (daemon_of (record r { failed = 0 }) before noted) u v × A s.node.clients v = g.attends before noted u q in (
+    attends = λ before noted u.
+        let t : (v : Audience) × TakenHands bytes g.answers (daemon_of (record r { failed = 0 }) before noted) u v × Passes A A r.node.clients s.node.clients u v = g.attends before noted u in (
           t.0,
           hands_alike (taken r.joiner bytes).message g.answers (daemon_of r before noted) r.joiner 0 u t.0 t.1,
           t.2,
@@ -173,17 +175,17 @@ module _ {C : Type 0} where
         (breaks_on r (record r { failed = 0 }) a b c x x y (told_of (call.Received k bytes)) (taken_in k bytes g.answers) (told_goes r k bytes a b x h) g.breaks);
   }
 
-  pub hear_quiet : {A : List C → Audience → Type 0} (r : Running C) (a b : Option (List LinkCall)) (x : Option (List ℕ)) → Grows a b (call.Quiet ∷ []) → HearsAs A r (record r { failed = 0 }) a b x x
+  pub hear_quiet : {A : Known → List (Hosted C) → Audience → Type 0} (r : Running C) (a b : Option (List LinkCall)) (x : Option (List ℕ)) → Grows a b (call.Quiet ∷ []) → HearsAs A r (record r { failed = 0 }) a b x x
   unfolding heard received given_on
-  hear_quiet r a b x h = record { got = call.Quiet; answers = silent; goes = after_receive r (record r { failed = 0 }) call.Quiet a b x (heard call.Quiet silent) refl h (λ before noted. refl); attends = λ before noted u k. (u, refl, k) }
+  hear_quiet r a b x h = record { got = call.Quiet; answers = silent; goes = after_receive r (record r { failed = 0 }) call.Quiet a b x (heard call.Quiet silent) refl h (λ before noted. refl); attends = λ before noted u. (u, refl, λ known held. held) }
 
-  pub hear_failed : {A : List C → Audience → Type 0} (r : Running C) (n : ℕ) (a b : Option (List LinkCall)) (x : Option (List ℕ)) → n ≡ min (r.failed + 1) 16 → Grows a b (call.Failed ∷ []) → HearsAs A r (record r { failed = n }) a b x x
+  pub hear_failed : {A : Known → List (Hosted C) → Audience → Type 0} (r : Running C) (n : ℕ) (a b : Option (List LinkCall)) (x : Option (List ℕ)) → n ≡ min (r.failed + 1) 16 → Grows a b (call.Failed ∷ []) → HearsAs A r (record r { failed = n }) a b x x
   unfolding heard received given_on
   hear_failed r n a b x is h = record {
     got = call.Failed;
     answers = silent;
     goes = after_receive r (record r { failed = n }) call.Failed a b x (heard call.Failed silent) refl h (λ before noted. ap (λ (k : ℕ). daemon_of (record r { failed = k }) (before ++ call.Failed ∷ []) noted) (sym is));
-    attends = λ before noted u k. (u, refl, k);
+    attends = λ before noted u. (u, refl, λ known held. held);
   }
 
   -- a daemon that had no memory to receive
@@ -192,7 +194,7 @@ module _ {C : Type 0} where
 
   -- ---- a turn
 
-  pub turn_done : {A : List C → Audience → Type 0} (r s t : Running C) (moment : ℕ) (a b c : Option (List LinkCall)) (x y z u v : Option (List ℕ)) → Counts u v (moment ∷ []) → TicksAs A r s a b x y moment → HearsAs A s t b c y z → TurnsAs A r t a c x z u v
+  pub turn_done : {A : Known → List (Hosted C) → Audience → Type 0} (r s t : Running C) (moment : ℕ) (a b c : Option (List LinkCall)) (x y z u v : Option (List ℕ)) → Counts u v (moment ∷ []) → TicksAs A r s a b x y moment → HearsAs A s t b c y z → TurnsAs A r t a c x z u v
   unfolding turned
   turn_done {A = A} r s t moment a b c x y z u v at p q = record {
     turn = record { moment = moment; tick = p.answers; got = q.got; answers = q.answers };
@@ -201,7 +203,7 @@ module _ {C : Type 0} where
     attends = attends_on A A A r s t a b x y (ticked moment p.answers) (λ d. TickHands (is_due d.last moment) p.answers d.core) (HeardHands q.got q.answers) p.goes p.attends q.attends;
   }
 
-  pub turn_broke : {A : List C → Audience → Type 0} (r s : Running C) (moment : ℕ) (a b c : Option (List LinkCall)) (x y z u v : Option (List ℕ)) → Counts u v (moment ∷ []) → TicksAs A r s a b x y moment → HearBreaks s b c y z → TurnBreaks r a c x z u v
+  pub turn_broke : {A : Known → List (Hosted C) → Audience → Type 0} (r s : Running C) (moment : ℕ) (a b c : Option (List LinkCall)) (x y z u v : Option (List ℕ)) → Counts u v (moment ∷ []) → TicksAs A r s a b x y moment → HearBreaks s b c y z → TurnBreaks r a c x z u v
   unfolding turned
   turn_broke r s moment a b c x y z u v at p q = record {
     turn = record { moment = moment; tick = p.answers; got = q.got; answers = q.answers };

@@ -1,5 +1,5 @@
 -- What a daemon's run hands to the clients of its sessions, and the lists that they stand for.
-use Rattle.std.specs.Prelude.{◌≡◌, ℕ, Bool, true, false, List, [], ◌∷◌, ◌++◌, length, map, drop, get_or, is_none, Option, Some, None}
+use Rattle.std.specs.Prelude.{◌≡◌, ℕ, ◌+◌, Bool, true, false, List, [], ◌∷◌, ◌++◌, length, map, drop, get_or, is_none, is_some, Option, Some, None, option_map}
 use Rattle.std.specs.Str.{bytes_eq}
 use Rattle.hags_io.specs.declared.link.LinkCall.{LinkCall}
 use Rattle.piece_link.specs.Joining.{taken}
@@ -18,46 +18,63 @@ use Rattle.node_state.specs.State.{state_of}
 use Rattle.node_state.specs.Step.{NodeEvent, Ticks, Asks, Given, Calls, at_work, stepped}
 use Rattle.node_state.specs.Step as step
 use Rattle.node_calls.specs.Calling.{clients_with}
-use Rattle.entry_delivery.specs.Received.{Handing, AreFor, logged_by, after_handings, WereHandedFrom}
+use Rattle.entry_delivery.specs.Received.{handed_by, AreLogs, Handing, AreFor, logged_by, after_handings}
 use Rattle.node_core.specs.Event.{called}
 use Rattle.world_model.specs.declared.script.Script.{Script}
 use Rattle.world_model.specs.Reading.{boxed_word}
 use Rattle.remote_session.specs.Daemon.{SeenUp, NotUp, KeysFull, KnownKey, CallMade}
 use Rattle.daemon_model.specs.Daemon.{Daemon, Opening, Turn, Life, is_due, ticked, joined_by, up_in, with_up, call_in, opened, turned, begun_for}
 use Rattle.daemon_model.specs.Lives.{first_of}
+use Rattle.daemon_run.specs.declared.hosted.Hosted.{Hosted}
+use Rattle.daemon_run.specs.Hosting.{Known, StandWhere}
 
--- What is known of a daemon's clients: which lists the objects stand for that no client has taken. And of each session,
--- in order: whether its client is one of the objects, which list that stood for as the session began, and the records of
--- what it was handed and filled since, with the states of groups.
+-- Whose the clients of a daemon are, and what they were handed: how many of the objects clients have taken; and of each
+-- session, in order, which of the objects its client is, if it is one, and the records of what it was handed and filled,
+-- with the states of groups.
 pub record Audience : Type 0 where
-  pub left : List (List Handed)
-  pub boxed : List Bool
-  pub firsts : List (List Handed)
+  pub next : ℕ
+  pub objects : List (Option ℕ)
   pub logs : List (List Logged)
 
--- objects that stand for these lists, and no session
-abbrev pub audience_of : List (List Handed) → Audience
-audience_of lists = record { left = lists; boxed = []; firsts = []; logs = [] }
+-- before the first session
+abbrev pub no_audience : Audience
+no_audience = record { next = 0; objects = []; logs = [] }
 
 -- ---- objects that are taken
 
 abbrev pub is_boxed : List ℕ → Bool
 is_boxed votes = bytes_eq votes boxed_word
 
-abbrev pub first_if : Bool → List (List Handed) → List Handed
-first_if true lists = get_or lists 0 []
-first_if false lists = []
+abbrev pub object_if : Bool → ℕ → Option ℕ
+object_if true n = Some n
+object_if false n = None
 
-abbrev pub left_if : Bool → List (List Handed) → List (List Handed)
-left_if true lists = drop 1 lists
-left_if false lists = lists
+abbrev pub next_if : Bool → ℕ → ℕ
+next_if true n = n + 1
+next_if false n = n
 
--- the client of a votes word: for the word `boxed` the next of the objects, and else one that was handed nothing
-abbrev pub first_for : List ℕ → List (List Handed) → List Handed
-first_for votes lists = first_if (is_boxed votes) lists
+-- the client of a votes word: for the word `boxed` the next of the objects, and else none of them
+abbrev pub object_for : List ℕ → ℕ → Option ℕ
+object_for votes n = object_if (is_boxed votes) n
 
-abbrev pub left_for : List ℕ → List (List Handed) → List (List Handed)
-left_for votes lists = left_if (is_boxed votes) lists
+abbrev pub next_for : List ℕ → ℕ → ℕ
+next_for votes n = next_if (is_boxed votes) n
+
+-- what is known of these clients, where this is known of the objects that are left: one that is none of them was handed
+-- nothing
+abbrev pub first_if : Bool → Known → Option (List Handed)
+first_if true left = get_or left 0 None
+first_if false left = Some []
+
+abbrev pub left_if : Bool → Known → Known
+left_if true left = drop 1 left
+left_if false left = left
+
+abbrev pub first_for : List ℕ → Known → Option (List Handed)
+first_for votes left = first_if (is_boxed votes) left
+
+abbrev pub left_for : List ℕ → Known → Known
+left_for votes left = left_if (is_boxed votes) left
 
 -- ---- a call
 
@@ -65,15 +82,13 @@ left_for votes lists = left_if (is_boxed votes) lists
 -- others, with an empty log; one that ends takes its client and its log away.
 abbrev pub audience_called : Core → CallLine → Audience → Audience
 audience_called s (call.Init node name votes) x = record {
-  left = left_for votes x.left;
-  boxed = clients_with (is_boxed votes) x.boxed (inited s.sessions name);
-  firsts = clients_with (first_for votes x.left) x.firsts (inited s.sessions name);
+  next = next_for votes x.next;
+  objects = clients_with (object_for votes x.next) x.objects (inited s.sessions name);
   logs = clients_with [] x.logs (inited s.sessions name);
 }
 audience_called s (call.Goodbye client) x = record {
-  left = x.left;
-  boxed = removed_at (client_place s.sessions (client_token s.sessions client)) x.boxed;
-  firsts = removed_at (client_place s.sessions (client_token s.sessions client)) x.firsts;
+  next = x.next;
+  objects = removed_at (client_place s.sessions (client_token s.sessions client)) x.objects;
   logs = removed_at (client_place s.sessions (client_token s.sessions client)) x.logs;
 }
 audience_called s _ x = x
@@ -148,14 +163,35 @@ LifeHands script me incarnation life old new =
 
 -- ---- clients
 
--- The clients of sessions are these: each stands for the list of its start and for what its log tells, in order; and just
--- those that are objects vote by no items.
-pub record Attend {C : Type 0} (R : C → List Handed → Type 0) (script : C → Option (List (Option VoteItem))) (clients : List C) (x : Audience) : Type 0 where
-  pub stand : WereHandedFrom R x.firsts clients x.logs
-  pub even : length x.firsts ≡ length x.logs
-  pub boxed : map is_none (map script clients) ≡ x.boxed
+-- what a client stood for at first, where this is known of the objects: for nothing if it is none of them
+abbrev pub first_of_client : Known → Option ℕ → Option (List Handed)
+first_of_client known (Some k) = get_or known k None
+first_of_client known None = Some []
 
--- and the objects that are left stand for their lists
-pub record AttendWith {C : Type 0} (P : List (List Handed) → Type 0) (R : C → List Handed → Type 0) (script : C → Option (List (Option VoteItem))) (clients : List C) (x : Audience) : Type 0 where
-  pub left : P x.left
-  pub attend : Attend R script clients x
+-- for which lists clients stand that stood for these at first: each with what its log tells behind it, in order
+abbrev pub heard_since : Option (List Handed) → List Logged → Option (List Handed)
+heard_since first rs = option_map (λ h. h ++ handed_by rs) first
+
+abbrev pub lists_now : Known → List (List Logged) → Known
+lists_now [] rss = []
+lists_now (f ∷ fs) [] = []
+lists_now (f ∷ fs) (rs ∷ rss) = heard_since f rs ∷ lists_now fs rss
+
+abbrev pub client_stands : {C : Type 0} → (C → List Handed → Type 0) → Hosted C → List Handed → Type 0
+client_stands R c h = R c.client h
+
+abbrev pub client_script : {C : Type 0} → (C → Option (List (Option VoteItem))) → Hosted C → Option (List (Option VoteItem))
+client_script script c = script c.client
+
+-- The clients of sessions are these. Each of which it is known what it stood for at first stands for that and for what its
+-- log tells, in order, whatever is known of the others; and just those that are objects vote by no items.
+pub record Attend {C : Type 0} (R : C → List Handed → Type 0) (script : C → Option (List (Option VoteItem))) (known : Known) (clients : List (Hosted C)) (x : Audience) : Type 0 where
+  pub stand : StandWhere (client_stands R) clients (lists_now (map (first_of_client known) x.objects) x.logs)
+  pub even : length x.objects ≡ length x.logs
+  pub logs : AreLogs x.logs
+  pub boxed : map is_none (map (client_script script) clients) ≡ map is_some x.objects
+
+-- and this holds of the objects that are left
+pub record AttendWith {C : Type 0} (P : Known → Type 0) (R : C → List Handed → Type 0) (script : C → Option (List (Option VoteItem))) (known : Known) (clients : List (Hosted C)) (x : Audience) : Type 0 where
+  pub left : P (drop x.next known)
+  pub attend : Attend R script known clients x

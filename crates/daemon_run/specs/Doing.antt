@@ -15,7 +15,9 @@ use Rattle.remote_session.specs.Daemon.{up_taken}
 use Rattle.remote_clients.specs.declared.sessions.Sessions.{Sessions}
 use Rattle.remote_clients.specs.Sessions.{noted_all, is_refused}
 use Rattle.daemon_model.specs.Daemon.{Daemon, Turn, stepped_for, is_due, ticked, call_in, called_by, given_on, heard, turned, records_text}
+use Rattle.daemon_run.specs.declared.hosted.Hosted.{Hosted}
 use Rattle.daemon_run.specs.declared.running.Running.{Running}
+use Rattle.daemon_run.specs.Hosting.{Known}
 use Rattle.daemon_run.specs.Audience.{Audience, StepHands, TickHands, LineHands, GivenHands, TakenHands, HeardHands, TurnHands}
 
 -- the daemon that stands like this, and did this so far
@@ -53,10 +55,14 @@ pub record Broke (before : List LinkCall) (noted : List Happened) (a b : Option 
 abbrev pub Breaks : {C : Type 0} → Running C → Option (List LinkCall) → Option (List LinkCall) → Option (List ℕ) → Option (List ℕ) → (Daemon → Daemon) → Type 0
 Breaks r a b x y f = (before : List LinkCall) (noted : List Happened) → Broke before noted a b x y (f (daemon_of r before noted))
 
--- Where A held of the clients with some audience, H comes from that to one of which B holds with the clients now.
-abbrev pub Attends : {C : Type 0} → (List C → Audience → Type 0) → (List C → Audience → Type 0) → Running C → Running C → (Daemon → Audience → Audience → Type 0) → Type 0
+-- where A held of clients with their audience, B holds of those now, whatever is known of the objects
+abbrev pub Passes : {C : Type 0} → (Known → List (Hosted C) → Audience → Type 0) → (Known → List (Hosted C) → Audience → Type 0) → List (Hosted C) → List (Hosted C) → Audience → Audience → Type 0
+Passes A B old new x y = (known : Known) → A known old x → B known new y
+
+-- from each audience H comes to one of the clients now
+abbrev pub Attends : {C : Type 0} → (Known → List (Hosted C) → Audience → Type 0) → (Known → List (Hosted C) → Audience → Type 0) → Running C → Running C → (Daemon → Audience → Audience → Type 0) → Type 0
 Attends A B r s H =
-    (before : List LinkCall) (noted : List Happened) (x : Audience) → A r.node.clients x → (y : Audience) × H (daemon_of r before noted) x y × B s.node.clients y
+    (before : List LinkCall) (noted : List Happened) (x : Audience) → (y : Audience) × H (daemon_of r before noted) x y × Passes A B r.node.clients s.node.clients x y
 
 -- which node it is stays, and how many receives failed in a row
 abbrev pub IsSame : {C : Type 0} → Running C → Running C → Type 0
@@ -75,14 +81,14 @@ pub record SettlesFront {C : Type 0} (r : Running C) (a b : Option (List LinkCal
   pub front : GrowsByFront x y (records_text r.node.core.records)
 
 -- the node did the event, with some answers of its clients, and nothing else changed
-pub record IsStep {C : Type 0} (A B : List C → Audience → Type 0) (r s : Running C) (e : NodeEvent) : Type 0 where
+pub record IsStep {C : Type 0} (A B : Known → List (Hosted C) → Audience → Type 0) (r s : Running C) (e : NodeEvent) : Type 0 where
   pub answers : Answering
   pub core : s.node.core ≡ stepped answers r.node.core e
   pub is : s ≡ record r { node = s.node }
-  pub attends : (x : Audience) → A r.node.clients x → (y : Audience) × StepHands answers e (at_work r.node.core) x y × B s.node.clients y
+  pub attends : (x : Audience) → (y : Audience) × StepHands answers e (at_work r.node.core) x y × Passes A B r.node.clients s.node.clients x y
 
 -- an event, with what it sends and records; it is a call of this key, or of none
-pub record StepsAs {C : Type 0} (A B : List C → Audience → Type 0) (calling : Option ℕ) (r s : Running C) (a b : Option (List LinkCall)) (x y : Option (List ℕ)) (e : NodeEvent) : Type 0 where
+pub record StepsAs {C : Type 0} (A B : Known → List (Hosted C) → Audience → Type 0) (calling : Option ℕ) (r s : Running C) (a b : Option (List LinkCall)) (x y : Option (List ℕ)) (e : NodeEvent) : Type 0 where
   pub answers : Answering
   pub goes : Goes r s a b x y (stepped_for calling answers e)
   pub attends : Attends A B r s (λ d. StepHands answers e d.core)
@@ -94,7 +100,7 @@ pub record StepBreaks {C : Type 0} (calling : Option ℕ) (r : Running C) (a b :
 -- ---- parts of a turn
 
 -- a tick, where it is due
-pub record TicksAs {C : Type 0} (A : List C → Audience → Type 0) (r s : Running C) (a b : Option (List LinkCall)) (x y : Option (List ℕ)) (moment : ℕ) : Type 0 where
+pub record TicksAs {C : Type 0} (A : Known → List (Hosted C) → Audience → Type 0) (r s : Running C) (a b : Option (List LinkCall)) (x y : Option (List ℕ)) (moment : ℕ) : Type 0 where
   pub answers : Answering
   pub goes : Goes r s a b x y (ticked moment answers)
   pub attends : Attends A A r s (λ d. TickHands (is_due d.last moment) answers d.core)
@@ -110,7 +116,7 @@ abbrev pub is_up_taken : {C : Type 0} → Running C → List ℕ → Running C
 is_up_taken r message = record r { sessions = option_map (λ (t : Sessions). record t { remote = up_taken t.remote message }) r.sessions }
 
 -- a call of a key is a step of the node, in which it was refused or taken
-pub record KeySteps {C : Type 0} (A : List C → Audience → Type 0) (r s : Running C) (refused : Bool) (a b : Option (List LinkCall)) (x y : Option (List ℕ)) (key : ℕ) (c : CallLine) : Type 0 where
+pub record KeySteps {C : Type 0} (A : Known → List (Hosted C) → Audience → Type 0) (r s : Running C) (refused : Bool) (a b : Option (List LinkCall)) (x y : Option (List ℕ)) (key : ℕ) (c : CallLine) : Type 0 where
   pub answers : Answering
   pub goes : Goes r s a b x y (stepped_for (Some key) answers (Calls c))
   pub attends : Attends A A r s (λ d. StepHands answers (Calls c) d.core)
@@ -125,7 +131,7 @@ pub record SendsFront {C : Type 0} (r : Running C) (a b : Option (List LinkCall)
   pub went : WentFront a b (message_calls r.me r.incarnation r.number 0 network message)
 
 -- the line of a key
-pub record CallsKey {C : Type 0} (A : List C → Audience → Type 0) (r s : Running C) (a b : Option (List LinkCall)) (x y : Option (List ℕ)) (key : ℕ) (line : List ℕ) : Type 0 where
+pub record CallsKey {C : Type 0} (A : Known → List (Hosted C) → Audience → Type 0) (r s : Running C) (a b : Option (List LinkCall)) (x y : Option (List ℕ)) (key : ℕ) (line : List ℕ) : Type 0 where
   pub answers : Answering
   pub goes : Goes r s a b x y (called_by key line answers)
   pub attends : Attends A A r s (λ d. LineHands (call_in d.sessions d.me key line) answers d.core)
@@ -136,7 +142,7 @@ pub record CallKeyBreaks {C : Type 0} (r : Running C) (a b : Option (List LinkCa
 
 -- ---- a whole message, which came on this network
 
-pub record GivesAs {C : Type 0} (A : List C → Audience → Type 0) (r s : Running C) (a b : Option (List LinkCall)) (x y : Option (List ℕ)) (network : ℕ) (message : Option (List ℕ)) : Type 0 where
+pub record GivesAs {C : Type 0} (A : Known → List (Hosted C) → Audience → Type 0) (r s : Running C) (a b : Option (List LinkCall)) (x y : Option (List ℕ)) (network : ℕ) (message : Option (List ℕ)) : Type 0 where
   pub answers : Answering
   pub goes : Goes r s a b x y (given_on network message answers)
   pub attends : Attends A A r s (GivenHands message answers)
@@ -149,7 +155,7 @@ pub record GiveBreaks {C : Type 0} (r : Running C) (a b : Option (List LinkCall)
 abbrev pub taken_in : ℕ → List ℕ → Answering → Daemon → Daemon
 taken_in network bytes f d = given_on network (taken d.joining bytes).message f (record d { joining = (taken d.joining bytes).joining })
 
-pub record TakesAs {C : Type 0} (A : List C → Audience → Type 0) (r s : Running C) (a b : Option (List LinkCall)) (x y : Option (List ℕ)) (network : ℕ) (bytes : List ℕ) : Type 0 where
+pub record TakesAs {C : Type 0} (A : Known → List (Hosted C) → Audience → Type 0) (r s : Running C) (a b : Option (List LinkCall)) (x y : Option (List ℕ)) (network : ℕ) (bytes : List ℕ) : Type 0 where
   pub answers : Answering
   pub goes : Goes r s a b x y (taken_in network bytes answers)
   pub attends : Attends A A r s (TakenHands bytes answers)
@@ -159,7 +165,7 @@ pub record TakeBreaks {C : Type 0} (r : Running C) (a b : Option (List LinkCall)
   pub breaks : Breaks r a b x y (taken_in network bytes answers)
 
 -- a receive, with what it brings
-pub record HearsAs {C : Type 0} (A : List C → Audience → Type 0) (r s : Running C) (a b : Option (List LinkCall)) (x y : Option (List ℕ)) : Type 0 where
+pub record HearsAs {C : Type 0} (A : Known → List (Hosted C) → Audience → Type 0) (r s : Running C) (a b : Option (List LinkCall)) (x y : Option (List ℕ)) : Type 0 where
   pub got : LinkCall
   pub answers : Answering
   pub goes : Goes r s a b x y (heard got answers)
@@ -172,7 +178,7 @@ pub record HearBreaks {C : Type 0} (r : Running C) (a b : Option (List LinkCall)
 
 -- ---- a turn
 
-pub record TurnsAs {C : Type 0} (A : List C → Audience → Type 0) (r s : Running C) (a b : Option (List LinkCall)) (x y : Option (List ℕ)) (u v : Option (List ℕ)) : Type 0 where
+pub record TurnsAs {C : Type 0} (A : Known → List (Hosted C) → Audience → Type 0) (r s : Running C) (a b : Option (List LinkCall)) (x y : Option (List ℕ)) (u v : Option (List ℕ)) : Type 0 where
   pub turn : Turn
   pub moments : Counts u v (turn.moment ∷ [])
   pub goes : Goes r s a b x y (λ d. turned d turn)

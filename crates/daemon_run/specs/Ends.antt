@@ -8,7 +8,9 @@ use Rattle.node_state.specs.Step.{at_work}
 use Rattle.node_core.specs.Node.{NodeView}
 use Rattle.world_model.specs.declared.script.Script.{Script}
 use Rattle.daemon_model.specs.Lives.{ServesAs}
-use Rattle.daemon_run.specs.Audience.{Audience, audience_of, LifeHands, Attend}
+use Rattle.daemon_run.specs.declared.hosted.Hosted.{Hosted}
+use Rattle.daemon_run.specs.Hosting.{Known}
+use Rattle.daemon_run.specs.Audience.{Audience, no_audience, LifeHands, Attend}
 
 -- nothing was received, sent, written or read of the clock
 pub record NothingDone (a b : Option (List LinkCall)) (x y u v : Option (List ℕ)) : Type 0 where
@@ -23,8 +25,12 @@ pub record Opens (o r : Option (Option (ℕ × Bool))) (port status : ℕ) (N P 
   pub closed : done ≡ false → (status ≡ 6) × N
   pub ended : done ≡ true → status ≡ 6 → P
 
--- It did all its turns. Where the objects that it was given stood for these lists, the clients of its sessions stand at
--- the end for their own, each with what its life handed to that client, in order.
-pub record HandsOver {C : Type 0} (P : List (List Handed) → Type 0) (R : C → List Handed → Type 0) (votes : C → Option (List (Option VoteItem))) (script : Script) (me incarnation : ℕ) (remote : Bool) (turns : ℕ) (node : NodeView C) (a b : Option (List LinkCall)) (x y : Option (List ℕ)) (u v : Option (List ℕ)) : Type 0 where
+-- It did all its turns, and its life handed to the clients of its sessions what `last` tells. Where it is known of some of
+-- the objects that it was given for which lists they stood, and nothing of the others, each client that is one of those, or
+-- none of the objects, stands at the end for its own list: that of its object or else an empty one, with what was handed to
+-- that client behind it, in order.
+pub record HandsOver {C : Type 0} (P : Known → Type 0) (R : C → List Handed → Type 0) (votes : C → Option (List (Option VoteItem))) (script : Script) (me incarnation : ℕ) (remote : Bool) (turns : ℕ) (node : NodeView (Hosted C)) (a b : Option (List LinkCall)) (x y : Option (List ℕ)) (u v : Option (List ℕ)) : Type 0 where
   pub serves : ServesAs script me incarnation remote turns (at_work node.core) a b x y u v
-  pub hands : (lists : List (List Handed)) → P lists → (last : Audience) × LifeHands script me incarnation serves.life (audience_of lists) last × Attend R votes node.clients last
+  pub last : Audience
+  pub hands : LifeHands script me incarnation serves.life no_audience last
+  pub stand : (known : Known) → P known → Attend R votes known node.clients last

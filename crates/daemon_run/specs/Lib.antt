@@ -1,4 +1,5 @@
 pub mod Keeping
+pub mod Hosting
 pub mod Audience
 pub mod Doing
 pub mod Calling

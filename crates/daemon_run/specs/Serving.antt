@@ -4,7 +4,9 @@ use Rattle.hags_io.specs.Links.{Counts}
 use Rattle.hags_io.specs.declared.link.LinkCall.{LinkCall}
 use Rattle.daemon_model.specs.Daemon.{Turn, turn_moments, turned_all}
 use Rattle.daemon_model.specs.Lives.{most_failed, GoesOn}
+use Rattle.daemon_run.specs.declared.hosted.Hosted.{Hosted}
 use Rattle.daemon_run.specs.declared.running.Running.{Running}
+use Rattle.daemon_run.specs.Hosting.{Known}
 use Rattle.daemon_run.specs.Audience.{Audience, TurnsHand}
 use Rattle.daemon_run.specs.Doing.{daemon_of, Goes, Breaks, Attends}
 
@@ -14,7 +16,7 @@ pub record Turned {C : Type 0} (r s : Running C) (turns : List Turn) (a b : Opti
   pub goes : Goes r s a b x y (λ d. turned_all d turns)
 
 -- so many turns, after none of which too many receives in a row had failed
-pub record TurnsDone {C : Type 0} (A : List C → Audience → Type 0) (r s : Running C) (count : ℕ) (a b : Option (List LinkCall)) (x y : Option (List ℕ)) (u v : Option (List ℕ)) : Type 0 where
+pub record TurnsDone {C : Type 0} (A : Known → List (Hosted C) → Audience → Type 0) (r s : Running C) (count : ℕ) (a b : Option (List LinkCall)) (x y : Option (List ℕ)) (u v : Option (List ℕ)) : Type 0 where
   pub turns : List Turn
   pub so_many : length turns ≡ count
   pub done : Turned r s turns a b x y u v

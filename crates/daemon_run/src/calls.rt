@@ -4,14 +4,14 @@ ghost use Rattle.hags_io.specs.Edges.{Rose};
 ghost use Rattle.node_state.specs.declared.call.CallLine.TheVariants as call;
 ghost use Rattle.node_state.specs.Step.{Calls};
 ghost use Rattle.daemon_model.specs.Daemon.{own_call, own_calls};
-ghost use Rattle.client_callbacks.specs.Handed.{Handed};
-ghost use Rattle.session_clients.specs.Clients.{StandFor};
+ghost use Rattle.daemon_run.specs.Hosting.{Known, StandWhere};
 ghost use Rattle.daemon_run.specs.Audience.{is_boxed, first_for, left_for, Attend, AttendWith};
 ghost use Rattle.daemon_run.specs.Keeping.{KeepsLink};
 ghost use Rattle.daemon_run.specs.Doing.{IsSame, IsStep, StepsAs, StepBreaks, KeySteps};
 ghost use Rattle.remote_clients.specs.Clients.{IsPlain};
 ghost use Rattle.daemon_run.specs.Calling.{CallsAs, CallsBreak};
 
+use crate::hosted::Hosted;
 use crate::running::Running;
 use crate::writing::Stop;
 use client_callbacks::{BoxedClient, Callbacks, DaemonClient, ScriptClient};
@@ -25,14 +25,14 @@ use world_model::{Event, Line};
 /// What gives a daemon its clients: for the votes word `boxed` the next of the objects that it has, and for any other
 /// word a client that was handed nothing.
 pub trait Hosts<C: Callbacks> {
-    /// The objects that it can still give stand for these lists, in order.
-    ghost stand: { Self → List (List Handed) → Type 0 };
+    /// This is known of the objects that it can still give, in order: the list for which one stands, or nothing.
+    ghost stand: { Self → Known → Type 0 };
 
     /// The client of a votes word. That there is none counts as want of memory.
     fn client(&mut self, alloc: Global, votes: &[u8]) -> Result<C, NoMemory>
-        ensures gives { (lists : List (List Handed)) → stand self.old lists
-            → IfOk result (λ c. C.stands_for c (first_for votes.now lists)
-            × stand self.new (left_for votes.now lists)) }
+        ensures gives { (known : Known) → stand self.old known
+            → IfOk result (λ c. IfSome (first_for votes.now known) (C.stands_for c)
+            × stand self.new (left_for votes.now known)) }
         ensures votes { IfOk result (λ c. is_none (C.script c) ≡ is_boxed votes.now) }
         ensures plain { is_boxed votes.now ≡ false → IfOk result (λ c. C.stands_for c []) };
 }
@@ -44,7 +44,7 @@ pub struct Objects {
 }
 
 impl Hosts<DaemonClient> for Objects {
-    ghost stand = { λ o lists. StandFor (λ (b : _) (h : _). (Callbacks-box b).stands_for b.value h) o.left.items lists };
+    ghost stand = { λ o known. StandWhere (λ (b : _) (h : _). (Callbacks-box b).stands_for b.value h) o.left.items known };
 
     /// The client of a votes word: for `boxed` it is the next of the objects, and else one that votes as the word says.
     /// That no object is left, or that it is no votes word, counts as want of memory: good settings have neither.
@@ -90,7 +90,7 @@ impl<C: Callbacks> Running<C> {
         ensures same { IsSame self.old self.new }
     {
         let client = hosts.client(alloc, votes)?;
-        match self.node.begin_session(alloc, name, client) {
+        match self.node.begin_session(alloc, name, Hosted { client }) {
             Ok(()) => Ok(()),
             Err(_) => Err(NoMemory),
         }
@@ -111,7 +111,7 @@ impl<C: Callbacks> Running<C> {
         ensures same { IsSame self.old self.new }
     {
         let client = hosts.client(alloc, votes)?;
-        match self.node.begin_session(alloc, name, client) {
+        match self.node.begin_session(alloc, name, Hosted { client }) {
             Ok(()) => Ok(()),
             Err(_) => Err(NoMemory),
         }

@@ -2,6 +2,7 @@
 #![tactic(auto)]
 
 mod calls;
+mod hosted;
 mod places;
 mod remote;
 mod running;
@@ -11,6 +12,7 @@ mod turns;
 mod writing;
 
 pub use calls::{Hosts, Objects};
+pub use hosted::Hosted;
 pub use places::tell_places;
 pub use sending::{Receiver, send_message, send_packet};
 pub use serving::{Served, Serving, buffer, serve};

@@ -7,6 +7,7 @@ ghost use Rattle.daemon_run.specs.Audience.{Attend};
 ghost use Rattle.daemon_run.specs.Keeping.{KeepsLink};
 ghost use Rattle.daemon_run.specs.Doing.{IsSame, Settles, SettlesFront, IsStep, StepsAs, StepBreaks};
 
+use crate::hosted::Hosted;
 use crate::sending::send_packets;
 use crate::writing::{Stop, write_records};
 use client_callbacks::Callbacks;
@@ -25,7 +26,7 @@ use std::alloc::Global;
 pub struct Running<C: Callbacks> {
     pub me: u8,
     pub incarnation: u32,
-    pub node: Node<C>,
+    pub node: Node<Hosted<C>>,
     pub joiner: Joiner,
     pub last: u64,
     pub number: u64,

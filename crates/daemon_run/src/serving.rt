@@ -12,6 +12,7 @@ ghost use Rattle.daemon_run.specs.Audience.{AttendWith};
 ghost use Rattle.daemon_run.specs.Ends.{NothingDone, Opens, HandsOver};
 
 use crate::calls::Hosts;
+use crate::hosted::Hosted;
 use crate::places::tell_places;
 use crate::running::Running;
 use crate::turns::Ending;
@@ -39,7 +40,7 @@ pub struct Serving {
 #[derive(Drop)]
 pub struct Served<C: Callbacks> {
     pub status: u8,
-    pub node: Option<Node<C>>,
+    pub node: Option<Node<Hosted<C>>>,
 }
 
 /// The memory into which datagrams are received: so many bytes.
@@ -126,7 +127,7 @@ fn live<C: Callbacks, H: Hosts<C>, K: Sink, L: Link, M: Clock>(
     link: &mut L,
     clock: &mut M,
     hosts: &mut H,
-) -> Result<Node<C>, Ending>
+) -> Result<Node<Hosted<C>>, Ending>
     requires { serving.me ≤ 32 }
     ensures done { IfOk result (λ node. ServesAs script.now serving.me serving.incarnation
         serving.remote serving.turns (at_work node.core) (L.calls link.old) (L.calls link.new)
@@ -185,10 +186,11 @@ fn without_node<C: Callbacks>(status: u8) -> Served<C>
 /// failed; and 3 where memory has run out. In the last two cases what was sent and written is a front of what the
 /// definition of the daemon's run gives (`crates/daemon_model`), and in the others all of it.
 ///
-/// Where the status is 0, and the objects that `hosts` had stood for some lists, each client of the node's sessions
-/// stands for its own (`hands`): that of the k-th line whose word is `boxed` for the k-th list, and any other for an empty
-/// one, each with the notices and tellings behind it that the run handed to that client, in order, and the ballots that it
-/// filled. Just the clients of those lines vote by no items, so that no other client stands in place of an object.
+/// Where the status is 0, each client of the node's sessions stands for its own list (`hands`): that of the k-th line whose
+/// word is `boxed` for the list for which the k-th object of `hosts` stood, whatever the others stood for, and any other for
+/// an empty one; each with the notices and tellings behind it that the run handed to that client, in order, and the ballots
+/// that it filled. Of an object of which no list is known nothing is said. Just the clients of those lines vote by no items,
+/// so that no other client stands in place of an object.
 #[tactic(auto, using(crate::proofs::EndLaws::opens_closed, crate::proofs::EndLaws::opens_open, crate::proofs::EndLaws::tells_kept, crate::proofs::EndLaws::nothing_done, crate::proofs::EndLaws::serves_all_before, crate::proofs::EndLaws::hands_over_before, crate::proofs::EndLaws::serves_to_before, crate::proofs::EndLaws::serves_front_before, crate::proofs::KeepLaws::same_on))]
 pub fn serve<C: Callbacks, H: Hosts<C>, K: Sink, L: Link, M: Clock>(
     alloc: Global,

@@ -4,4 +4,4 @@ use Rattle.daemon_run.proofs.running.Running.begin_plain_session.Goals as goal
 
 pub returns-in-Ok-clause-does : goal.returns-in-Ok-clause-does
 returns-in-Ok-clause-does g c = λ node.
-    begins_plain c.args.self.now c.begin_session.new.self node c.args.name.now c.args.votes.now c.in_ok-client.client c.requires (c.in_ok-client.ensures.plain c.requires) c.in_ok-client.ensures.votes c.in-Ok.ensures.order c.in-Ok.ensures.scripts (c.in-Ok.ensures.does node c.args.votes.now)
+    begins_plain c.args.self.now c.begin_session.new.self node c.args.name.now c.args.votes.now (record { client = c.in_ok-client.client }) c.requires (c.in_ok-client.ensures.plain c.requires) c.in_ok-client.ensures.votes c.in-Ok.ensures.order c.in-Ok.ensures.scripts (c.in-Ok.ensures.does node c.args.votes.now)
