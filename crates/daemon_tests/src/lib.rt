@@ -9,6 +9,8 @@ mod endings;
 #[cfg(test)]
 mod failing;
 #[cfg(test)]
+mod machines;
+#[cfg(test)]
 mod questions;
 #[cfg(test)]
 mod runs;

@@ -166,24 +166,31 @@ pub(crate) fn settings(alloc: Global, text: &[u8], objects: u32) -> Option<Scrip
     }
 }
 
+/// Node 1, in its incarnation 5, for so many turns; whether it serves clients on other machines.
+pub(crate) fn serving(turns: u32, remote: bool) -> Serving
+    ensures { result.me ≡ 1 }
+{
+    Serving {
+        me: 1,
+        incarnation: 5,
+        turns,
+        remote,
+    }
+}
+
 /// The status with which a daemon ends. Its node is let go here, where the kind of its clients is open.
 pub(crate) fn ended<C: Callbacks, H: Hosts<C>, K: Sink, L: Link, M: Clock>(
     alloc: Global,
     script: &Script,
-    turns: u32,
+    serving: Serving,
     out: &mut K,
     link: &mut L,
     clock: &mut M,
     hosts: &mut H,
 ) -> u8
-    requires { script.now.config.port + 32 ≤ 65535 }
+    requires node { serving.me ≤ 32 }
+    requires ports { script.now.config.port + 32 ≤ 65535 }
 {
-    let serving = Serving {
-        me: 1,
-        incarnation: 5,
-        turns,
-        remote: false,
-    };
     let served = serve::<C, H, K, L, M>(alloc, script, serving, out, link, clock, hosts);
     served.status
 }
@@ -198,11 +205,25 @@ pub(crate) fn served(
 ) -> u8
     requires { script.now.config.port + 32 ≤ 65535 }
 {
+    served_as(alloc, script, serving(turns, false), edges, left)
+}
+
+/// The status with which such a daemon ends, where these objects are handed to it.
+pub(crate) fn served_as(
+    alloc: Global,
+    script: &Script,
+    serving: Serving,
+    edges: &mut Edges,
+    left: Vec<Box<dyn Callbacks>>,
+) -> u8
+    requires node { serving.me ≤ 32 }
+    requires ports { script.now.config.port + 32 ≤ 65535 }
+{
     let mut objects = Objects { left };
     ended::<DaemonClient, Objects, MemSink, MemLink, MemClock>(
         alloc,
         script,
-        turns,
+        serving,
         &mut edges.out,
         &mut edges.link,
         &mut edges.clock,

@@ -2,7 +2,7 @@
 ghost use Rattle.std.specs.Prelude.{◌≤◌, ◌+◌, length};
 
 use crate::questions::{RINGS_ASKED, RINGS_TOLD};
-use crate::runs::{ended, settings};
+use crate::runs::{ended, serving, settings};
 use client_callbacks::DaemonClient;
 use daemon_run::{Objects, buffer};
 use hags_io::{Clock, Got, Link, MemSink, SysClock, UdpLink};
@@ -33,7 +33,7 @@ fn served_over<R: Net, M: Clock>(
     let status = ended::<DaemonClient, Objects, MemSink, UdpLink<'_, R>, M>(
         alloc,
         script,
-        25,
+        serving(25, false),
         &mut out,
         &mut link,
         clock,

@@ -69,7 +69,7 @@ impl ViewOut {
 
 /// One event. One that no rule uses is Ok, and leaves all as it was.
 #[tactic(auto, unfolding(crate::specs::Steps::view_rule))]
-fn take_event<L: OwnLists>(
+fn view_rule<L: OwnLists>(
     work: &mut ViewWork,
     alloc: Global,
     event: ViewEvent,
@@ -120,7 +120,7 @@ fn after_event<L: OwnLists>(
         sends: List::new(alloc),
         install: None,
     };
-    take_event(&mut work, alloc, event, lists)?;
+    view_rule(&mut work, alloc, event, lists)?;
     Ok(work)
 }
 
