@@ -40,6 +40,10 @@ pub step_who : (f : Answering) (e : NodeEvent) (d : Daemon) → ((stepped_by f e
 unfolding stepped_for left_for
 step_who f e d = (refl, refl)
 
+-- no send
+abbrev pub IsNoSend : Exchange → Type 0
+IsNoSend x = (x.of ≡ None) × ((b : List ℕ) → IsSend b x.call → ⊥)
+
 module _ (c : Config) (net : Net) (es : List Answered) (w : World) (k : Stand c net es w) (n : ℕ) (d : Daemon) (at : net.daemons n ≡ Some d) where
   pub own_up : IsUp k.wires.messages n (net.incarnations n) d
   own_up = subst (IsUpIf k.wires.messages n (net.incarnations n)) at (k.wires.up n)
@@ -152,10 +156,6 @@ module _ (c : Config) (net : Net) (es : List Answered) (w : World) (k : Stand c 
           wire = ap (λ xs. net.wire ++ xs) (made_is d (stepped_by f e d) new refl)
 
   -- ---- only the daemon changes
-
-  -- it sends nothing
-  abbrev pub IsNoSend : Exchange → Type 0
-  IsNoSend x = (x.of ≡ None) × ((b : List ℕ) → IsSend b x.call → ⊥)
 
   module _ (e : Daemon) (core : e.core ≡ d.core) (me : e.me ≡ d.me) (inc : e.incarnation ≡ d.incarnation) (number : e.number ≡ d.number) (joined : IsJoinedOf k.wires.messages e.joining) (alone : IsAlone e) (quiet : (x : Exchange) → Among x (made_since d e) → IsNoSend x) (still : noted_since d e ≡ []) where
     abbrev more : List Exchange

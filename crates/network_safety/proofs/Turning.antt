@@ -125,6 +125,7 @@ module _ (net : Net) (w : World) (k : Wires net w) (j : Joining) (own_joined : I
       subst (Comes net w) (sym (answered_at_once j b q e h.0)) (record { wires = k; joined = own_joined; known = asks_known w q.text h.1 })
 
   sent_comes : (b : List ℕ) (x : Exchange) → Among x net.wire → IsSend b x.call → (o : Option Numbered) → x.of ≡ o → IsSpelledIf o → Comes net w (taken j b)
+  unfolding learned
   sent_comes b x among send None e spelled = absurd (subst (IsMade net w x.call) e (k.made x among) b send)
   sent_comes b x among send (Some n) e spelled =
       let piece : IsPiece net w n x.call = subst (IsMade net w x.call) e (k.made x among) in
