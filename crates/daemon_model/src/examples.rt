@@ -66,7 +66,8 @@ pub fn tells_places()
 /// same Up once more is no second call: it brings the same Down, as the next message.
 #[tactic(auto, unfolding(crate::specs::Opens::all_opens))]
 pub fn serves_a_client_once()
-    ensures calls { calls_of (server_after (1 ∷ []) (given_at 0 (up_piece 1 1 (codes "client 1 a -"))
+    ensures calls { calls_of (server_after (1 ∷ [])
+        (given_at 0 (up_piece 1 1 (codes "client 1 a -"))
         ∷ given_at 0 (up_piece 2 1 (codes "client 1 a -")) ∷ []))
         ≡ call.Received 1 (up_piece 1 1 (codes "client 1 a -"))
         ∷ call.Sent 0 1 (down_piece 1 1 answer.Taken []) true
@@ -77,7 +78,8 @@ pub fn serves_a_client_once()
 /// A first call that is none of a client of this node is refused without a step.
 #[tactic(auto, unfolding(crate::specs::Opens::all_opens))]
 pub fn turns_down_a_call()
-    ensures { calls_of (server_after (1 ∷ []) (given_at 0 (up_piece 1 1 (codes "client 2 a -")) ∷ []))
+    ensures { calls_of (server_after (1 ∷ [])
+        (given_at 0 (up_piece 1 1 (codes "client 2 a -")) ∷ []))
         ≡ call.Received 1 (up_piece 1 1 (codes "client 2 a -"))
         ∷ call.Sent 0 1 (down_piece 1 1 answer.Refused []) true ∷ [] }
 {}
@@ -97,6 +99,7 @@ pub fn tells_what_is_refused()
 /// Without clients on other machines an Up is bytes that are no packet: nothing comes of it.
 #[tactic(auto, unfolding(crate::specs::Opens::all_opens))]
 pub fn serves_nobody_unasked()
-    ensures { calls_of (daemon_after (1 ∷ []) (given_at 0 (up_piece 1 1 (codes "client 1 a -")) ∷ []))
+    ensures { calls_of (daemon_after (1 ∷ [])
+        (given_at 0 (up_piece 1 1 (codes "client 1 a -")) ∷ []))
         ≡ call.Received 1 (up_piece 1 1 (codes "client 1 a -")) ∷ [] }
 {}
