@@ -6,7 +6,7 @@ use Rattle.hags_io.specs.Links.{Counts}
 use Rattle.hags_io.specs.declared.link.LinkCall.{LinkCall}
 use Rattle.node_state.specs.declared.state.Core.{Core}
 use Rattle.world_model.specs.declared.script.Script.{Script}
-use Rattle.daemon_model.specs.Sent.{Went, WentFront}
+use Rattle.daemon_model.specs.Sent.{Made, MadeFront}
 use Rattle.daemon_model.specs.Daemon.{Daemon, Life, Turn, opening_calls, own_calls, life_moments, begun_for, opened_all, turned, lived, records_text}
 
 -- so many receives that fail in a row end a daemon
@@ -25,21 +25,23 @@ abbrev pub GoesOn : Daemon → List Turn → Type 0
 GoesOn d [] = Unit {0}
 GoesOn d (t ∷ ts) = ((turned d t).failed < most_failed) × GoesOn (turned d t) ts
 
--- The daemon lived this life, whose calls are those of the settings, and served clients on other machines or not: the clock was read at its moments, the link's list
--- grew by what it receives and sends, and the lines of its records were written.
+-- The daemon lived this life, whose calls are those of the settings, and served clients on other machines or not: the clock
+-- was read at its moments, the link's list grew by what it receives and sends, each packet of that is spelled, and the
+-- lines of its records were written.
 pub record Lived (script : Script) (me incarnation : ℕ) (remote : Bool) (life : Life) (a b : Option (List LinkCall)) (x y : Option (List ℕ)) (u v : Option (List ℕ)) : Type 0 where
   pub serves : life.remote ≡ remote
   pub opening : opening_calls life ≡ own_calls me script.lines
   pub moments : Counts u v (life_moments life)
-  pub went : Went a b (last_of script me incarnation life).calls
+  pub made : Made a b (last_of script me incarnation life).calls
   pub written : Appends x y (records_text (last_of script me incarnation life).records)
 
--- It broke off on the way: of what is received and sent, and of the lines, there is a front.
+-- It broke off on the way: of what is received and sent, and of the lines, there is a front. Each packet of which a piece
+-- was sent is spelled.
 pub record LivedFront (script : Script) (me incarnation : ℕ) (remote : Bool) (life : Life) (a b : Option (List LinkCall)) (x y : Option (List ℕ)) (u v : Option (List ℕ)) : Type 0 where
   pub serves : life.remote ≡ remote
   pub opening : opening_calls life ≡ own_calls me script.lines
   pub moments : Counts u v (life_moments life)
-  pub went : WentFront a b (last_of script me incarnation life).calls
+  pub made : MadeFront a b (last_of script me incarnation life).calls
   pub front : GrowsByFront x y (records_text (last_of script me incarnation life).records)
 
 -- it did all its turns, and its node is in this state

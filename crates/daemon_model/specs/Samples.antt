@@ -1,5 +1,5 @@
 -- Small lives of a daemon, for worked examples: node 1 in incarnation 5, at port 4000, without clients.
-use Rattle.std.specs.Prelude.{ℕ, Bool, true, false, List, [], codes, replicate, slice_index_or, Some, None}
+use Rattle.std.specs.Prelude.{ℕ, Bool, true, false, List, [], map, codes, replicate, slice_index_or, Some, None}
 use Rattle.hags_io.specs.declared.link.LinkCall.{LinkCall}
 use Rattle.hags_io.specs.declared.link.LinkCall.TheVariants as call
 use Rattle.piece_link.specs.Pieces.{message_by, pieces_of}
@@ -14,6 +14,7 @@ use Rattle.node_state.specs.HandOn.{Answering}
 use Rattle.world_model.specs.Load.{settings_of}
 use Rattle.remote_session.specs.declared.messages.Answer.{Answer}
 use Rattle.remote_session.specs.Messages.{up_text, down_text}
+use Rattle.daemon_model.specs.Sent.{call_of}
 use Rattle.daemon_model.specs.Daemon.{Daemon, Turn, lived}
 
 unfoldable pub settings_for : List ℕ → Config
@@ -42,6 +43,10 @@ failed_at moment = turn_at moment call.Failed
 
 unfoldable pub given_at : ℕ → List ℕ → Turn
 given_at moment piece = turn_at moment (call.Received 1 piece)
+
+-- what was received and sent
+abbrev pub calls_of : Daemon → List LinkCall
+calls_of d = map call_of d.calls
 
 abbrev pub is_send : LinkCall → Bool
 is_send (call.Sent node network bytes out) = true

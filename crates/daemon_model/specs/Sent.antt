@@ -1,11 +1,11 @@
 -- What a daemon sends: each packet in pieces. And how what a link tells compares with that: a send that fails is a lost packet.
-use Rattle.std.specs.Prelude.{◌≡◌, ℕ, ◌+◌, ◌==◌, ◌&&◌, not, Bool, true, false, List, [], ◌∷◌, ◌++◌, map, Option}
+use Rattle.std.specs.Prelude.{◌≡◌, ℕ, ◌+◌, ◌<◌, ◌^◌, ◌==◌, ◌&&◌, not, Bool, true, false, List, [], ◌∷◌, ◌++◌, map, Option, Some, None}
 use Rattle.hags_io.specs.declared.link.LinkCall.{LinkCall}
 use Rattle.hags_io.specs.declared.link.LinkCall.TheVariants as call
 use Rattle.hags_io.specs.Links.{Grows}
 use Rattle.piece_link.specs.Pieces.{can_cut, message_by, pieces_of}
 use Rattle.node_state.specs.declared.packet.Packet.{Packet}
-use Rattle.node_state.specs.Bytes.{bytes_of}
+use Rattle.node_state.specs.Bytes.{packet_of, bytes_of}
 
 -- ---- packets in pieces
 
@@ -53,11 +53,41 @@ carried_calls me incarnation number p =
 unfoldable pub number_over : ℕ → Packet → ℕ
 number_over number p = number_if (goes_out p) number
 
+-- ---- what a daemon does at its link
+
+-- a packet as the message of this number of a node in an incarnation
+pub record Numbered : Type 0 where
+  pub sender : ℕ
+  pub incarnation : ℕ
+  pub number : ℕ
+  pub packet : Packet
+
+-- a receive or a send, and of which packet it is a piece, if it is of one
+pub record Exchange : Type 0 where
+  pub call : LinkCall
+  pub of : Option Numbered
+
+abbrev pub plain : LinkCall → Exchange
+plain c = record { call = c; of = None }
+
+abbrev pub piece_of : Numbered → LinkCall → Exchange
+piece_of n c = record { call = c; of = Some n }
+
+abbrev pub call_of : Exchange → LinkCall
+call_of x = x.call
+
+abbrev pub numbered : ℕ → ℕ → ℕ → Packet → Numbered
+numbered me incarnation number p = record { sender = me; incarnation = incarnation; number = number; packet = p }
+
+-- the pieces of a packet that goes out
+unfoldable pub carried : ℕ → ℕ → ℕ → Packet → List Exchange
+carried me incarnation number p = map (piece_of (numbered me incarnation number p)) (carried_calls me incarnation number p)
+
 -- packets in their order, each with the next number; and the number after them
-unfoldable pub sent_calls : ℕ → ℕ → ℕ → List Packet → List LinkCall
+unfoldable pub sent_calls : ℕ → ℕ → ℕ → List Packet → List Exchange
 sent_calls me incarnation number [] = []
 sent_calls me incarnation number (p ∷ ps) =
-    carried_calls me incarnation number p ++ sent_calls me incarnation (number_over number p) ps
+    carried me incarnation number p ++ sent_calls me incarnation (number_over number p) ps
 
 unfoldable pub number_after : ℕ → List Packet → ℕ
 number_after number [] = number
@@ -85,7 +115,35 @@ pub record WentFront (before after : Option (List LinkCall)) (more : List LinkCa
   pub told : Grows before after calls
   pub are : map as_sent calls ++ back ≡ more
 
+-- ---- what a daemon makes of them
+
+-- a packet that is read again as itself, with a number that fits its field
+pub record IsSpelled (n : Numbered) : Type 0 where
+  pub fits : n.number < 2 ^ 64
+  pub read : packet_of (bytes_of n.packet) ≡ Some n.packet
+
+-- a piece of a packet is of one that is spelled
+abbrev pub IsSpelledIf : Option Numbered → Type 0
+IsSpelledIf None = Unit {0}
+IsSpelledIf (Some n) = IsSpelled n
+
+abbrev pub AllSpelled : List Exchange → Type 0
+AllSpelled [] = Unit {0}
+AllSpelled (x ∷ xs) = IsSpelledIf x.of × AllSpelled xs
+
+-- the link's list grew by these, whether the sends among them went out or not; and each packet among them is spelled
+pub record Made (before after : Option (List LinkCall)) (more : List Exchange) : Type 0 where
+  pub went : Went before after (map call_of more)
+  pub spelled : AllSpelled more
+
+-- it grew by a front of these
+pub record MadeFront (before after : Option (List LinkCall)) (more : List Exchange) : Type 0 where
+  pub front : List Exchange
+  pub back : List Exchange
+  pub whole : front ++ back ≡ more
+  pub made : Made before after front
+
 -- opens each word of this file, for a computation
 unfoldable pub sent_opens : Unit {0}
-unfolding packet_calls number_past carried_calls number_over sent_calls number_after
+unfolding packet_calls number_past carried_calls number_over carried sent_calls number_after
 sent_opens = tt

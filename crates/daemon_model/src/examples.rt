@@ -5,14 +5,14 @@ ghost use Rattle.hags_io.specs.Places.{no_places, told_place, with_place};
 ghost use Rattle.remote_session.specs.declared.messages.Answer.TheVariants as answer;
 ghost use Rattle.daemon_model.specs.Daemon.{records_text};
 ghost use Rattle.daemon_model.specs.Settings.{all_places};
-ghost use Rattle.daemon_model.specs.Samples.{settings_for, daemon_after, server_after, up_piece, down_piece, quiet_at, failed_at, given_at, is_send, piece_of_question, piece_of_answer, long_piece, progress};
+ghost use Rattle.daemon_model.specs.Samples.{settings_for, daemon_after, server_after, calls_of, up_piece, down_piece, quiet_at, failed_at, given_at, is_send, piece_of_question, piece_of_answer, long_piece, progress};
 
 /// A node alone starts, is in its first view, and sends nothing.
 #[tactic(auto, unfolding(crate::specs::Opens::all_opens))]
 pub fn begins_alone()
     ensures records { records_text (daemon_after (1 ∷ []) (quiet_at 0 ∷ quiet_at 0 ∷ [])).records
         ≡ codes "up 1 5\nring 1 1 1.5.1 1 1\nin 1 1.1.5 1.5\n" }
-    ensures calls { (daemon_after (1 ∷ []) (quiet_at 0 ∷ quiet_at 0 ∷ [])).calls
+    ensures calls { calls_of (daemon_after (1 ∷ []) (quiet_at 0 ∷ quiet_at 0 ∷ []))
         ≡ call.Quiet ∷ call.Quiet ∷ [] }
 {}
 
@@ -20,8 +20,8 @@ pub fn begins_alone()
 /// the other node, of the next number.
 #[tactic(auto, unfolding(crate::specs::Opens::all_opens))]
 pub fn ticks_when_due()
-    ensures calls { map is_send (daemon_after (1 ∷ 2 ∷ [])
-        (quiet_at 0 ∷ quiet_at 99 ∷ quiet_at 100 ∷ quiet_at 199 ∷ quiet_at 200 ∷ [])).calls
+    ensures calls { map is_send (calls_of (daemon_after (1 ∷ 2 ∷ [])
+        (quiet_at 0 ∷ quiet_at 99 ∷ quiet_at 100 ∷ quiet_at 199 ∷ quiet_at 200 ∷ [])))
         ≡ false ∷ false ∷ true ∷ false ∷ false ∷ true ∷ false ∷ [] }
     ensures number { (daemon_after (1 ∷ 2 ∷ [])
         (quiet_at 0 ∷ quiet_at 99 ∷ quiet_at 100 ∷ quiet_at 199 ∷ quiet_at 200 ∷ [])).number ≡ 3 }
@@ -32,7 +32,7 @@ pub fn ticks_when_due()
 /// A question of a status client is answered at once, to sender 0, on its network.
 #[tactic(auto, unfolding(crate::specs::Opens::all_opens))]
 pub fn tells_a_status_client()
-    ensures { (daemon_after (1 ∷ []) (given_at 0 piece_of_question ∷ [])).calls
+    ensures { calls_of (daemon_after (1 ∷ []) (given_at 0 piece_of_question ∷ []))
         ≡ call.Received 1 piece_of_question ∷ call.Sent 0 1 piece_of_answer true ∷ [] }
 {}
 
@@ -66,8 +66,9 @@ pub fn tells_places()
 /// same Up once more is no second call: it brings the same Down, as the next message.
 #[tactic(auto, unfolding(crate::specs::Opens::all_opens))]
 pub fn serves_a_client_once()
-    ensures calls { (server_after (1 ∷ []) (given_at 0 (up_piece 1 1 (codes "client 1 a -"))
-        ∷ given_at 0 (up_piece 2 1 (codes "client 1 a -")) ∷ [])).calls
+    ensures calls { calls_of (server_after (1 ∷ [])
+        (given_at 0 (up_piece 1 1 (codes "client 1 a -"))
+        ∷ given_at 0 (up_piece 2 1 (codes "client 1 a -")) ∷ []))
         ≡ call.Received 1 (up_piece 1 1 (codes "client 1 a -"))
         ∷ call.Sent 0 1 (down_piece 1 1 answer.Taken []) true
         ∷ call.Received 1 (up_piece 2 1 (codes "client 1 a -"))
@@ -77,7 +78,8 @@ pub fn serves_a_client_once()
 /// A first call that is none of a client of this node is refused without a step.
 #[tactic(auto, unfolding(crate::specs::Opens::all_opens))]
 pub fn turns_down_a_call()
-    ensures { (server_after (1 ∷ []) (given_at 0 (up_piece 1 1 (codes "client 2 a -")) ∷ [])).calls
+    ensures { calls_of (server_after (1 ∷ [])
+        (given_at 0 (up_piece 1 1 (codes "client 2 a -")) ∷ []))
         ≡ call.Received 1 (up_piece 1 1 (codes "client 2 a -"))
         ∷ call.Sent 0 1 (down_piece 1 1 answer.Refused []) true ∷ [] }
 {}
@@ -85,8 +87,8 @@ pub fn turns_down_a_call()
 /// What a call of a key refuses goes to its client, which hears why.
 #[tactic(auto, unfolding(crate::specs::Opens::all_opens))]
 pub fn tells_what_is_refused()
-    ensures { (server_after (1 ∷ []) (given_at 0 (up_piece 1 1 (codes "client 1 a -"))
-        ∷ given_at 0 (up_piece 2 2 (codes "leave a db 1")) ∷ [])).calls
+    ensures { calls_of (server_after (1 ∷ []) (given_at 0 (up_piece 1 1 (codes "client 1 a -"))
+        ∷ given_at 0 (up_piece 2 2 (codes "leave a db 1")) ∷ []))
         ≡ call.Received 1 (up_piece 1 1 (codes "client 1 a -"))
         ∷ call.Sent 0 1 (down_piece 1 1 answer.Taken []) true
         ∷ call.Received 1 (up_piece 2 2 (codes "leave a db 1"))
@@ -97,6 +99,7 @@ pub fn tells_what_is_refused()
 /// Without clients on other machines an Up is bytes that are no packet: nothing comes of it.
 #[tactic(auto, unfolding(crate::specs::Opens::all_opens))]
 pub fn serves_nobody_unasked()
-    ensures { (daemon_after (1 ∷ []) (given_at 0 (up_piece 1 1 (codes "client 1 a -")) ∷ [])).calls
+    ensures { calls_of (daemon_after (1 ∷ [])
+        (given_at 0 (up_piece 1 1 (codes "client 1 a -")) ∷ []))
         ≡ call.Received 1 (up_piece 1 1 (codes "client 1 a -")) ∷ [] }
 {}

@@ -12,7 +12,7 @@ use Rattle.node_state.specs.declared.happened.Happened.{Happened}
 use Rattle.node_state.specs.Step.{Calls, at_work}
 use Rattle.world_model.specs.declared.script.Line.{Line}
 use Rattle.world_model.specs.declared.script.Script.{Script}
-use Rattle.daemon_model.specs.Sent.{Went, WentFront}
+use Rattle.daemon_model.specs.Sent.{Exchange, Made, MadeFront}
 use Rattle.daemon_model.specs.Daemon.{Daemon, Opening, left_for, begun_for, stepped_by, opened, opened_all, own_call, own_calls, records_text}
 use Rattle.daemon_run.specs.Hosting.{Known}
 use Rattle.daemon_run.specs.declared.hosted.Hosted.{Hosted}
@@ -20,7 +20,8 @@ use Rattle.daemon_run.specs.declared.running.Running.{Running}
 use Rattle.daemon_run.specs.Audience.{Audience, StepHands, OpeningHands}
 use Rattle.daemon_run.specs.Doing.{daemon_of, Passes, Goes, Broke, Breaks, Settles, SettlesFront, StepsAs, StepBreaks}
 use Rattle.daemon_run.specs.Calling.{calls_in, CallsAs, CallsBreak, fresh_running, Reached, Stopped, BeginsAs, BeginBreaks}
-use Rattle.daemon_run.proofs.WentLaws.{next_item, went_on, none_went, went_front_on, went_front_more}
+use Rattle.daemon_run.proofs.WentLaws.{next_item}
+use Rattle.daemon_run.proofs.MadeLaws.{made_on, none_made, made_front_on, made_front_more}
 use Rattle.daemon_run.proofs.GoesLaws.{Adds, attends_on, adds_none, adds_on, all_taken, goes_none, goes_on, goes_as, breaks_as, breaks_on, breaks_more, written_on, none_front, front_on, front_more}
 use Rattle.daemon_run.proofs.StepLaws.{silent, adds_step, settled_is}
 
@@ -72,9 +73,9 @@ unfolding unanswered
 unanswered_are [] = refl
 unanswered_are (c ∷ cs) = ap (λ t. c ∷ t) (unanswered_are cs)
 
-stopped_at : (d e : Daemon) (a b c : Option (List LinkCall)) (x y z : Option (List ℕ)) → Went a b d.calls → Appends x y (records_text d.records) → Broke d.calls d.records b c y z e → Stopped e a c x z
+stopped_at : (d e : Daemon) (a b c : Option (List LinkCall)) (x y z : Option (List ℕ)) → Made a b d.calls → Appends x y (records_text d.records) → Broke d.calls d.records b c y z e → Stopped e a c x z
 stopped_at d e a b c x y z p v q = record {
-  went = subst (WentFront a c) (sym q.called) (went_front_on a b c d.calls q.calls p q.went);
+  made = subst (MadeFront a c) (sym q.called) (made_front_on a b c d.calls q.calls p q.made);
   front = subst (λ (rs : List Happened). GrowsByFront x z (records_text rs)) (sym q.recorded) (front_on x y z d.records q.records v q.front);
 }
 
@@ -159,25 +160,25 @@ module _ {C : Type 0} where
   pub reached_first : (remote : Bool) (c : Config) (me inc moment : ℕ) (s : Running C) (a b : Option (List LinkCall)) (x y : Option (List ℕ)) → Settles None (fresh_running remote c me inc moment) s a b x y → Reached (begun_for remote c me inc moment) s a b x y
   unfolding begun_for left_for
   reached_first remote c me inc moment s a b x y h =
-      record { is = settled_is None (fresh_running remote c me inc moment) s a b x y h [] []; went = h.went; written = h.written }
+      record { is = settled_is None (fresh_running remote c me inc moment) s a b x y h [] []; made = h.made; written = h.written }
 
   pub stopped_first : (remote : Bool) (c : Config) (me inc moment : ℕ) (a b : Option (List LinkCall)) (x y : Option (List ℕ)) → SettlesFront (fresh_running {C = C} remote c me inc moment) a b x y → Stopped (begun_for remote c me inc moment) a b x y
   unfolding begun_for left_for
-  stopped_first remote c me inc moment a b x y h = record { went = h.went; front = h.front }
+  stopped_first remote c me inc moment a b x y h = record { made = h.made; front = h.front }
 
-  reached_at : (d e : Daemon) (t : Running C) (calls : List LinkCall) (records : List Happened) (a b c : Option (List LinkCall)) (x y z : Option (List ℕ)) → e ≡ daemon_of t (d.calls ++ calls) (d.records ++ records)
-      → Went a b d.calls → Went b c calls → Appends x y (records_text d.records) → Appends y z (records_text records) → Reached e t a c x z
+  reached_at : (d e : Daemon) (t : Running C) (calls : List Exchange) (records : List Happened) (a b c : Option (List LinkCall)) (x y z : Option (List ℕ)) → e ≡ daemon_of t (d.calls ++ calls) (d.records ++ records)
+      → Made a b d.calls → Made b c calls → Appends x y (records_text d.records) → Appends y z (records_text records) → Reached e t a c x z
   reached_at d e t calls records a b c x y z is p q v w = rw is (record {
     is = refl;
-    went = went_on a b c d.calls calls p q;
+    made = made_on a b c d.calls calls p q;
     written = written_on x y z d.records records v w;
   })
 
   pub reached_on : (d : Daemon) (s t : Running C) (f : Daemon → Daemon) (a b c : Option (List LinkCall)) (x y z : Option (List ℕ)) → Reached d s a b x y → Goes s t b c y z f → Reached (f d) t a c x z
-  reached_on d s t f a b c x y z p q = reached_at d (f d) t q.calls q.records a b c x y z (ap f p.is ∙ q.is d.calls d.records) p.went q.went p.written q.written
+  reached_on d s t f a b c x y z p q = reached_at d (f d) t q.calls q.records a b c x y z (ap f p.is ∙ q.is d.calls d.records) p.made q.made p.written q.written
 
   pub stopped_on : (d : Daemon) (s : Running C) (f : Daemon → Daemon) (a b c : Option (List LinkCall)) (x y z : Option (List ℕ)) → Reached d s a b x y → Breaks s b c y z f → Stopped (f d) a c x z
-  stopped_on d s f a b c x y z p q = stopped_at d (f d) a b c x y z p.went p.written (subst (λ (e : Daemon). Broke d.calls d.records b c y z (f e)) (sym p.is) (q d.calls d.records))
+  stopped_on d s f a b c x y z p q = stopped_at d (f d) a b c x y z p.made p.written (subst (λ (e : Daemon). Broke d.calls d.records b c y z (f e)) (sym p.is) (q d.calls d.records))
 
   -- ---- it begins
 
@@ -210,7 +211,7 @@ module _ {C : Type 0} where
 
 pub stopped_more : (d e : Daemon) (a b : Option (List LinkCall)) (x y : Option (List ℕ)) → Stopped d a b x y → Adds d e → Stopped e a b x y
 stopped_more d e a b x y p q = record {
-  went = subst (WentFront a b) (sym q.called) (went_front_more a b d.calls q.calls p.went);
+  made = subst (MadeFront a b) (sym q.called) (made_front_more a b d.calls q.calls p.made);
   front = subst (λ (rs : List Happened). GrowsByFront x y (records_text rs)) (sym q.recorded) (front_more x y d.records q.records p.front);
 }
 
@@ -222,7 +223,7 @@ begins_stopped remote script me inc moment a b x y h = record {
 }
 
 pub stopped_none : (d : Daemon) (a : Option (List LinkCall)) (x : Option (List ℕ)) → Stopped d a a x x
-stopped_none d a x = record { went = none_went a d.calls; front = none_front x (records_text d.records) }
+stopped_none d a x = record { made = none_made a d.calls; front = none_front x (records_text d.records) }
 
 pub begins_none : (remote : Bool) (script : Script) (me inc moment : ℕ) (a : Option (List LinkCall)) (x : Option (List ℕ)) → BeginBreaks remote script me inc moment a a x x
 begins_none remote script me inc moment a x = begins_stopped remote script me inc moment a a x x (stopped_none (begun_for remote script.config me inc moment) a x)

@@ -1,5 +1,5 @@
 -- How a daemon's whole life comes together.
-use Rattle.std.proofs.Common.{◌≡◌, ℕ, ◌≤◌, Bool, true, false, List, [], ◌∷◌, Option, Some, None, refl, sym, ap, subst, arith}
+use Rattle.std.proofs.Common.{◌≡◌, ℕ, ◌≤◌, Bool, true, false, List, [], ◌∷◌, map, Option, Some, None, refl, sym, ap, subst, arith}
 use Rattle.hags_io.specs.declared.link.LinkCall.{LinkCall}
 use Rattle.hags_io.specs.Links.{Counts, Grows}
 use Rattle.client_callbacks.specs.declared.votes.VoteItem.{VoteItem}
@@ -8,7 +8,7 @@ use Rattle.node_core.specs.Node.{NodeView}
 use Rattle.node_state.specs.declared.state.Core.{Core}
 use Rattle.node_state.specs.Step.{at_work}
 use Rattle.world_model.specs.declared.script.Script.{Script}
-use Rattle.daemon_model.specs.Sent.{Went, WentFront}
+use Rattle.daemon_model.specs.Sent.{Exchange, call_of, Went, Made, MadeFront}
 use Rattle.daemon_model.specs.Daemon.{Daemon, Life, Turn, begun_for, opened_all, turned_all, lived, turn_moments}
 use Rattle.daemon_model.specs.Lives.{GoesOn, Lived, ServesAs, ServesTo, ServesFront, most_failed}
 use Rattle.daemon_run.specs.declared.hosted.Hosted.{Hosted}
@@ -28,7 +28,7 @@ pub serves_none : (remote : Bool) (script : Script) (me inc moment turns : ℕ) 
 unfolding lived turned_all
 serves_none remote script me inc moment turns a b x y u v at h = record {
   life = record { remote = remote; start = moment; opening = h.opening; turns = [] };
-  lived = record { serves = refl; opening = h.are; moments = at; went = h.stopped.went; front = h.stopped.front };
+  lived = record { serves = refl; opening = h.are; moments = at; made = h.stopped.made; front = h.stopped.front };
   at_most = omega arith;
 }
 
@@ -41,7 +41,7 @@ module _ {C : Type 0} where
     serves = refl;
     opening = h.are;
     moments = counts_on u v w (moment ∷ []) (turn_moments turns) at moments;
-    went = r.went;
+    made = r.made;
     written = r.written;
   }
 
@@ -104,7 +104,7 @@ module _ {C : Type 0} where
       let r = stopped_on d s (λ e. turned_all e q.turns) a b c x y z h.reached q.breaks in
       record {
         life = record { remote = remote; start = moment; opening = h.opening; turns = q.turns };
-        lived = record { serves = refl; opening = h.are; moments = counts_on u v w (moment ∷ []) (turn_moments q.turns) at q.moments; went = r.went; front = r.front };
+        lived = record { serves = refl; opening = h.are; moments = counts_on u v w (moment ∷ []) (turn_moments q.turns) at q.moments; made = r.made; front = r.front };
         at_most = q.at_most;
       }
 
@@ -146,11 +146,14 @@ grows_before (Some ys) q b xs h p = let at : Grows (Some ys) b xs = subst (λ o.
 pub went_before : (a q b : Option (List LinkCall)) (xs : List LinkCall) → Same a q → Went q b xs → Went a b xs
 went_before a q b xs h w = record { calls = w.calls; told = grows_before a q b w.calls h w.told; are = w.are }
 
-went_front_before : (a q b : Option (List LinkCall)) (xs : List LinkCall) → Same a q → WentFront q b xs → WentFront a b xs
-went_front_before a q b xs h w = record { calls = w.calls; back = w.back; told = grows_before a q b w.calls h w.told; are = w.are }
+made_before : (a q b : Option (List LinkCall)) (xs : List Exchange) → Same a q → Made q b xs → Made a b xs
+made_before a q b xs h m = record { went = went_before a q b (map call_of xs) h m.went; spelled = m.spelled }
+
+made_front_before : (a q b : Option (List LinkCall)) (xs : List Exchange) → Same a q → MadeFront q b xs → MadeFront a b xs
+made_front_before a q b xs h m = record { front = m.front; back = m.back; whole = m.whole; made = made_before a q b m.front h m.made }
 
 pub lived_before : (remote : Bool) (script : Script) (me inc : ℕ) (life : Life) (a q b : Option (List LinkCall)) (x y u v : Option (List ℕ)) → Same a q → Lived script me inc remote life q b x y u v → Lived script me inc remote life a b x y u v
-lived_before remote script me inc life a q b x y u v h l = record { serves = l.serves; opening = l.opening; moments = l.moments; went = went_before a q b _ h l.went; written = l.written }
+lived_before remote script me inc life a q b x y u v h l = record { serves = l.serves; opening = l.opening; moments = l.moments; made = made_before a q b _ h l.made; written = l.written }
 
 unfoldable pub serves_all_before : (remote : Bool) (script : Script) (me inc turns : ℕ) (core : Core) (a q b : Option (List LinkCall)) (x y u v : Option (List ℕ)) → Same a q → ServesAs script me inc remote turns core q b x y u v → ServesAs script me inc remote turns core a b x y u v
 serves_all_before remote script me inc turns core a q b x y u v h p =
@@ -169,6 +172,6 @@ serves_to_before remote script me inc turns a q b x y u v h p =
 pub serves_front_before : (remote : Bool) (script : Script) (me inc turns : ℕ) (a q b : Option (List LinkCall)) (x y u v : Option (List ℕ)) → Same a q → ServesFront script me inc remote turns q b x y u v → ServesFront script me inc remote turns a b x y u v
 serves_front_before remote script me inc turns a q b x y u v h p = record {
   life = p.life;
-  lived = record { serves = p.lived.serves; opening = p.lived.opening; moments = p.lived.moments; went = went_front_before a q b _ h p.lived.went; front = p.lived.front };
+  lived = record { serves = p.lived.serves; opening = p.lived.opening; moments = p.lived.moments; made = made_front_before a q b _ h p.lived.made; front = p.lived.front };
   at_most = p.at_most;
 }

@@ -9,14 +9,14 @@ use Rattle.hags_io.specs.Edges.{GrowsByFront}
 use Rattle.hags_io.specs.declared.link.LinkCall.{LinkCall}
 use Rattle.node_state.specs.declared.happened.Happened.{Happened}
 use Rattle.world_model.specs.Text.{line_of}
-use Rattle.daemon_model.specs.Sent.{Went, WentFront}
+use Rattle.daemon_model.specs.Sent.{Exchange, Made, MadeFront}
 use Rattle.daemon_model.specs.Daemon.{Daemon, records_text}
 use Rattle.daemon_run.specs.Hosting.{Known}
 use Rattle.daemon_run.specs.declared.hosted.Hosted.{Hosted}
 use Rattle.daemon_run.specs.declared.running.Running.{Running}
 use Rattle.daemon_run.specs.Audience.{Audience}
 use Rattle.daemon_run.specs.Doing.{daemon_of, Goes, Broke, Breaks, Passes, Attends}
-use Rattle.daemon_run.proofs.WentLaws.{went_nothing, went_on, went_front_on, went_front_more}
+use Rattle.daemon_run.proofs.MadeLaws.{made_nothing, made_on, made_front_on, made_front_more}
 
 -- ---- lines
 
@@ -79,7 +79,7 @@ front_more x y rs qs p = subst (GrowsByFront x y) (sym (text_append rs qs)) (fro
 -- ---- what a daemon does later adds to what it did, whatever it is
 
 pub record Adds (d e : Daemon) : Type 0 where
-  pub calls : List LinkCall
+  pub calls : List Exchange
   pub called : e.calls ≡ d.calls ++ calls
   pub records : List Happened
   pub recorded : e.records ≡ d.records ++ records
@@ -97,22 +97,22 @@ adds_on d e f p q = record {
 
 -- ---- what broke off, after something or before it
 
-broke_after : (before calls : List LinkCall) (noted records : List Happened) (a b c : Option (List LinkCall)) (x y z : Option (List ℕ)) (e : Daemon) → Went a b calls → Appends x y (records_text records)
+broke_after : (before calls : List Exchange) (noted records : List Happened) (a b c : Option (List LinkCall)) (x y z : Option (List ℕ)) (e : Daemon) → Made a b calls → Appends x y (records_text records)
     → Broke (before ++ calls) (noted ++ records) b c y z e → Broke before noted a c x z e
-broke_after before calls noted records a b c x y z e went written q = record {
+broke_after before calls noted records a b c x y z e made written q = record {
   calls = calls ++ q.calls;
   called = q.called ∙ append_assoc before calls q.calls;
-  went = went_front_on a b c calls q.calls went q.went;
+  made = made_front_on a b c calls q.calls made q.made;
   records = records ++ q.records;
   recorded = q.recorded ∙ append_assoc noted records q.records;
   front = front_on x y z records q.records written q.front;
 }
 
-broke_before : (before : List LinkCall) (noted : List Happened) (a b : Option (List LinkCall)) (x y : Option (List ℕ)) (d e : Daemon) → Broke before noted a b x y d → Adds d e → Broke before noted a b x y e
+broke_before : (before : List Exchange) (noted : List Happened) (a b : Option (List LinkCall)) (x y : Option (List ℕ)) (d e : Daemon) → Broke before noted a b x y d → Adds d e → Broke before noted a b x y e
 broke_before before noted a b x y d e p q = record {
   calls = p.calls ++ q.calls;
   called = q.called ∙ (ap (λ t. t ++ q.calls) p.called ∙ append_assoc before p.calls q.calls);
-  went = went_front_more a b p.calls q.calls p.went;
+  made = made_front_more a b p.calls q.calls p.made;
   records = p.records ++ q.records;
   recorded = q.recorded ∙ (ap (λ t. t ++ q.records) p.recorded ∙ append_assoc noted p.records q.records);
   front = front_more x y p.records q.records p.front;
@@ -126,7 +126,7 @@ module _ {C : Type 0} where
     calls = [];
     records = [];
     is = λ before noted. ap₂ (daemon_of r) (sym (append-nil before)) (sym (append-nil noted));
-    went = went_nothing a;
+    made = made_nothing a;
     written = nothing_written x;
   }
 
@@ -137,14 +137,14 @@ module _ {C : Type 0} where
     is = λ before noted.
         ap g (p.is before noted)
         ∙ (q.is (before ++ p.calls) (noted ++ p.records) ∙ ap₂ (daemon_of t) (append_assoc before p.calls q.calls) (append_assoc noted p.records q.records));
-    went = went_on a b c p.calls q.calls p.went q.went;
+    made = made_on a b c p.calls q.calls p.made q.made;
     written = written_on x y z p.records q.records p.written q.written;
   }
 
   -- the same thing said otherwise
-  pub goes_as : (r q s : Running C) (a b : Option (List LinkCall)) (x y : Option (List ℕ)) (f g : Daemon → Daemon) → ((before : List LinkCall) (noted : List Happened) → f (daemon_of r before noted) ≡ g (daemon_of q before noted))
+  pub goes_as : (r q s : Running C) (a b : Option (List LinkCall)) (x y : Option (List ℕ)) (f g : Daemon → Daemon) → ((before : List Exchange) (noted : List Happened) → f (daemon_of r before noted) ≡ g (daemon_of q before noted))
       → Goes q s a b x y g → Goes r s a b x y f
-  goes_as r q s a b x y f g same p = record { calls = p.calls; records = p.records; is = λ before noted. same before noted ∙ p.is before noted; went = p.went; written = p.written }
+  goes_as r q s a b x y f g same p = record { calls = p.calls; records = p.records; is = λ before noted. same before noted ∙ p.is before noted; made = p.made; written = p.written }
 
   -- ---- what they hand
 
@@ -161,14 +161,14 @@ module _ {C : Type 0} where
 
   -- ---- parts that broke off
 
-  pub breaks_as : (r q : Running C) (a b : Option (List LinkCall)) (x y : Option (List ℕ)) (f g : Daemon → Daemon) → ((before : List LinkCall) (noted : List Happened) → f (daemon_of r before noted) ≡ g (daemon_of q before noted))
+  pub breaks_as : (r q : Running C) (a b : Option (List LinkCall)) (x y : Option (List ℕ)) (f g : Daemon → Daemon) → ((before : List Exchange) (noted : List Happened) → f (daemon_of r before noted) ≡ g (daemon_of q before noted))
       → Breaks q a b x y g → Breaks r a b x y f
   breaks_as r q a b x y f g same p = λ before noted. subst (Broke before noted a b x y) (sym (same before noted)) (p before noted)
 
   -- it broke off in the later part
   pub breaks_on : (r s : Running C) (a b c : Option (List LinkCall)) (x y z : Option (List ℕ)) (f g : Daemon → Daemon) → Goes r s a b x y f → Breaks s b c y z g → Breaks r a c x z (λ d. g (f d))
   breaks_on r s a b c x y z f g p q = λ before noted.
-      broke_after before p.calls noted p.records a b c x y z (g (f (daemon_of r before noted))) p.went p.written
+      broke_after before p.calls noted p.records a b c x y z (g (f (daemon_of r before noted))) p.made p.written
       (subst (λ d. Broke (before ++ p.calls) (noted ++ p.records) b c y z (g d)) (sym (p.is before noted)) (q (before ++ p.calls) (noted ++ p.records)))
 
   -- it broke off before
@@ -176,7 +176,7 @@ module _ {C : Type 0} where
   breaks_more r a b x y f g p q = λ before noted. broke_before before noted a b x y (f (daemon_of r before noted)) (g (f (daemon_of r before noted))) (p before noted) (q (f (daemon_of r before noted)))
 
   -- nothing of it was done
-  pub breaks_none : (r : Running C) (a b : Option (List LinkCall)) (x : Option (List ℕ)) (g : Daemon → Daemon) → ((more : List LinkCall) → WentFront a b more) → ((d : Daemon) → Adds d (g d)) → Breaks r a b x x g
+  pub breaks_none : (r : Running C) (a b : Option (List LinkCall)) (x : Option (List ℕ)) (g : Daemon → Daemon) → ((more : List Exchange) → MadeFront a b more) → ((d : Daemon) → Adds d (g d)) → Breaks r a b x x g
   breaks_none r a b x g none q = λ before noted.
       let h = q (daemon_of r before noted) in
-      record { calls = h.calls; called = h.called; went = none h.calls; records = h.records; recorded = h.recorded; front = none_front x (records_text h.records) }
+      record { calls = h.calls; called = h.called; made = none h.calls; records = h.records; recorded = h.recorded; front = none_front x (records_text h.records) }

@@ -1,5 +1,6 @@
 pub mod KeepLaws
 pub mod WentLaws
+pub mod MadeLaws
 pub mod GoesLaws
 pub mod HostLaws
 pub mod AudienceLaws

@@ -1,6 +1,6 @@
 -- What comes from clients on other machines.
 use Rattle.std.proofs.Common.{◌≡◌, if◌then◌else◌, ℕ, Bool, true, false, List, [], ◌∷◌, ◌++◌, Option, Some, None, refl, sym, ◌∙◌, ap, ap₂, subst, append-nil}
-use Rattle.std.specs.Prelude.{not, option_map}
+use Rattle.std.specs.Prelude.{not, map, option_map}
 use Rattle.hags_io.specs.declared.link.LinkCall.{LinkCall}
 use Rattle.node_state.specs.declared.call.CallLine.{CallLine}
 use Rattle.node_state.specs.declared.happened.Happened.{Happened}
@@ -12,14 +12,14 @@ use Rattle.remote_session.specs.Messages.{UpIn, up_of}
 use Rattle.remote_session.specs.Daemon.{RemoteState, SeenUp, NotUp, KeysFull, KnownKey, CallMade, max_keys, is_full_for, call_made, kept, up_seen_as, up_seen, up_taken_as, up_taken}
 use Rattle.remote_clients.specs.declared.sessions.Sessions.{Sessions}
 use Rattle.remote_clients.specs.Sessions.{is_refused, finished, turned_down}
-use Rattle.daemon_model.specs.Sent.{message_calls}
+use Rattle.daemon_model.specs.Sent.{Exchange, plain, message_calls}
 use Rattle.daemon_model.specs.Daemon.{Daemon, left_for, stepped_for, stepped_by, given, up_in, with_up, call_in, key_called, line_carried, called_by, down_in, down_sent, brought, given_on}
 use Rattle.daemon_run.specs.Hosting.{Known}
 use Rattle.daemon_run.specs.declared.hosted.Hosted.{Hosted}
 use Rattle.daemon_run.specs.declared.running.Running.{Running}
 use Rattle.daemon_run.specs.Audience.{Audience, StepHands, LineHands, BroughtHands, GivenHands}
 use Rattle.daemon_run.specs.Doing.{daemon_of, Goes, Breaks, Passes, Attends, StepsAs, StepBreaks, is_up_taken, CallsKey, CallKeyBreaks, GivesAs, GiveBreaks, KeySteps, Sends, SendsFront}
-use Rattle.daemon_run.proofs.WentLaws.{none_went}
+use Rattle.daemon_run.proofs.MadeLaws.{none_made, plain_made, plain_front}
 use Rattle.daemon_run.proofs.GoesLaws.{Adds, attends_on, adds_none, adds_on, goes_none, goes_on, goes_as, breaks_as, breaks_on, breaks_more, breaks_none, nothing_written, none_front}
 use Rattle.daemon_run.proofs.StepLaws.{silent, adds_left, adds_step}
 
@@ -39,7 +39,7 @@ adds_called key line f d = adds_line key (call_in d.sessions d.me key line) f d
 
 pub adds_down : (key network : ℕ) (d : Daemon) → Adds d (down_sent key network d)
 unfolding down_sent
-adds_down key network d = record { calls = message_calls d.me d.incarnation d.number 0 network (down_in d.sessions key); called = refl; records = []; recorded = sym (append-nil d.records) }
+adds_down key network d = record { calls = map plain (message_calls d.me d.incarnation d.number 0 network (down_in d.sessions key)); called = refl; records = []; recorded = sym (append-nil d.records) }
 
 adds_brought : (u : SeenUp) (network : ℕ) (message : List ℕ) (f : Answering) (d : Daemon) → Adds d (brought u network message f d)
 unfolding brought given
@@ -114,7 +114,7 @@ module _ {C : Type 0} where
     attends = λ before noted u. (u, subst (λ (o : Option CallLine). LineHands o silent (at_work r.node.core) u u) none refl, λ known held. subst (λ (t : Running C). A known t.node.clients u) (sym is) held);
   }
 
-  line_is : (r : Running C) (key : ℕ) (line : List ℕ) (c : CallLine) (refused : Bool) (f : Answering) → Some c ≡ call_in r.sessions r.me key line → refused ≡ is_refused (stepped f (at_work r.node.core) (Calls c)).records → (before : List LinkCall) (noted : List Happened)
+  line_is : (r : Running C) (key : ℕ) (line : List ℕ) (c : CallLine) (refused : Bool) (f : Answering) → Some c ≡ call_in r.sessions r.me key line → refused ≡ is_refused (stepped f (at_work r.node.core) (Calls c)).records → (before : List Exchange) (noted : List Happened)
       → called_by key line f (daemon_of r before noted) ≡ with_finished key c refused (stepped_for (Some key) f (Calls c) (daemon_of r before noted))
   unfolding called_by stepped_for
   line_is r key line c refused f some is before noted =
@@ -152,31 +152,31 @@ module _ {C : Type 0} where
   line_late r q key line c refused a b x y some h = record {
     answers = h.answers;
     breaks = breaks_as r r a b x y (called_by key line h.answers) (λ d. with_finished key c refused (stepped_for (Some key) h.answers (Calls c) d)) (line_is r key line c refused h.answers some h.was)
-        (breaks_on r q a b b x y y (stepped_for (Some key) h.answers (Calls c)) (with_finished key c refused) h.goes (breaks_none q b b y (with_finished key c refused) (none_went b) (λ d. adds_sessions d _)));
+        (breaks_on r q a b b x y y (stepped_for (Some key) h.answers (Calls c)) (with_finished key c refused) h.goes (breaks_none q b b y (with_finished key c refused) (none_made b) (λ d. adds_sessions d _)));
   }
 
   pub line_none : (r : Running C) (key : ℕ) (line : List ℕ) (a : Option (List LinkCall)) (x : Option (List ℕ)) → CallKeyBreaks r a a x x key line
-  line_none r key line a x = record { answers = silent; breaks = breaks_none r a a x (called_by key line silent) (none_went a) (adds_called key line silent) }
+  line_none r key line a x = record { answers = silent; breaks = breaks_none r a a x (called_by key line silent) (none_made a) (adds_called key line silent) }
 
   -- ---- the Down
 
   down_goes : (r s : Running C) (key network : ℕ) (a b : Option (List LinkCall)) (x : Option (List ℕ)) → Sends r s a b network (down_in r.sessions key) → Goes r s a b x x (down_sent key network)
   unfolding down_sent
   down_goes r s key network a b x h = record {
-    calls = message_calls r.me r.incarnation r.number 0 network (down_in r.sessions key);
+    calls = map plain (message_calls r.me r.incarnation r.number 0 network (down_in r.sessions key));
     records = [];
     is = λ before noted.
-        ap₂ (λ (t : Running C) (q : List Happened). daemon_of t (before ++ message_calls r.me r.incarnation r.number 0 network (down_in r.sessions key)) q) (sym h.is) (sym (append-nil noted));
-    went = h.went;
+        ap₂ (λ (t : Running C) (q : List Happened). daemon_of t (before ++ map plain (message_calls r.me r.incarnation r.number 0 network (down_in r.sessions key))) q) (sym h.is) (sym (append-nil noted));
+    made = plain_made a b (message_calls r.me r.incarnation r.number 0 network (down_in r.sessions key)) h.went;
     written = nothing_written x;
   }
 
   down_breaks : (r : Running C) (key network : ℕ) (a b : Option (List LinkCall)) (x : Option (List ℕ)) → SendsFront r a b network (down_in r.sessions key) → Breaks r a b x x (down_sent key network)
   unfolding down_sent
   down_breaks r key network a b x h = λ before noted. record {
-    calls = message_calls r.me r.incarnation r.number 0 network (down_in r.sessions key);
+    calls = map plain (message_calls r.me r.incarnation r.number 0 network (down_in r.sessions key));
     called = refl;
-    went = h.went;
+    made = plain_front a b (message_calls r.me r.incarnation r.number 0 network (down_in r.sessions key)) h.went;
     records = [];
     recorded = sym (append-nil noted);
     front = none_front x _;
@@ -185,7 +185,7 @@ module _ {C : Type 0} where
   -- ---- a message
 
   -- by what it is to the sessions
-  brought_is : (r : Running C) (u : SeenUp) (network : ℕ) (message : List ℕ) (f : Answering) → u ≡ up_in r.sessions message → (before : List LinkCall) (noted : List Happened)
+  brought_is : (r : Running C) (u : SeenUp) (network : ℕ) (message : List ℕ) (f : Answering) → u ≡ up_in r.sessions message → (before : List Exchange) (noted : List Happened)
       → given_on network (Some message) f (daemon_of r before noted) ≡ brought u network message f (daemon_of r before noted)
   unfolding given_on
   brought_is r u network message f is before noted = ap (λ (v : SeenUp). brought v network message f (daemon_of r before noted)) (sym is)
@@ -253,7 +253,7 @@ module _ {C : Type 0} where
   full_broke r key limit network message a b x is h = only_breaks r (KeysFull key limit) key network message a b x (full_only key limit) is h
 
   -- an Up with a call
-  call_is : (r : Running C) (key network : ℕ) (line message : List ℕ) (f : Answering) → CallMade key line ≡ up_in r.sessions message → (before : List LinkCall) (noted : List Happened)
+  call_is : (r : Running C) (key network : ℕ) (line message : List ℕ) (f : Answering) → CallMade key line ≡ up_in r.sessions message → (before : List Exchange) (noted : List Happened)
       → given_on network (Some message) f (daemon_of r before noted) ≡ down_sent key network (called_by key line f (with_up message (daemon_of r before noted)))
   unfolding brought
   call_is r key network line message f is before noted = brought_is r (CallMade key line) network message f is before noted
@@ -289,4 +289,4 @@ module _ {C : Type 0} where
 
   -- the sessions had no memory for it
   pub give_none : (r : Running C) (network : ℕ) (message : List ℕ) (a : Option (List LinkCall)) (x : Option (List ℕ)) → GiveBreaks r a a x x network (Some message)
-  give_none r network message a x = record { answers = silent; breaks = breaks_none r a a x (given_on network (Some message) silent) (none_went a) (adds_given network (Some message) silent) }
+  give_none r network message a x = record { answers = silent; breaks = breaks_none r a a x (given_on network (Some message) silent) (none_made a) (adds_given network (Some message) silent) }

@@ -11,7 +11,7 @@ use Rattle.daemon_run.specs.declared.running.Running.{Running}
 use Rattle.daemon_run.specs.Audience.{Audience, TurnHands, TurnsHand}
 use Rattle.daemon_run.specs.Doing.{daemon_of, Goes, Passes, Attends, TurnsAs, TurnBreaks}
 use Rattle.daemon_run.specs.Serving.{Turned, TurnsDone, TurnsEnded, TurnsBroken}
-use Rattle.daemon_run.proofs.WentLaws.{none_went}
+use Rattle.daemon_run.proofs.MadeLaws.{none_made}
 use Rattle.daemon_run.proofs.GoesLaws.{attends_on, adds_none, goes_none, goes_on, goes_as, breaks_as, breaks_on, breaks_none}
 
 -- ---- moments
@@ -86,7 +86,7 @@ module _ {C : Type 0} where
     turns = [];
     at_most = omega arith;
     moments = counts_none u;
-    breaks = breaks_none r a a x (λ d. turned_all d []) (none_went a) adds_none;
+    breaks = breaks_none r a a x (λ d. turned_all d []) (none_made a) adds_none;
   }
 
   pub turns_next : {A : Known → List (Hosted C) → Audience → Type 0} (r s t : Running C) (i : ℕ) (a b c : Option (List LinkCall)) (x y z u v w : Option (List ℕ)) → TurnsDone A r s i a b x y u v → TurnsAs A s t b c y z v w → t.failed < most_failed → TurnsDone A r t (i + 1) a c x z u w

@@ -8,14 +8,14 @@ use Rattle.node_state.specs.declared.call.CallLine.{CallLine}
 use Rattle.node_state.specs.Step.{NodeEvent, Calls, at_work, stepped}
 use Rattle.remote_clients.specs.Sessions.{is_refused}
 use Rattle.node_core.specs.Node.{NodeView}
-use Rattle.daemon_model.specs.Sent.{sent_calls}
+use Rattle.daemon_model.specs.Sent.{Exchange, sent_calls}
 use Rattle.daemon_model.specs.Daemon.{Daemon, left_for, stepped_for}
 use Rattle.daemon_run.specs.Hosting.{Known}
 use Rattle.daemon_run.specs.declared.hosted.Hosted.{Hosted}
 use Rattle.daemon_run.specs.declared.running.Running.{Running}
 use Rattle.daemon_run.specs.Audience.{Audience, StepHands}
 use Rattle.daemon_run.specs.Doing.{daemon_of, Passes, Goes, Broke, Breaks, Settles, SettlesFront, IsStep, StepsAs, StepBreaks, KeySteps}
-use Rattle.daemon_run.proofs.WentLaws.{none_went}
+use Rattle.daemon_run.proofs.MadeLaws.{none_made}
 use Rattle.daemon_run.proofs.GoesLaws.{Adds, breaks_none}
 use Rattle.daemon_run.proofs.NodeLaws.{from_work}
 
@@ -32,12 +32,12 @@ unfolding stepped_for
 adds_step calling f e d = adds_left calling d (stepped f d.core e)
 
 module _ {C : Type 0} (calling : Option ℕ) where
-  step_is : (r : Running C) (f : Answering) (c : Core) (e : NodeEvent) (before : List LinkCall) (noted : List Happened) → c ≡ stepped f r.node.core e
+  step_is : (r : Running C) (f : Answering) (c : Core) (e : NodeEvent) (before : List Exchange) (noted : List Happened) → c ≡ stepped f r.node.core e
       → stepped_for calling f e (daemon_of r before noted) ≡ left_for calling (daemon_of r before noted) c
   unfolding stepped_for
   step_is r f c e before noted h = ap (left_for calling (daemon_of r before noted)) (from_work f r.node.core e ∙ sym h)
 
-  pub settled_is : (r s : Running C) (a b : Option (List LinkCall)) (x y : Option (List ℕ)) → Settles calling r s a b x y → (before : List LinkCall) (noted : List Happened)
+  pub settled_is : (r s : Running C) (a b : Option (List LinkCall)) (x y : Option (List ℕ)) → Settles calling r s a b x y → (before : List Exchange) (noted : List Happened)
       → left_for calling (daemon_of r before noted) r.node.core ≡ daemon_of s (before ++ sent_calls r.me r.incarnation r.number r.node.core.sends) (noted ++ r.node.core.records)
   unfolding left_for
   settled_is r s a b x y h before noted = ap (λ (t : Running C). daemon_of t (before ++ sent_calls r.me r.incarnation r.number r.node.core.sends) (noted ++ r.node.core.records)) (sym h.is)
@@ -47,7 +47,7 @@ module _ {C : Type 0} (calling : Option ℕ) where
     calls = sent_calls r.me r.incarnation r.number r.node.core.sends;
     records = r.node.core.records;
     is = settled_is r s a b x y h;
-    went = h.went;
+    made = h.made;
     written = h.written;
   }
 
@@ -56,20 +56,20 @@ module _ {C : Type 0} (calling : Option ℕ) where
   settled_breaks r a b x y h = λ before noted. record {
     calls = sent_calls r.me r.incarnation r.number r.node.core.sends;
     called = refl;
-    went = h.went;
+    made = h.made;
     records = r.node.core.records;
     recorded = refl;
     front = h.front;
   }
 
-  left_same : (r : Running C) (n : NodeView C) (before : List LinkCall) (noted : List Happened) → left_for calling (daemon_of r before noted) n.core ≡ left_for calling (daemon_of (record r { node = n }) before noted) n.core
+  left_same : (r : Running C) (n : NodeView C) (before : List Exchange) (noted : List Happened) → left_for calling (daemon_of r before noted) n.core ≡ left_for calling (daemon_of (record r { node = n }) before noted) n.core
   unfolding left_for
   left_same r n before noted = refl
 
   done_at : (r s : Running C) (n : NodeView C) (a b : Option (List LinkCall)) (x y : Option (List ℕ)) (e : NodeEvent) (f : Answering) → n.core ≡ stepped f r.node.core e → Settles calling (record r { node = n }) s a b x y → Goes r s a b x y (stepped_for calling f e)
   done_at r s n a b x y e f core h =
       let g = settled_goes (record r { node = n }) s a b x y h in
-      record { calls = g.calls; records = g.records; is = λ before noted. step_is r f n.core e before noted core ∙ (left_same r n before noted ∙ g.is before noted); went = g.went; written = g.written }
+      record { calls = g.calls; records = g.records; is = λ before noted. step_is r f n.core e before noted core ∙ (left_same r n before noted ∙ g.is before noted); made = g.made; written = g.written }
 
   broke_at : (r : Running C) (n : NodeView C) (a b : Option (List LinkCall)) (x y : Option (List ℕ)) (e : NodeEvent) (f : Answering) → n.core ≡ stepped f r.node.core e → SettlesFront (record r { node = n }) a b x y → StepBreaks calling r a b x y e
   broke_at r n a b x y e f core h = record {
@@ -95,7 +95,7 @@ module _ {C : Type 0} (calling : Option ℕ) where
 
   -- any answers will do where the node had no memory for its step
   pub step_none : (r : Running C) (a : Option (List LinkCall)) (x : Option (List ℕ)) (e : NodeEvent) → StepBreaks calling r a a x x e
-  step_none r a x e = record { answers = silent; breaks = breaks_none r a a x (stepped_for calling silent e) (none_went a) (adds_step calling silent e) }
+  step_none r a x e = record { answers = silent; breaks = breaks_none r a a x (stepped_for calling silent e) (none_made a) (adds_step calling silent e) }
 
 -- what a call of a key did is sent and written, and comes to who is to hear it
 module _ {C : Type 0} where

@@ -8,7 +8,7 @@ use Rattle.piece_link.specs.Joining.{Joining, Joined, joined_as, taken}
 use Rattle.node_state.specs.declared.happened.Happened.{Happened}
 use Rattle.node_state.specs.HandOn.{Answering}
 use Rattle.node_state.specs.Step.{Ticks, at_work}
-use Rattle.daemon_model.specs.Sent.{as_sent}
+use Rattle.daemon_model.specs.Sent.{Exchange, plain, as_sent}
 use Rattle.daemon_model.specs.Daemon.{Daemon, Turn, stepped_by, is_due, ticked_if, ticked, joined_by, received, up_in, given_on, network_of, heard, turned}
 use Rattle.daemon_run.specs.Hosting.{Known}
 use Rattle.daemon_run.specs.declared.hosted.Hosted.{Hosted}
@@ -16,7 +16,7 @@ use Rattle.daemon_run.specs.declared.running.Running.{Running}
 use Rattle.remote_session.specs.Daemon.{SeenUp, NotUp, KeysFull, KnownKey, CallMade}
 use Rattle.daemon_run.specs.Audience.{Audience, StepHands, TickHands, BroughtHands, GivenHands, TakenHands, HeardHands}
 use Rattle.daemon_run.specs.Doing.{daemon_of, Passes, Goes, StepsAs, StepBreaks, TicksAs, TickBreaks, GivesAs, GiveBreaks, taken_in, TakesAs, TakeBreaks, HearsAs, HearBreaks, TurnsAs, TurnBreaks}
-use Rattle.daemon_run.proofs.WentLaws.{same_went, none_went}
+use Rattle.daemon_run.proofs.MadeLaws.{same_made, none_made, plain_made}
 use Rattle.daemon_run.proofs.GoesLaws.{Adds, attends_on, adds_none, adds_on, goes_none, goes_on, goes_as, breaks_as, breaks_on, breaks_more, breaks_none, nothing_written}
 use Rattle.daemon_run.proofs.StepLaws.{silent, adds_step}
 use Rattle.daemon_run.proofs.RemoteLaws.{adds_given}
@@ -29,7 +29,7 @@ adds_tick moment f false d = adds_none d
 
 adds_received : (got : LinkCall) (d : Daemon) → Adds d (received got d)
 unfolding received
-adds_received got d = record { calls = as_sent got ∷ []; called = refl; records = []; recorded = sym (append-nil d.records) }
+adds_received got d = record { calls = plain (as_sent got) ∷ []; called = refl; records = []; recorded = sym (append-nil d.records) }
 
 pub adds_heard : (got : LinkCall) (f : Answering) (d : Daemon) → Adds d (heard got f d)
 unfolding heard
@@ -54,7 +54,7 @@ adds_taken network bytes f d =
 
 -- a datagram is told, and then taken in
 abbrev told_of : LinkCall → Daemon → Daemon
-told_of got d = record d { failed = 0; calls = d.calls ++ as_sent got ∷ [] }
+told_of got d = record d { failed = 0; calls = d.calls ++ plain (as_sent got) ∷ [] }
 
 -- what an Up or a message hands does not hang on what is joined, or on how many receives failed
 brought_alike : (u : SeenUp) (message : List ℕ) (f : Answering) (d : Daemon) (j : Joining) (n : ℕ) (old new : Audience) → BroughtHands u message f (record d { joining = j; failed = n }) old new → BroughtHands u message f d old new
@@ -70,7 +70,7 @@ hands_alike (Some message) f d j n old new h = brought_alike (up_in d.sessions m
 module _ {C : Type 0} where
   -- ---- a tick
 
-  tick_is : (r : Running C) (moment : ℕ) (f : Answering) → 100 ≤ moment - r.last → (before : List LinkCall) (noted : List Happened)
+  tick_is : (r : Running C) (moment : ℕ) (f : Answering) → 100 ≤ moment - r.last → (before : List Exchange) (noted : List Happened)
       → ticked moment f (daemon_of r before noted) ≡ stepped_by f Ticks (daemon_of (record r { last = moment }) before noted)
   tick_is r moment f le before noted = ap (λ q. ticked_if q moment f (daemon_of r before noted)) (due r.last moment le)
 
@@ -108,7 +108,7 @@ module _ {C : Type 0} where
 
   -- ---- a datagram
 
-  take_is : (r : Running C) (network : ℕ) (bytes : List ℕ) (j : Joining) (m : Option (List ℕ)) (f : Answering) → joined_as j m ≡ taken r.joiner bytes → (before : List LinkCall) (noted : List Happened)
+  take_is : (r : Running C) (network : ℕ) (bytes : List ℕ) (j : Joining) (m : Option (List ℕ)) (f : Answering) → joined_as j m ≡ taken r.joiner bytes → (before : List Exchange) (noted : List Happened)
       → taken_in network bytes f (daemon_of r before noted) ≡ given_on network m f (daemon_of (record r { joiner = j }) before noted)
   take_is r network bytes j m f h before noted = ap (λ (t : Joined). given_on network t.message f (record (daemon_of r before noted) { joining = t.joining })) (sym h)
 
@@ -130,22 +130,22 @@ module _ {C : Type 0} where
       record { answers = h.answers; breaks = breaks_as r (record r { joiner = j }) a b x y (taken_in network bytes h.answers) (given_on network m h.answers) (take_is r network bytes j m h.answers is) h.breaks }
 
   pub take_none : (r : Running C) (network : ℕ) (bytes : List ℕ) (a : Option (List LinkCall)) (x : Option (List ℕ)) → TakeBreaks r a a x x network bytes
-  take_none r network bytes a x = record { answers = silent; breaks = breaks_none r a a x (taken_in network bytes silent) (none_went a) (adds_taken network bytes silent) }
+  take_none r network bytes a x = record { answers = silent; breaks = breaks_none r a a x (taken_in network bytes silent) (none_made a) (adds_taken network bytes silent) }
 
   -- ---- a receive
 
   -- what is told of a receive stands before what comes of it
   after_receive : (r q : Running C) (got : LinkCall) (a b : Option (List LinkCall)) (x : Option (List ℕ)) (f : Daemon → Daemon) → as_sent got ≡ got → Grows a b (got ∷ [])
-      → ((before : List LinkCall) (noted : List Happened) → f (daemon_of r before noted) ≡ daemon_of q (before ++ as_sent got ∷ []) noted) → Goes r q a b x x f
+      → ((before : List Exchange) (noted : List Happened) → f (daemon_of r before noted) ≡ daemon_of q (before ++ plain (as_sent got) ∷ []) noted) → Goes r q a b x x f
   after_receive r q got a b x f same h is = record {
-    calls = as_sent got ∷ [];
+    calls = plain (as_sent got) ∷ [];
     records = [];
-    is = λ before noted. is before noted ∙ ap (daemon_of q (before ++ as_sent got ∷ [])) (sym (append-nil noted));
-    went = record { calls = got ∷ []; told = h; are = refl };
+    is = λ before noted. is before noted ∙ ap (daemon_of q (before ++ plain (as_sent got) ∷ [])) (sym (append-nil noted));
+    made = plain_made a b (as_sent got ∷ []) (record { calls = got ∷ []; told = h; are = refl });
     written = nothing_written x;
   }
 
-  hear_is : (r : Running C) (k : ℕ) (bytes : List ℕ) (f : Answering) (before : List LinkCall) (noted : List Happened)
+  hear_is : (r : Running C) (k : ℕ) (bytes : List ℕ) (f : Answering) (before : List Exchange) (noted : List Happened)
       → heard (call.Received k bytes) f (daemon_of r before noted) ≡ taken_in k bytes f (told_of (call.Received k bytes) (daemon_of r before noted))
   unfolding heard received
   hear_is r k bytes f before noted = refl
@@ -184,13 +184,13 @@ module _ {C : Type 0} where
   hear_failed r n a b x is h = record {
     got = call.Failed;
     answers = silent;
-    goes = after_receive r (record r { failed = n }) call.Failed a b x (heard call.Failed silent) refl h (λ before noted. ap (λ (k : ℕ). daemon_of (record r { failed = k }) (before ++ call.Failed ∷ []) noted) (sym is));
+    goes = after_receive r (record r { failed = n }) call.Failed a b x (heard call.Failed silent) refl h (λ before noted. ap (λ (k : ℕ). daemon_of (record r { failed = k }) (before ++ plain call.Failed ∷ []) noted) (sym is));
     attends = λ before noted u. (u, refl, λ known held. held);
   }
 
   -- a daemon that had no memory to receive
   pub hear_none : (r : Running C) (a b : Option (List LinkCall)) (x : Option (List ℕ)) → Same a b → HearBreaks r a b x x
-  hear_none r a b x h = record { got = call.Quiet; answers = silent; breaks = breaks_none r a b x (heard call.Quiet silent) (λ more. same_went a b more h) (adds_heard call.Quiet silent) }
+  hear_none r a b x h = record { got = call.Quiet; answers = silent; breaks = breaks_none r a b x (heard call.Quiet silent) (λ more. same_made a b more h) (adds_heard call.Quiet silent) }
 
   -- ---- a turn
 

@@ -8,7 +8,7 @@ use Rattle.hags_io.specs.Links.{Grows, Same}
 use Rattle.piece_link.specs.Pieces.{can_cut, message_by, pieces_of}
 use Rattle.node_state.specs.declared.packet.Packet.{Packet}
 use Rattle.node_state.specs.Bytes.{bytes_of}
-use Rattle.daemon_model.specs.Sent.{as_sent, piece_to, piece_call, packet_pieces, message_calls, packet_calls, calls_if, number_if, number_past, carried_calls, number_over, sent_calls, number_after, Went, WentFront}
+use Rattle.daemon_model.specs.Sent.{as_sent, piece_to, piece_call, packet_pieces, message_calls, packet_calls, calls_if, number_if, number_past, carried_calls, number_over, Went, WentFront}
 
 -- ---- what lists grow by
 
@@ -25,6 +25,9 @@ grows_on (Some zs) b c xs ys p q =
 pub grows_same : (a b c : Option (List LinkCall)) (xs : List LinkCall) → Grows a b xs → Same b c → Grows a c xs
 grows_same None b c xs p q = tt
 grows_same (Some zs) b c xs p q = let at : Same (Some (zs ++ xs)) c = subst (λ o. Same o c) p q in at
+
+pub went_same : (a b : Option (List LinkCall)) → Same a b → Went a b []
+went_same a b h = record { calls = []; told = grows_same a a b [] (grows_none a) h; are = refl }
 
 pub went_nothing : (a : Option (List LinkCall)) → Went a a []
 went_nothing a = record { calls = []; told = grows_none a; are = refl }
@@ -163,9 +166,9 @@ carried_if t me inc number p = calls_if (not t && can_cut (bytes_of p)) (map (pi
 over_if : Bool → ℕ → Packet → ℕ
 over_if t number p = number_if (not t && can_cut (bytes_of p)) number
 
-pub nowhere_sent : (me inc number : ℕ) (p : Packet) (a : Option (List LinkCall)) → (p.network == 0) ≡ true → Went a a (carried_calls me inc number p)
+pub nowhere_sent : (me inc number : ℕ) (p : Packet) → (p.network == 0) ≡ true → carried_calls me inc number p ≡ []
 unfolding carried_calls carried_if
-nowhere_sent me inc number p a e = subst (λ t. Went a a (carried_if t me inc number p)) (sym e) (went_nothing a)
+nowhere_sent me inc number p e = ap (λ t. carried_if t me inc number p) e
 
 pub nowhere_number : (number : ℕ) (p : Packet) → (p.network == 0) ≡ true → number ≡ number_over number p
 unfolding number_over over_if
@@ -182,41 +185,3 @@ carried_front me inc number p a b e w = subst (λ t. WentFront a b (carried_if t
 pub carried_number : (number next : ℕ) (p : Packet) → (p.network == 0) ≡ false → next ≡ number_past number p → next ≡ number_over number p
 unfolding number_over number_past over_if
 carried_number number next p e n = n ∙ sym (ap (λ t. over_if t number p) e)
-
--- ---- packets
-
--- what is left is that of the packets that are left, from this number on
-pub record PacketsTo (me inc number first : ℕ) (left all : List Packet) (a b : Option (List LinkCall)) : Type 0 where
-  pub to : WentTo a b (sent_calls me inc number left) (sent_calls me inc first all)
-  pub number_is : number_after number left ≡ number_after first all
-
-pub packets_begin : (me inc number : ℕ) (ps : List Packet) (a : Option (List LinkCall)) → PacketsTo me inc number number ps ps a a
-packets_begin me inc number ps a = record { to = to_begin a _; number_is = refl }
-
-pub packets_next : (me inc number next first i : ℕ) (p : Packet) (ps : List Packet) (a b c : Option (List LinkCall)) → i < length ps → p ≡ get_or ps i p → next ≡ number_over number p
-    → PacketsTo me inc number first (drop i ps) ps a b → Went b c (carried_calls me inc number p) → PacketsTo me inc next first (drop (i + 1) ps) ps a c
-unfolding sent_calls number_after
-packets_next me inc number next first i p ps a b c h is past w q =
-    let at : PacketsTo me inc number first (p ∷ drop (i + 1) ps) ps a b = subst (λ t. PacketsTo me inc number first t ps a b) (next_item i p ps h is) w in
-    rw past (record { to = to_next a b c (carried_calls me inc number p) _ _ at.to q; number_is = at.number_is })
-
-pub packets_front : (me inc number first i : ℕ) (p : Packet) (ps : List Packet) (a b c : Option (List LinkCall)) → i < length ps → p ≡ get_or ps i p
-    → PacketsTo me inc number first (drop i ps) ps a b → WentFront b c (carried_calls me inc number p) → WentFront a c (sent_calls me inc first ps)
-unfolding sent_calls number_after
-packets_front me inc number first i p ps a b c h is w q =
-    let at : PacketsTo me inc number first (p ∷ drop (i + 1) ps) ps a b = subst (λ t. PacketsTo me inc number first t ps a b) (next_item i p ps h is) w in
-    to_front a b c (carried_calls me inc number p) _ _ at.to q
-
-pub packets_done : (me inc number first i : ℕ) (ps : List Packet) (a b : Option (List LinkCall)) → length ps ≤ i
-    → PacketsTo me inc number first (drop i ps) ps a b → Went a b (sent_calls me inc first ps)
-unfolding sent_calls number_after
-packets_done me inc number first i ps a b le w =
-    let at : PacketsTo me inc number first [] ps a b = subst (λ t. PacketsTo me inc number first t ps a b) (no_item i ps le) w in
-    to_end a b _ at.to
-
-pub packets_number : (me inc number first i : ℕ) (ps : List Packet) (a b : Option (List LinkCall)) → length ps ≤ i
-    → PacketsTo me inc number first (drop i ps) ps a b → number ≡ number_after first ps
-unfolding sent_calls number_after
-packets_number me inc number first i ps a b le w =
-    let at : PacketsTo me inc number first [] ps a b = subst (λ t. PacketsTo me inc number first t ps a b) (no_item i ps le) w in
-    at.number_is

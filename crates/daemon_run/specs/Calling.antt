@@ -7,7 +7,7 @@ use Rattle.node_state.specs.declared.call.CallLine.{CallLine}
 use Rattle.node_state.specs.declared.config.Config.{Config}
 use Rattle.node_state.specs.Step.{started}
 use Rattle.world_model.specs.declared.script.Script.{Script}
-use Rattle.daemon_model.specs.Sent.{Went, WentFront}
+use Rattle.daemon_model.specs.Sent.{Made, MadeFront}
 use Rattle.daemon_model.specs.Daemon.{Daemon, Opening, sessions_if, begun_for, opened_all, own_calls, records_text}
 use Rattle.daemon_run.specs.declared.hosted.Hosted.{Hosted}
 use Rattle.daemon_run.specs.declared.running.Running.{Running}
@@ -49,12 +49,12 @@ fresh_running remote c me incarnation moment = record {
 -- the daemon d is reached: it stands as the one that runs, what it did is told, and its lines are written
 pub record Reached {C : Type 0} (d : Daemon) (s : Running C) (a b : Option (List LinkCall)) (x y : Option (List ℕ)) : Type 0 where
   pub is : d ≡ daemon_of s d.calls d.records
-  pub went : Went a b d.calls
+  pub made : Made a b d.calls
   pub written : Appends x y (records_text d.records)
 
 -- on the way to d it broke off
 pub record Stopped (d : Daemon) (a b : Option (List LinkCall)) (x y : Option (List ℕ)) : Type 0 where
-  pub went : WentFront a b d.calls
+  pub made : MadeFront a b d.calls
   pub front : GrowsByFront x y (records_text d.records)
 
 -- the node started, and the calls of the settings are carried out

@@ -10,7 +10,7 @@ use Rattle.node_state.specs.declared.happened.Happened.{Happened}
 use Rattle.node_state.specs.HandOn.{Answering}
 use Rattle.node_state.specs.declared.call.CallLine.{CallLine}
 use Rattle.node_state.specs.Step.{NodeEvent, Calls, at_work, stepped}
-use Rattle.daemon_model.specs.Sent.{Went, WentFront, number_if, message_calls, sent_calls, number_after}
+use Rattle.daemon_model.specs.Sent.{Exchange, Went, WentFront, Made, MadeFront, number_if, message_calls, sent_calls, number_after}
 use Rattle.remote_session.specs.Daemon.{up_taken}
 use Rattle.remote_clients.specs.declared.sessions.Sessions.{Sessions}
 use Rattle.remote_clients.specs.Sessions.{noted_all, is_refused}
@@ -21,7 +21,7 @@ use Rattle.daemon_run.specs.Hosting.{Known}
 use Rattle.daemon_run.specs.Audience.{Audience, StepHands, TickHands, LineHands, GivenHands, TakenHands, HeardHands, TurnHands}
 
 -- the daemon that stands like this, and did this so far
-abbrev pub daemon_of : {C : Type 0} → Running C → List LinkCall → List Happened → Daemon
+abbrev pub daemon_of : {C : Type 0} → Running C → List Exchange → List Happened → Daemon
 daemon_of r calls records = record {
   me = r.me;
   incarnation = r.incarnation;
@@ -37,23 +37,23 @@ daemon_of r calls records = record {
 
 -- the one that runs came from r to s as f says: the link's list grew by the calls of that, and its lines were written
 pub record Goes {C : Type 0} (r s : Running C) (a b : Option (List LinkCall)) (x y : Option (List ℕ)) (f : Daemon → Daemon) : Type 0 where
-  pub calls : List LinkCall
+  pub calls : List Exchange
   pub records : List Happened
-  pub is : (before : List LinkCall) (noted : List Happened) → f (daemon_of r before noted) ≡ daemon_of s (before ++ calls) (noted ++ records)
-  pub went : Went a b calls
+  pub is : (before : List Exchange) (noted : List Happened) → f (daemon_of r before noted) ≡ daemon_of s (before ++ calls) (noted ++ records)
+  pub made : Made a b calls
   pub written : Appends x y (records_text records)
 
 -- on the way to e it broke off, where so much was done before: of the calls and of the lines there was a front
-pub record Broke (before : List LinkCall) (noted : List Happened) (a b : Option (List LinkCall)) (x y : Option (List ℕ)) (e : Daemon) : Type 0 where
-  pub calls : List LinkCall
+pub record Broke (before : List Exchange) (noted : List Happened) (a b : Option (List LinkCall)) (x y : Option (List ℕ)) (e : Daemon) : Type 0 where
+  pub calls : List Exchange
   pub called : e.calls ≡ before ++ calls
-  pub went : WentFront a b calls
+  pub made : MadeFront a b calls
   pub records : List Happened
   pub recorded : e.records ≡ noted ++ records
   pub front : GrowsByFront x y (records_text records)
 
 abbrev pub Breaks : {C : Type 0} → Running C → Option (List LinkCall) → Option (List LinkCall) → Option (List ℕ) → Option (List ℕ) → (Daemon → Daemon) → Type 0
-Breaks r a b x y f = (before : List LinkCall) (noted : List Happened) → Broke before noted a b x y (f (daemon_of r before noted))
+Breaks r a b x y f = (before : List Exchange) (noted : List Happened) → Broke before noted a b x y (f (daemon_of r before noted))
 
 -- where A held of clients with their audience, B holds of those now, whatever is known of the objects
 abbrev pub Passes : {C : Type 0} → (Known → List (Hosted C) → Audience → Type 0) → (Known → List (Hosted C) → Audience → Type 0) → List (Hosted C) → List (Hosted C) → Audience → Audience → Type 0
@@ -62,7 +62,7 @@ Passes A B old new x y = (known : Known) → A known old x → B known new y
 -- from each audience H comes to one of the clients now
 abbrev pub Attends : {C : Type 0} → (Known → List (Hosted C) → Audience → Type 0) → (Known → List (Hosted C) → Audience → Type 0) → Running C → Running C → (Daemon → Audience → Audience → Type 0) → Type 0
 Attends A B r s H =
-    (before : List LinkCall) (noted : List Happened) (x : Audience) → (y : Audience) × H (daemon_of r before noted) x y × Passes A B r.node.clients s.node.clients x y
+    (before : List Exchange) (noted : List Happened) (x : Audience) → (y : Audience) × H (daemon_of r before noted) x y × Passes A B r.node.clients s.node.clients x y
 
 -- which node it is stays, and how many receives failed in a row
 abbrev pub IsSame : {C : Type 0} → Running C → Running C → Type 0
@@ -73,11 +73,11 @@ IsSame r s = (s.me ≡ r.me) × (s.failed ≡ r.failed)
 -- what the node left is sent and written, and comes to who is to hear it; the step was a call of this key, or of none
 pub record Settles {C : Type 0} (calling : Option ℕ) (r s : Running C) (a b : Option (List LinkCall)) (x y : Option (List ℕ)) : Type 0 where
   pub is : s ≡ record r { node = record (r.node) { core = at_work r.node.core }; number = number_after r.number r.node.core.sends; sessions = option_map (noted_all calling r.node.core.records) r.sessions }
-  pub went : Went a b (sent_calls r.me r.incarnation r.number r.node.core.sends)
+  pub made : Made a b (sent_calls r.me r.incarnation r.number r.node.core.sends)
   pub written : Appends x y (records_text r.node.core.records)
 
 pub record SettlesFront {C : Type 0} (r : Running C) (a b : Option (List LinkCall)) (x y : Option (List ℕ)) : Type 0 where
-  pub went : WentFront a b (sent_calls r.me r.incarnation r.number r.node.core.sends)
+  pub made : MadeFront a b (sent_calls r.me r.incarnation r.number r.node.core.sends)
   pub front : GrowsByFront x y (records_text r.node.core.records)
 
 -- the node did the event, with some answers of its clients, and nothing else changed

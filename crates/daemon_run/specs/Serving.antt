@@ -2,6 +2,7 @@
 use Rattle.std.specs.Prelude.{◌≡◌, ℕ, ◌≤◌, List, length, Option}
 use Rattle.hags_io.specs.Links.{Counts}
 use Rattle.hags_io.specs.declared.link.LinkCall.{LinkCall}
+use Rattle.daemon_model.specs.Sent.{Exchange}
 use Rattle.daemon_model.specs.Daemon.{Turn, turn_moments, turned_all}
 use Rattle.daemon_model.specs.Lives.{most_failed, GoesOn}
 use Rattle.daemon_run.specs.declared.hosted.Hosted.{Hosted}
@@ -20,7 +21,7 @@ pub record TurnsDone {C : Type 0} (A : Known → List (Hosted C) → Audience �
   pub turns : List Turn
   pub so_many : length turns ≡ count
   pub done : Turned r s turns a b x y u v
-  pub goes_on : (calls : List LinkCall) (records : _) → GoesOn (daemon_of r calls records) turns
+  pub goes_on : (calls : List Exchange) (records : _) → GoesOn (daemon_of r calls records) turns
   pub attends : Attends A A r s (λ d. TurnsHand d turns)
 
 -- at most so many turns, after the last of which too many had

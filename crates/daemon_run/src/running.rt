@@ -56,7 +56,7 @@ impl<C: Callbacks> Running<C> {
     /// What the node's last step left is sent, its lines are written, and come to the clients on other machines that are
     /// to hear them. Where that fails, a front of it was. `calling`: the key whose call the step was, if it was one.
     /// Answers whether a call was refused in it.
-    #[tactic(auto, using(crate::proofs::WentLaws::all_went, crate::proofs::GoesLaws::all_front))]
+    #[tactic(auto, using(crate::proofs::MadeLaws::all_made, crate::proofs::GoesLaws::all_front))]
     pub fn settle_for<K: Sink, L: Link>(
         &mut self,
         alloc: Global,

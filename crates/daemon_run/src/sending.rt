@@ -1,9 +1,9 @@
 //! What a daemon sends: packets, in pieces.
-ghost use Rattle.std.specs.Prelude.{◌≡◌, ◌≤◌, ◌∷◌, [], map, OnOk, OnErr, IfOk};
+ghost use Rattle.std.specs.Prelude.{◌≡◌, ◌≤◌, ◌<◌, ◌^◌, ◌⊎◌, ◌∷◌, [], map, OnOk, OnErr, IfOk, Some};
 ghost use Rattle.hags_io.specs.Links.{Same};
-ghost use Rattle.node_state.specs.Bytes.{bytes_of};
+ghost use Rattle.node_state.specs.Bytes.{packet_of, bytes_of};
 ghost use Rattle.piece_link.specs.Pieces.{can_cut};
-ghost use Rattle.daemon_model.specs.Sent.{piece_to, number_if, message_calls, packet_calls, number_past, carried_calls, number_over, sent_calls, number_after, Went, WentFront};
+ghost use Rattle.daemon_model.specs.Sent.{piece_to, number_if, message_calls, packet_calls, number_past, number_over, numbered, carried, sent_calls, number_after, Went, WentFront, IsSpelled, Made, MadeFront};
 ghost use Rattle.daemon_run.specs.Keeping.{KeepsLink};
 
 use hags_io::{Link, Put};
@@ -68,6 +68,7 @@ pub fn send_message<L: Link>(
     ensures done { OnOk result (Went (L.calls link.old) (L.calls link.new)
         (message_calls me incarnation number.old to.node to.network message.now)) }
     ensures number { OnOk result (number.new ≡ number_if (can_cut message.now) number.old) }
+    ensures fits { number.old < 2 ^ 64 }
     ensures broke { OnErr result (WentFront (L.calls link.old) (L.calls link.new)
         (message_calls me incarnation number.old to.node to.network message.now)) }
     ensures keeps { KeepsLink (L.places link.old) (L.places link.new) (L.opened link.old)
@@ -86,8 +87,10 @@ pub fn send_message<L: Link>(
 
 /// The bytes of a packet. One that has no spelling, since its numbers, lists or texts pass what its fields can hold,
 /// counts as want of memory: no packet that a network carries is so, but that is not proved.
+#[tactic(auto, using(packet_codec::proofs::BodyFormats::packet_read_again))]
 fn bytes_of(alloc: Global, packet: &Packet) -> Result<Vec<u8>, NoMemory>
-    ensures { IfOk result (λ bytes. bytes.items ≡ bytes_of packet.now) }
+    ensures spell { IfOk result (λ bytes. bytes.items ≡ bytes_of packet.now) }
+    ensures read { OnOk result (packet_of (bytes_of packet.now) ≡ Some packet.now) }
 {
     if !is_writable(packet) {
         return Err(NoMemory);
@@ -98,8 +101,8 @@ fn bytes_of(alloc: Global, packet: &Packet) -> Result<Vec<u8>, NoMemory>
 }
 
 /// Sends a packet as the message of this number, which is raised. One that is too long to cut is lost, and takes no
-/// number. A number past the last one counts as want of memory.
-#[tactic(auto, using(crate::proofs::WentLaws::none_went, crate::proofs::WentLaws::packet_went, crate::proofs::WentLaws::packet_number, crate::proofs::WentLaws::packet_front, crate::proofs::KeepLaws::keeps_itself))]
+/// number. One that has no spelling is never sent: it and a number past the last one count as want of memory.
+#[tactic(auto, using(crate::proofs::WentLaws::none_went, crate::proofs::WentLaws::packet_went, crate::proofs::WentLaws::packet_number, crate::proofs::WentLaws::packet_front, crate::proofs::MadeLaws::is_spelled, crate::proofs::MadeLaws::unsent, crate::proofs::MadeLaws::spelled_first, crate::proofs::KeepLaws::same_itself, crate::proofs::KeepLaws::keeps_itself))]
 pub fn send_packet<L: Link>(
     alloc: Global,
     me: u8,
@@ -112,8 +115,11 @@ pub fn send_packet<L: Link>(
     ensures done { OnOk result (Went (L.calls link.old) (L.calls link.new)
         (packet_calls me incarnation number.old packet.now)) }
     ensures number { OnOk result (number.new ≡ number_past number.old packet.now) }
+    ensures spelled { OnOk result (IsSpelled (numbered me incarnation number.old packet.now)) }
     ensures broke { OnErr result (WentFront (L.calls link.old) (L.calls link.new)
         (packet_calls me incarnation number.old packet.now)) }
+    ensures tested { OnErr result (Same (L.calls link.old) (L.calls link.new)
+        ⊎ IsSpelled (numbered me incarnation number.old packet.now)) }
     ensures keeps { KeepsLink (L.places link.old) (L.places link.new) (L.opened link.old)
         (L.opened link.new) (L.faults link.old) (L.faults link.new) }
 {
@@ -127,7 +133,7 @@ pub fn send_packet<L: Link>(
 
 /// Sends a packet as the message of this number, which is raised. One to a node that no network joins with this one is
 /// lost, and takes no number: so a stranger's packet that asks for an answer to a node which the settings lack has none.
-#[tactic(auto, using(crate::proofs::WentLaws::nowhere_sent, crate::proofs::WentLaws::nowhere_number, crate::proofs::WentLaws::carried_sent, crate::proofs::WentLaws::carried_front, crate::proofs::WentLaws::carried_number, crate::proofs::KeepLaws::keeps_itself))]
+#[tactic(auto, using(crate::proofs::MadeLaws::nowhere_made, crate::proofs::WentLaws::nowhere_number, crate::proofs::MadeLaws::packet_made, crate::proofs::MadeLaws::packet_front, crate::proofs::WentLaws::carried_number, crate::proofs::KeepLaws::keeps_itself))]
 fn send_carried<L: Link>(
     alloc: Global,
     me: u8,
@@ -137,11 +143,11 @@ fn send_carried<L: Link>(
     link: &mut L,
 ) -> Result<(), NoMemory>
     requires { me ≤ 32 }
-    ensures done { OnOk result (Went (L.calls link.old) (L.calls link.new)
-        (carried_calls me incarnation number.old packet.now)) }
+    ensures done { OnOk result (Made (L.calls link.old) (L.calls link.new)
+        (carried me incarnation number.old packet.now)) }
     ensures number { OnOk result (number.new ≡ number_over number.old packet.now) }
-    ensures broke { OnErr result (WentFront (L.calls link.old) (L.calls link.new)
-        (carried_calls me incarnation number.old packet.now)) }
+    ensures broke { OnErr result (MadeFront (L.calls link.old) (L.calls link.new)
+        (carried me incarnation number.old packet.now)) }
     ensures keeps { KeepsLink (L.places link.old) (L.places link.new) (L.opened link.old)
         (L.opened link.new) (L.faults link.old) (L.faults link.new) }
 {
@@ -151,8 +157,8 @@ fn send_carried<L: Link>(
     send_packet(alloc, me, incarnation, number, packet, link)
 }
 
-/// Sends packets, in this order, each as the next message.
-#[tactic(auto, using(crate::proofs::WentLaws::packets_begin, crate::proofs::WentLaws::packets_next, crate::proofs::WentLaws::packets_front, crate::proofs::WentLaws::packets_done, crate::proofs::WentLaws::packets_number, crate::proofs::KeepLaws::keeps_itself, crate::proofs::KeepLaws::keeps_on))]
+/// Sends packets, in this order, each as the next message; each of which a piece is sent has a spelling.
+#[tactic(auto, using(crate::proofs::MadeLaws::packets_begin, crate::proofs::MadeLaws::packets_next, crate::proofs::MadeLaws::packets_front, crate::proofs::MadeLaws::packets_done, crate::proofs::MadeLaws::packets_number, crate::proofs::KeepLaws::keeps_itself, crate::proofs::KeepLaws::keeps_on))]
 pub fn send_packets<L: Link>(
     alloc: Global,
     me: u8,
@@ -162,10 +168,10 @@ pub fn send_packets<L: Link>(
     link: &mut L,
 ) -> Result<(), NoMemory>
     requires { me ≤ 32 }
-    ensures done { OnOk result (Went (L.calls link.old) (L.calls link.new)
+    ensures done { OnOk result (Made (L.calls link.old) (L.calls link.new)
         (sent_calls me incarnation number.old packets.now)) }
     ensures number { OnOk result (number.new ≡ number_after number.old packets.now) }
-    ensures broke { OnErr result (WentFront (L.calls link.old) (L.calls link.new)
+    ensures broke { OnErr result (MadeFront (L.calls link.old) (L.calls link.new)
         (sent_calls me incarnation number.old packets.now)) }
     ensures keeps { KeepsLink (L.places link.old) (L.places link.new) (L.opened link.old)
         (L.opened link.new) (L.faults link.old) (L.faults link.new) }

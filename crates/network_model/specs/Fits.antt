@@ -1,7 +1,6 @@
 -- What is asked of a network, act by act: what operators, links and clients have to keep to.
-use Rattle.std.specs.Prelude.{ℕ, ◌≤◌, ◌<◌, ◌^◌, ◌≡◌, ◌⊎◌, true, false, List, [], ◌∷◌, ◌++◌, Option, Some, None}
+use Rattle.std.specs.Prelude.{ℕ, ◌≤◌, ◌<◌, ◌≡◌, ◌⊎◌, true, false, List, [], ◌∷◌, ◌++◌, Option, Some, None}
 use Rattle.rsct_packet.specs.Ids.{last_u32}
-use Rattle.rsct_packet.specs.Search.{Has}
 use Rattle.hags_io.specs.declared.link.LinkCall.{LinkCall}
 use Rattle.hags_io.specs.declared.link.LinkCall.TheVariants as call
 use Rattle.piece_link.specs.Pieces.{Piece, piece_at}
@@ -12,11 +11,10 @@ use Rattle.node_state.specs.declared.packet.Body.{Body}
 use Rattle.node_state.specs.declared.packet.Body.TheVariants as body
 use Rattle.node_state.specs.declared.packet.Packet.{Packet}
 use Rattle.node_state.specs.Settings.{is_fixed}
-use Rattle.node_state.specs.Bytes.{packet_of, bytes_of}
-use Rattle.daemon_model.specs.Sent.{goes_out}
-use Rattle.daemon_model.specs.Daemon.{Daemon, Turn, opened, ticked, turned}
-use Rattle.network_model.specs.Network.{Act, Begins, Opens, Turns, Ends, Net, no_net, sent_since, acted}
-use Rattle.network_model.specs.Packets.{opening_packets, turn_packets}
+use Rattle.node_state.specs.Bytes.{packet_of}
+use Rattle.daemon_model.specs.Sent.{Exchange, IsSpelledIf}
+use Rattle.daemon_model.specs.Daemon.{Daemon, Turn, ticked}
+use Rattle.network_model.specs.Network.{Act, Begins, Opens, Turns, Ends, Net, no_net, made_since, acted}
 
 -- ---- what a turn is given
 
@@ -34,22 +32,33 @@ abbrev pub IsOfClient : Option Piece → Type 0
 IsOfClient None = ⊥
 IsOfClient (Some p) = (is_status p.head ≡ true) × AsksAtMost (packet_of p.text)
 
+-- a send of these bytes
+abbrev pub IsSend : List ℕ → LinkCall → Type 0
+IsSend bytes (call.Sent node network piece out) = piece ≡ bytes
+IsSend bytes _ = ⊥
+
+-- these bytes were sent, in a send of which this holds
+pub record WasSent (P : Exchange → Type 0) (bytes : List ℕ) (wire : List Exchange) : Type 0 where
+  pub send : Exchange
+  pub among : Among send wire
+  pub is : IsSend bytes send.call
+  pub holds : P send
+
 -- A datagram was sent before, by whatever daemon and to whatever node, or is no piece, or is a client's. So it may be
--- lost, come late, in any order, any number of times and to the wrong node; and it is never altered. A receive may also
--- bring nothing, or fail; it sends nothing.
-abbrev pub MayCome : List (List ℕ) → LinkCall → Type 0
-MayCome wire (call.Received network bytes) = Among bytes wire ⊎ (piece_at bytes ≡ None) ⊎ IsOfClient (piece_at bytes)
-MayCome wire (call.Sent node network bytes out) = ⊥
-MayCome wire call.Quiet = Unit {0}
-MayCome wire call.Failed = Unit {0}
+-- lost, come late, in any order, any number of times and to the wrong node; and it is never altered. Of the send this
+-- holds: not all that the definition of a daemon sends need have been sent, since it may end in the midst of a turn. A
+-- receive may also bring nothing, or fail; it sends nothing.
+abbrev pub MayCome : (Exchange → Type 0) → List Exchange → LinkCall → Type 0
+MayCome P wire (call.Received network bytes) = WasSent P bytes wire ⊎ (piece_at bytes ≡ None) ⊎ IsOfClient (piece_at bytes)
+MayCome P wire (call.Sent node network bytes out) = ⊥
+MayCome P wire call.Quiet = Unit {0}
+MayCome P wire call.Failed = Unit {0}
+
+-- a send is a piece of a packet that is spelled, where it is of one
+abbrev pub IsSpelledSend : Exchange → Type 0
+IsSpelledSend x = IsSpelledIf x.of
 
 -- ---- acts
-
--- Packets that a daemon may send: each that goes out is read again as itself, and the numbers of its messages fit their
--- field. A daemon gives up, as where memory runs out, before it sends another.
-pub record MaySend (ps : List Packet) (after : Daemon) : Type 0 where
-  pub spelled : (p : Packet) → Has p ps → goes_out p ≡ true → packet_of (bytes_of p) ≡ Some p
-  pub numbered : after.number ≤ 2 ^ 64
 
 -- a node from 1 to 32 starts, in a greater incarnation than all those before, where no daemon of it is up
 pub record MayBegin (net : Net) (n incarnation : ℕ) : Type 0 where
@@ -60,27 +69,27 @@ pub record MayBegin (net : Net) (n incarnation : ℕ) : Type 0 where
   pub fits : incarnation ≤ last_u32
 
 -- a turn is given what may come: what was sent before it, or by its own tick
-pub record MayTurn (net : Net) (t : Turn) (d : Daemon) : Type 0 where
-  pub comes : MayCome (net.wire ++ sent_since d (ticked t.moment t.tick d)) t.got
-  pub sends : MaySend (turn_packets t d) (turned d t)
+abbrev pub MayTurn : (Exchange → Type 0) → Net → Turn → Daemon → Type 0
+MayTurn P net t d = MayCome P (net.wire ++ made_since d (ticked t.moment t.tick d)) t.got
 
 -- a daemon of the node is up, and this holds of it
 abbrev pub OfUp : (Daemon → Type 0) → Option Daemon → Type 0
 OfUp P None = ⊥
 OfUp P (Some d) = P d
 
-abbrev pub MayAct : Net → Act → Type 0
-MayAct net (Begins n incarnation moment) = MayBegin net n incarnation
-MayAct net (Opens n opening) = OfUp (λ d. MaySend (opening_packets opening d) (opened d opening)) (net.daemons n)
-MayAct net (Turns n turn) = OfUp (MayTurn net turn) (net.daemons n)
-MayAct net (Ends n) = OfUp (λ d. Unit {0}) (net.daemons n)
+abbrev pub MayAct : (Exchange → Type 0) → Net → Act → Type 0
+MayAct P net (Begins n incarnation moment) = MayBegin net n incarnation
+MayAct P net (Opens n opening) = OfUp (λ d. Unit {0}) (net.daemons n)
+MayAct P net (Turns n turn) = OfUp (MayTurn P net turn) (net.daemons n)
+MayAct P net (Ends n) = OfUp (λ d. Unit {0}) (net.daemons n)
 
-abbrev pub AllMayAct : Config → Net → List Act → Type 0
-AllMayAct c net [] = Unit {0}
-AllMayAct c net (a ∷ acts) = MayAct net a × AllMayAct c (acted c net a) acts
+abbrev pub AllMayAct : (Exchange → Type 0) → Config → Net → List Act → Type 0
+AllMayAct P c net [] = Unit {0}
+AllMayAct P c net (a ∷ acts) = MayAct P net a × AllMayAct P c (acted c net a) acts
 
 -- Acts are those of a run of a network in the domain of these settings, which all its daemons have. Outside of mode fixed,
--- since a daemon of that mode starts with a view of all nodes in their first incarnations.
-pub record NetworkRun (c : Config) (acts : List Act) : Type 0 where
+-- since a daemon of that mode starts with a view of all nodes in their first incarnations. Of each send that is received
+-- this holds.
+pub record NetworkRun (P : Exchange → Type 0) (c : Config) (acts : List Act) : Type 0 where
   pub mode : is_fixed c.mode ≡ false
-  pub may : AllMayAct c no_net acts
+  pub may : AllMayAct P c no_net acts

@@ -1,5 +1,4 @@
 pub mod Network
-pub mod Packets
 pub mod Fits
 pub mod Lives
 pub mod Samples

@@ -1,11 +1,10 @@
 -- A network of daemons: daemons that start, carry out the calls of their settings, do turns and end, all in one order.
-use Rattle.std.specs.Prelude.{ℕ, zero, suc, ◌+◌, ◌-◌, List, [], ◌∷◌, ◌++◌, length, drop, flat_map, fold, Option, Some, None}
-use Rattle.hags_io.specs.declared.link.LinkCall.{LinkCall}
-use Rattle.hags_io.specs.declared.link.LinkCall.TheVariants as call
+use Rattle.std.specs.Prelude.{ℕ, zero, suc, ◌+◌, ◌-◌, List, [], ◌∷◌, ◌++◌, length, drop, fold, Option, Some, None}
 use Rattle.node_state.specs.declared.config.Config.{Config}
 use Rattle.node_state.specs.declared.happened.Happened.{Happened}
 use Rattle.node_state.specs.declared.happened.Happened.TheVariants as happened
 use Rattle.step_refinement.specs.Rules.{at_node}
+use Rattle.daemon_model.specs.Sent.{Exchange}
 use Rattle.daemon_model.specs.Daemon.{Daemon, Opening, Turn, begun, opened, turned}
 
 -- what happens in a network: the daemon of a node starts, in an incarnation and at a moment; it carries out a call of its
@@ -16,13 +15,13 @@ pub data Act : Type 0 where
   Turns : (node : ℕ) (turn : Turn) → Act
   Ends : (node : ℕ) → Act
 
--- The daemons that are up, by their nodes; the incarnation in which the last daemon of each node started, or 0; all
--- datagrams that were sent; and all that was recorded, in one order, as a world of nodes records it. So it has also that
--- a node is down, where its daemon ended, and of each incarnation that a node skips a life in which it did nothing.
+-- The daemons that are up, by their nodes; the incarnation in which the last daemon of each node started, or 0; all that
+-- was sent and received; and all that was recorded, in one order, as a world of nodes records it. So it has also that a
+-- node is down, where its daemon ended, and of each incarnation that a node skips a life in which it did nothing.
 pub record Net : Type 0 where
   pub daemons : ℕ → Option Daemon
   pub incarnations : ℕ → ℕ
-  pub wire : List (List ℕ)
+  pub wire : List Exchange
   pub records : List Happened
 
 -- before anything happened
@@ -31,17 +30,9 @@ no_net = record { daemons = λ n. None; incarnations = λ n. 0; wire = []; recor
 
 -- ---- what a daemon adds
 
-abbrev pub datagram_in : LinkCall → List (List ℕ)
-datagram_in (call.Sent node network bytes out) = bytes ∷ []
-datagram_in _ = []
-
--- the datagrams among what was received and sent that were sent, whether they went out or not
-unfoldable pub datagrams_of : List LinkCall → List (List ℕ)
-datagrams_of calls = flat_map datagram_in calls
-
--- the datagrams that a daemon sent since it was as the first
-unfoldable pub sent_since : Daemon → Daemon → List (List ℕ)
-sent_since d e = datagrams_of (drop (length d.calls) e.calls)
+-- what a daemon sent and received since it was as the first
+unfoldable pub made_since : Daemon → Daemon → List Exchange
+made_since d e = drop (length d.calls) e.calls
 
 -- and what its node recorded since then
 unfoldable pub noted_since : Daemon → Daemon → List Happened
@@ -51,7 +42,7 @@ noted_since d e = drop (length d.records) e.records
 unfoldable pub went_on : ℕ → Daemon → Daemon → Net → Net
 went_on n d e net = record net {
   daemons = at_node net.daemons n (Some e);
-  wire = net.wire ++ sent_since d e;
+  wire = net.wire ++ made_since d e;
   records = net.records ++ noted_since d e;
 }
 
@@ -63,7 +54,7 @@ starts c n incarnation moment net =
     record {
       daemons = at_node net.daemons n (Some d);
       incarnations = at_node net.incarnations n incarnation;
-      wire = net.wire ++ datagrams_of d.calls;
+      wire = net.wire ++ d.calls;
       records = net.records ++ d.records;
     }
 
@@ -99,5 +90,5 @@ net_after c acts = fold (acted c) no_net acts
 
 -- opens each word of this file, for a computation
 unfoldable pub network_opens : Unit {0}
-unfolding at_node datagrams_of sent_since noted_since went_on starts ends idles begins acted net_after
+unfolding at_node made_since noted_since went_on starts ends idles begins acted net_after
 network_opens = tt

@@ -1,9 +1,8 @@
 -- Opens every word of a network's run, for computations.
 use Rattle.daemon_model.specs.Opens.{all_opens}
 use Rattle.network_model.specs.Network.{network_opens}
-use Rattle.network_model.specs.Packets.{packets_opens}
 use Rattle.network_model.specs.Samples.{samples_opens}
 
 unfoldable pub net_opens : Unit {0}
-unfolding all_opens network_opens packets_opens samples_opens
+unfolding all_opens network_opens samples_opens
 net_opens = tt

@@ -1,6 +1,9 @@
 -- Small runs of networks, for worked examples: nodes 1 and 2, without clients.
-use Rattle.std.specs.Prelude.{ℕ, List, [], ◌∷◌, codes, slice_index_or}
+use Rattle.std.specs.Prelude.{ℕ, List, [], ◌∷◌, flat_map, codes, slice_index_or}
+use Rattle.hags_io.specs.declared.link.LinkCall.{LinkCall}
+use Rattle.hags_io.specs.declared.link.LinkCall.TheVariants as call
 use Rattle.node_state.specs.declared.config.Config.{Config}
+use Rattle.daemon_model.specs.Sent.{Exchange}
 use Rattle.daemon_model.specs.Daemon.{records_text}
 use Rattle.daemon_model.specs.Samples.{settings_for, quiet_at, given_at}
 use Rattle.network_model.specs.Network.{Act, Begins, Turns, Ends, net_after}
@@ -12,9 +15,13 @@ pair = settings_for (1 ∷ 2 ∷ [])
 unfoldable pub one_ticks : List Act
 one_ticks = Begins 1 1 0 ∷ Turns 1 (quiet_at 100) ∷ []
 
+abbrev pub datagram_in : LinkCall → List (List ℕ)
+datagram_in (call.Sent node network bytes out) = bytes ∷ []
+datagram_in _ = []
+
 -- the datagrams that were sent
 unfoldable pub wire_after : List Act → List (List ℕ)
-wire_after acts = (net_after pair acts).wire
+wire_after acts = flat_map (λ (x : Exchange). datagram_in x.call) (net_after pair acts).wire
 
 -- what node 1 sent first
 unfoldable pub first_piece : List ℕ

@@ -1,6 +1,6 @@
 //! Worked examples of networks. Each function is a law: what the definitions compute, and which runs they let be.
 ghost use Rattle.std.specs.Prelude.{◌≡◌, length};
-ghost use Rattle.network_model.specs.Fits.{NetworkRun};
+ghost use Rattle.network_model.specs.Fits.{IsSpelledSend, NetworkRun};
 ghost use Rattle.network_model.specs.Samples.{pair, wire_after, lines_after, one_ticks, two_speak, two_speak_lines, starts_again, starts_again_lines, never_sent, old_incarnation, old_incarnation_lines, two_at_once};
 
 /// A node that skips an incarnation has a life in it in which it does nothing.
@@ -14,24 +14,24 @@ pub fn skips_an_incarnation()
 pub fn speaks()
     ensures wire { length (wire_after one_ticks) ≡ 1 }
     ensures lines { lines_after two_speak ≡ two_speak_lines }
-    ensures run { NetworkRun pair two_speak }
+    ensures run { NetworkRun IsSpelledSend pair two_speak }
 {}
 
 /// A datagram that was never sent is given in no network's run.
 #[tactic(auto, using(crate::proofs::Runs::never_sent_run))]
 pub fn gives_what_was_sent()
-    ensures { NetworkRun pair never_sent → ⊥ }
+    ensures { NetworkRun IsSpelledSend pair never_sent → ⊥ }
 {}
 
 /// A node that starts again in its old incarnation is in no network's run: it enters the view 1.1.1 twice.
 #[tactic(auto, unfolding(crate::specs::Opens::net_opens), using(crate::proofs::Runs::old_incarnation_run))]
 pub fn starts_in_a_greater_incarnation()
-    ensures run { NetworkRun pair old_incarnation → ⊥ }
+    ensures run { NetworkRun IsSpelledSend pair old_incarnation → ⊥ }
     ensures lines { lines_after old_incarnation ≡ old_incarnation_lines }
 {}
 
 /// Two daemons of one node are up at once in no network's run.
 #[tactic(auto, using(crate::proofs::Runs::two_at_once_run))]
 pub fn has_one_daemon_of_a_node()
-    ensures { NetworkRun pair two_at_once → ⊥ }
+    ensures { NetworkRun IsSpelledSend pair two_at_once → ⊥ }
 {}

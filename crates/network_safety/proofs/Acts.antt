@@ -1,5 +1,5 @@
 -- Each act of a network is some events of the world that it stands for.
-use Rattle.std.proofs.Common.{◌≡◌, ◌≤◌, ◌^◌, ℕ, List, [], ◌∷◌, ◌++◌, Bool, true, false, Option, Some, None, refl, sym, ap, ◌∙◌, subst, inl, inr, append-nil}
+use Rattle.std.proofs.Common.{◌≡◌, ℕ, List, [], ◌∷◌, ◌++◌, Bool, true, false, Option, Some, None, refl, sym, ap, ◌∙◌, subst, inl, inr, append-nil}
 use Rattle.std.specs.Prelude.{◌⊎◌, ◌==◌, find}
 use Rattle.std.proofs.lemmas.Bool.{eqb-true}
 use Rattle.rsct_packet.specs.Search.{Has}
@@ -7,7 +7,7 @@ use Rattle.node_state.specs.declared.config.Config.{Config}
 use Rattle.node_state.specs.declared.packet.Packet.{Packet}
 use Rattle.node_state.specs.declared.state.Core.{Core}
 use Rattle.node_state.specs.HandOn.{Answering}
-use Rattle.node_state.specs.Bytes.{packet_of, bytes_of, event_in, event_of}
+use Rattle.node_state.specs.Bytes.{packet_of, event_in, event_of}
 use Rattle.node_state.specs.Step.{NodeEvent, Ticks, Given, Calls, Garbage, at_work, stepped}
 use Rattle.world_model.specs.declared.event.Event.{Event}
 use Rattle.world_model.specs.declared.event.Event.TheVariants as event
@@ -17,17 +17,17 @@ use Rattle.provider_laws.proofs.resting.Law.{Resting}
 use Rattle.world_safety.specs.Events.{MayHappen}
 use Rattle.world_safety.specs.Mirrors.{inc_at}
 use Rattle.world_safety.specs.Moments.{CanCome}
-use Rattle.daemon_model.specs.Sent.{goes_out, number_after}
+use Rattle.piece_link.specs.Answers.{Among}
+use Rattle.daemon_model.specs.Sent.{Exchange}
 use Rattle.daemon_model.specs.Daemon.{Daemon, Opening, stepped_by, given, left_for, stepped_for}
-use Rattle.network_model.specs.Network.{Net, datagrams_of, sent_since, went_on}
-use Rattle.network_model.specs.Packets.{given_packets}
+use Rattle.network_model.specs.Network.{Net, made_since, went_on}
 use Rattle.network_safety.specs.Safe.{answered_by, IsGivenTo, GivenEvents}
 use Rattle.network_safety.proofs.Quiet.{IsTalk, talk_or, IsQuiet, garbage_quiet, given_quiet}
 use Rattle.network_safety.proofs.Pairs.{kth_found}
 use Rattle.network_safety.proofs.WorldSteps.{Leaves, step_leaves, given_leaves}
-use Rattle.network_safety.proofs.Going.{sent_is, noted_is}
+use Rattle.network_safety.proofs.Going.{made_is, noted_is}
 use Rattle.network_safety.proofs.Standing.{Facts, facts, NodeOf, node_of, IsKnown, Stand}
-use Rattle.network_safety.proofs.Stepping.{own_up, IsStep, step_stands, keeps_stands}
+use Rattle.network_safety.proofs.Stepping.{own_up, IsStep, step_stands, IsNoSend, keeps_stands}
 
 -- the same step, from a node that is at work
 same_step : (f : Answering) (e : NodeEvent) (s : Core) (d : Daemon) → at_work s ≡ d.core → stepped f s e ≡ stepped f d.core e
@@ -93,9 +93,8 @@ module _ (c : Config) (net : Net) (es : List Answered) (w : World) (k : Stand c 
       }
 
 -- nothing is sent by who has the same calls
-pub nothing_sent : (d e : Daemon) → e.calls ≡ d.calls → sent_since d e ≡ []
-unfolding datagrams_of
-nothing_sent d e is = sent_is d e [] (is ∙ sym (append-nil d.calls))
+pub nothing_sent : (d e : Daemon) → e.calls ≡ d.calls → (x : Exchange) → Among x (made_since d e) → IsNoSend x
+nothing_sent d e is x h = absurd (subst (Among x) (made_is d e [] (is ∙ sym (append-nil d.calls))) h)
 
 event_is : (message : List ℕ) (o : Option Packet) → packet_of message ≡ o → event_of message ≡ event_in o
 unfolding event_of
@@ -111,22 +110,20 @@ pub record Gives (c : Config) (net : Net) (es : List Answered) (w : World) (n : 
 
 module _ (c : Config) (net : Net) (es : List Answered) (w : World) (k : Stand c net es w) (n : ℕ) (d : Daemon) (at : net.daemons n ≡ Some d) (f : Answering) (message : List ℕ) where
   by_step : (e : NodeEvent) → event_of message ≡ e → (v : Event) (y : Core) → IsGivenTo n v → IsStep c net es w k n d at f e (answered_by f v) y
-      → ((p : Packet) → Has p (stepped f d.core (event_of message)).sends → goes_out p ≡ true → packet_of (bytes_of p) ≡ Some p) → number_after d.number (stepped f d.core (event_of message)).sends ≤ 2 ^ 64
       → Gives c net es w n d (stepped_by f (event_of message) d) (Some message) f
-  by_step e is v y to s spelled few =
+  by_step e is v y to s =
       record {
         events = answered_by f v ∷ [];
         are = (v, to, refl);
         world = goes_on w (answered_by f v);
-        stand = step_stands c net es w k n d at f (event_of message) (answered_by f v) y (subst (λ z. IsStep c net es w k n d at f z (answered_by f v) y) (sym is) s) spelled few;
+        stand = step_stands c net es w k n d at f (event_of message) (answered_by f v) y (subst (λ z. IsStep c net es w k n d at f z (answered_by f v) y) (sym is) s);
       }
 
   given_by : (o : Option Packet) → packet_of message ≡ o → IsKnown w message
-      → ((p : Packet) → Has p (stepped f d.core (event_of message)).sends → goes_out p ≡ true → packet_of (bytes_of p) ≡ Some p) → number_after d.number (stepped f d.core (event_of message)).sends ≤ 2 ^ 64
       → Gives c net es w n d (stepped_by f (event_of message) d) (Some message) f
-  given_by None is known spelled few =
-      by_step Garbage (event_is message None is) (event.Garbage n message) (stepped f (node_of c net es w k.world n d at).node.core Garbage) refl (drops c net es w k n d at f message) spelled few
-  given_by (Some p) is known spelled few = by (p.to == d.core.views.me) refl (talk_or p.body)
+  given_by None is known =
+      by_step Garbage (event_is message None is) (event.Garbage n message) (stepped f (node_of c net es w k.world n d at).node.core Garbage) refl (drops c net es w k n d at f message)
+  given_by (Some p) is known = by (p.to == d.core.views.me) refl (talk_or p.body)
     where
       x : NodeOf c net es w k.world n d
       x = node_of c net es w k.world n d at
@@ -136,12 +133,12 @@ module _ (c : Config) (net : Net) (es : List Answered) (w : World) (k : Stand c 
 
       quiet : ((p.to == d.core.views.me) ≡ true → IsTalk p.body) → Gives c net es w n d (stepped_by f (event_of message) d) (Some message) f
       quiet talk =
-          by_step (Given p) (event_is message (Some p) is) (event.Garbage n message) (stepped f x.node.core Garbage) refl (idles_at c net es w k n d at f p message (own_up c net es w k n d at).rests talk) spelled few
+          by_step (Given p) (event_is message (Some p) is) (event.Garbage n message) (stepped f x.node.core Garbage) refl (idles_at c net es w k n d at f p message (own_up c net es w k n d at).rests talk)
 
       taken_by : p.to ≡ n → Has p w.sent → Gives c net es w n d (stepped_by f (event_of message) d) (Some message) f
       taken_by to h =
           let i = kth_found w k.world.paired p h in
-          by_step (Given p) (event_is message (Some p) is) (event.Deliver p.from p.to i.0) (stepped f x.node.core (Given p)) to (takes c net es w k n d at f p to h i.0 i.1) spelled few
+          by_step (Given p) (event_is message (Some p) is) (event.Deliver p.from p.to i.0) (stepped f x.node.core (Given p)) to (takes c net es w k n d at f p to h i.0 i.1)
 
       by : (b : Bool) → (p.to == d.core.views.me) ≡ b → IsTalk p.body ⊎ (IsTalk p.body → ⊥) → Gives c net es w n d (stepped_by f (event_of message) d) (Some message) f
       by false e talk = quiet (λ g. absurd (let z : false ≡ true = sym e ∙ g in cc))
@@ -161,8 +158,8 @@ IsKnownIf w None = Unit {0}
 IsKnownIf w (Some bytes) = IsKnown w bytes
 
 pub message_gives : (c : Config) (net : Net) (es : List Answered) (w : World) (k : Stand c net es w) (n : ℕ) (d : Daemon) → net.daemons n ≡ Some d → (f : Answering) (message : Option (List ℕ)) → IsKnownIf w message
-    → ((p : Packet) → Has p (given_packets message f d) → goes_out p ≡ true → packet_of (bytes_of p) ≡ Some p) → (given message f d).number ≤ 2 ^ 64 → Gives c net es w n d (given message f d) message f
+    → Gives c net es w n d (given message f d) message f
 unfolding given stepped_for left_for
-message_gives c net es w k n d at f None known spelled few =
+message_gives c net es w k n d at f None known =
     record { events = []; are = refl; world = w; stand = subst (λ zs. Stand c (went_on n d d net) zs w) (sym (append-nil es)) (none_given c net es w k n d at) }
-message_gives c net es w k n d at f (Some message) known spelled few = given_by c net es w k n d at f message (packet_of message) refl known spelled few
+message_gives c net es w k n d at f (Some message) known = given_by c net es w k n d at f message (packet_of message) refl known

@@ -2,23 +2,22 @@
 use Rattle.std.proofs.Common.{◌≡◌, ℕ, List, ◌++◌, length, drop, Bool, true, false, Some, refl, sym, ap, ◌∙◌, append_assoc}
 use Rattle.std.specs.Prelude.{◌==◌, if◌then◌else◌}
 use Rattle.std.proofs.Math.Seq.{drop-append_seam}
-use Rattle.hags_io.specs.declared.link.LinkCall.{LinkCall}
 use Rattle.node_state.specs.declared.happened.Happened.{Happened}
 use Rattle.step_refinement.specs.Rules.{at_node}
+use Rattle.daemon_model.specs.Sent.{Exchange}
 use Rattle.daemon_model.specs.Daemon.{Daemon}
-use Rattle.network_safety.proofs.Messages.{datagrams_both}
-use Rattle.network_model.specs.Network.{Net, datagrams_of, sent_since, noted_since, went_on}
+use Rattle.network_model.specs.Network.{Net, made_since, noted_since, went_on}
 
 -- it received and sent this, and recorded this
 pub record More (d e : Daemon) : Type 0 where
-  pub calls : List LinkCall
+  pub calls : List Exchange
   pub called : e.calls ≡ d.calls ++ calls
   pub records : List Happened
   pub recorded : e.records ≡ d.records ++ records
 
-pub sent_is : (d e : Daemon) (calls : List LinkCall) → e.calls ≡ d.calls ++ calls → sent_since d e ≡ datagrams_of calls
-unfolding sent_since
-sent_is d e calls is = ap (λ xs. datagrams_of (drop (length d.calls) xs)) is ∙ ap datagrams_of (drop-append_seam d.calls calls)
+pub made_is : (d e : Daemon) (calls : List Exchange) → e.calls ≡ d.calls ++ calls → made_since d e ≡ calls
+unfolding made_since
+made_is d e calls is = ap (drop (length d.calls)) is ∙ drop-append_seam d.calls calls
 
 pub noted_is : (d e : Daemon) (records : List Happened) → e.records ≡ d.records ++ records → noted_since d e ≡ records
 unfolding noted_since
@@ -53,10 +52,10 @@ goes_twice n d e g net a b =
     both : More d g
     both = more_on d e g a b
 
-    wires : (net.wire ++ sent_since d e) ++ sent_since e g ≡ net.wire ++ sent_since d g
+    wires : (net.wire ++ made_since d e) ++ made_since e g ≡ net.wire ++ made_since d g
     wires =
-        append_assoc net.wire (sent_since d e) (sent_since e g) ∙ ap (λ xs. net.wire ++ (xs ++ sent_since e g)) (sent_is d e a.calls a.called) ∙ ap (λ xs. net.wire ++ (datagrams_of a.calls ++ xs)) (sent_is e g b.calls b.called) ∙ ap (λ xs. net.wire ++ xs) (sym (datagrams_both a.calls b.calls))
-        ∙ ap (λ xs. net.wire ++ xs) (sym (sent_is d g both.calls both.called))
+        append_assoc net.wire (made_since d e) (made_since e g) ∙ ap (λ xs. net.wire ++ (xs ++ made_since e g)) (made_is d e a.calls a.called) ∙ ap (λ xs. net.wire ++ (a.calls ++ xs)) (made_is e g b.calls b.called)
+        ∙ ap (λ xs. net.wire ++ xs) (sym (made_is d g both.calls both.called))
 
     notes : (net.records ++ noted_since d e) ++ noted_since e g ≡ net.records ++ noted_since d g
     notes =

@@ -1,5 +1,5 @@
 -- The run of every network is that of a world, and so it is safe.
-use Rattle.std.proofs.Common.{◌≡◌, ◌<◌, ◌≤◌, ◌+◌, ℕ, List, [], ◌∷◌, ◌++◌, Option, Some, None, false, refl, sym, ap, ◌∙◌, subst, arith, append-nil, append_assoc}
+use Rattle.std.proofs.Common.{◌≡◌, ◌<◌, ◌≤◌, ◌+◌, ℕ, List, [], ◌∷◌, ◌++◌, Option, Some, None, false, refl, sym, ap, ◌∙◌, subst, inl, inr, arith, append-nil, append_assoc}
 use Rattle.std.specs.Prelude.{fold, map}
 use Rattle.rsct_packet.specs.Ids.{last_u32}
 use Rattle.rsct_packet.specs.Lists.{reverse_onto}
@@ -15,13 +15,18 @@ use Rattle.world_laws.proofs.world_runs.Backwards.{reversed_back}
 use Rattle.world_laws.specs.world_answers.Answers.{Answered, goes_on, answered_after, answered_records}
 use Rattle.world_safety.specs.Scripts.{IsSafe}
 use Rattle.world_safety.proofs.Scripts.{every_answer_is_safe}
-use Rattle.daemon_model.specs.Daemon.{Daemon, Opening, Turn, opened, turned, left_for, stepped_for}
-use Rattle.network_model.specs.Network.{Act, Begins, Opens, Turns, Ends, Net, no_net, skipped, begins, idles, starts, does_if, acted, net_after}
-use Rattle.network_model.specs.Packets.{opening_packets}
-use Rattle.network_model.specs.Fits.{MaySend, MayBegin, MayTurn, OfUp, MayAct, AllMayAct}
+use Rattle.hags_io.specs.declared.link.LinkCall.{LinkCall}
+use Rattle.hags_io.specs.declared.link.LinkCall.TheVariants as call
+use Rattle.world_model.specs.declared.script.Script.{Script}
+use Rattle.piece_link.specs.Answers.{Among}
+use Rattle.daemon_model.specs.Sent.{Exchange, AllSpelled}
+use Rattle.daemon_model.specs.Daemon.{Daemon, Opening, Turn, opened, ticked, turned, left_for, stepped_for}
+use Rattle.network_model.specs.Network.{Act, Begins, Opens, Turns, Ends, Net, no_net, made_since, skipped, begins, idles, starts, does_if, acted, net_after}
+use Rattle.network_model.specs.Fits.{WasSent, MayCome, IsSpelledSend, MayBegin, MayTurn, OfUp, MayAct, AllMayAct, NetworkRun}
 use Rattle.network_safety.specs.Safe.{answered_by, silent, idle_events, TurnEvents, ActEvents, AreEventsOf, NetworksOfDaemonsAreSafe}
-use Rattle.network_safety.specs.Served.{life_of, ServedDaemonsAreSafe}
+use Rattle.network_safety.specs.Served.{IsServed, Done, Ended, Broken, served_calls, Served, life_of, calls_of, WasTold, ServedDaemonsAreSafe}
 use Rattle.network_safety.proofs.Apart.{nodes_record_their_lives}
+use Rattle.network_safety.proofs.Messages.{no_messages}
 use Rattle.network_safety.proofs.Standing.{Stands, Stand}
 use Rattle.network_safety.proofs.Stepping.{step_stands}
 use Rattle.network_safety.proofs.Acts.{its_node, called}
@@ -49,12 +54,12 @@ nothing_stands c free =
         paired = record { counted = λ x h. absurd h; paired = λ p h. absurd h };
       };
       wires = record {
+        made = λ x h. absurd h;
+        distinct = λ m l h. absurd (subst (Among m) no_messages h);
         messages = [];
-        drawn = λ b h. absurd h;
+        sent = λ m h. absurd h;
         fits = λ m h. absurd h;
-        distinct = λ m l h. absurd h;
         known = λ m h. absurd h;
-        past = λ m h. absurd h;
         up = λ n. tt;
       };
     }
@@ -85,7 +90,7 @@ module _ (c : Config) (free : is_fixed c.mode ≡ false) (net : Net) (es : List 
         stand = subst (λ zs. Stand c (starts c n incarnation moment (idles c n (skipped net n incarnation) net)) zs (goes_on r.world (silent (event.Start n)))) (append_assoc es (idle_events n (skipped net n incarnation)) (silent (event.Start n) ∷ [])) (subst (λ j. Stand c (starts c n j moment (idles c n (skipped net n incarnation) net)) ((es ++ idle_events n (skipped net n incarnation)) ++ silent (event.Start n) ∷ []) (goes_on r.world (silent (event.Start n)))) now s);
       }
 
-  open_goes : (n : ℕ) (o : Opening) (d : Option Daemon) → net.daemons n ≡ d → OfUp (λ d. MaySend (opening_packets o d) (opened d o)) d → ActGoes c net es (Opens n o)
+  open_goes : (n : ℕ) (o : Opening) (d : Option Daemon) → net.daemons n ≡ d → OfUp (λ d. Unit {0}) d → ActGoes c net es (Opens n o)
   unfolding acted opened stepped_for left_for
   open_goes n o None at may = absurd may
   open_goes n o (Some d) at may =
@@ -93,10 +98,10 @@ module _ (c : Config) (free : is_fixed c.mode ≡ false) (net : Net) (es : List 
         events = answered_by o.answers (event.Call n o.call) ∷ [];
         are = refl;
         world = goes_on w (answered_by o.answers (event.Call n o.call));
-        stand = subst (λ q. Stand c (does_if (λ d. opened d o) n q net) (es ++ answered_by o.answers (event.Call n o.call) ∷ []) (goes_on w (answered_by o.answers (event.Call n o.call)))) (sym at) (step_stands c net es w k n d at o.answers (Calls o.call) (answered_by o.answers (event.Call n o.call)) (stepped o.answers (its_node c net es w k n d at).node.core (Calls o.call)) (called c net es w k n d at o) may.spelled may.numbered);
+        stand = subst (λ q. Stand c (does_if (λ d. opened d o) n q net) (es ++ answered_by o.answers (event.Call n o.call) ∷ []) (goes_on w (answered_by o.answers (event.Call n o.call)))) (sym at) (step_stands c net es w k n d at o.answers (Calls o.call) (answered_by o.answers (event.Call n o.call)) (stepped o.answers (its_node c net es w k n d at).node.core (Calls o.call)) (called c net es w k n d at o));
       }
 
-  turning : (n : ℕ) (t : Turn) (d : Option Daemon) → net.daemons n ≡ d → OfUp (MayTurn net t) d → ActGoes c net es (Turns n t)
+  turning : (n : ℕ) (t : Turn) (d : Option Daemon) → net.daemons n ≡ d → OfUp (MayTurn IsSpelledSend net t) d → ActGoes c net es (Turns n t)
   unfolding acted
   turning n t None at may = absurd may
   turning n t (Some d) at may =
@@ -114,7 +119,7 @@ module _ (c : Config) (free : is_fixed c.mode ≡ false) (net : Net) (es : List 
   end_goes n (Some d) at may =
       record { events = silent (event.Stop n) ∷ []; are = refl; world = goes_on w (silent (event.Stop n)); stand = end_stands c net es w k n d at }
 
-  act_goes : (a : Act) → MayAct net a → ActGoes c net es a
+  act_goes : (a : Act) → MayAct IsSpelledSend net a → ActGoes c net es a
   act_goes (Begins n incarnation moment) may = begin_goes n incarnation moment may
   act_goes (Opens n o) may = open_goes n o (net.daemons n) refl may
   act_goes (Turns n t) may = turning n t (net.daemons n) refl may
@@ -128,7 +133,7 @@ record AllGo (c : Config) (net : Net) (es : List Answered) (acts : List Act) : T
   world : World
   stand : Stand c (fold (acted c) net acts) (es ++ events) world
 
-all_go : (c : Config) → is_fixed c.mode ≡ false → (acts : List Act) (net : Net) (es : List Answered) (w : World) → Stand c net es w → AllMayAct c net acts → AllGo c net es acts
+all_go : (c : Config) → is_fixed c.mode ≡ false → (acts : List Act) (net : Net) (es : List Answered) (w : World) → Stand c net es w → AllMayAct IsSpelledSend c net acts → AllGo c net es acts
 all_go c free [] net es w k may =
     record { events = []; are = refl; world = w; stand = subst (λ zs. Stand c net zs w) (sym (append-nil es)) k }
 all_go c free (a ∷ acts) net es w k may =
@@ -153,6 +158,48 @@ networks_of_daemons_are_safe c acts run =
     back : (rs : List Happened) → reverse_onto (reverse_onto rs []) [] ≡ rs
     back rs = reversed_back rs []
 
+-- ---- daemons that were served
+
+-- what holds of each send that is received, where another thing does
+module _ (c : Config) (P Q : Exchange → Type 0) (weaker : (x : Exchange) → P x → Q x) where
+  comes_as : (wire : List Exchange) (got : LinkCall) → MayCome P wire got → MayCome Q wire got
+  comes_as wire (call.Received network bytes) (inl h) = inl (record { send = h.send; among = h.among; is = h.is; holds = weaker h.send h.holds })
+  comes_as wire (call.Received network bytes) (inr h) = inr h
+  comes_as wire (call.Sent node network bytes out) h = h
+  comes_as wire call.Quiet h = h
+  comes_as wire call.Failed h = h
+
+  turns_as : (net : Net) (t : Turn) (d : Option Daemon) → OfUp (MayTurn P net t) d → OfUp (MayTurn Q net t) d
+  turns_as net t None h = h
+  turns_as net t (Some d) h = comes_as (net.wire ++ made_since d (ticked t.moment t.tick d)) t.got h
+
+  act_as : (net : Net) (a : Act) → MayAct P net a → MayAct Q net a
+  act_as net (Begins n incarnation moment) h = h
+  act_as net (Opens n o) h = h
+  act_as net (Turns n t) h = turns_as net t (net.daemons n) h
+  act_as net (Ends n) h = h
+
+  acts_as : (acts : List Act) (net : Net) → AllMayAct P c net acts → AllMayAct Q c net acts
+  acts_as [] net h = tt
+  acts_as (a ∷ acts) net h = (act_as net a h.0, acts_as acts (acted c net a) h.1)
+
+each_spelled : (xs : List Exchange) → AllSpelled xs → (x : Exchange) → Among x xs → IsSpelledSend x
+each_spelled [] h x i = absurd i
+each_spelled (y ∷ ys) h x (inl e) = subst IsSpelledSend (sym e) h.0
+each_spelled (y ∷ ys) h x (inr i) = each_spelled ys h.1 x i
+
+-- `serve` tells of all that it made that it is spelled
+all_spelled : (script : Script) (me inc turns : ℕ) (a b : Option (List LinkCall)) (x y u v : Option (List ℕ)) (s : IsServed script me inc turns a b x y u v) → AllSpelled (served_calls script me inc turns a b x y u v s)
+all_spelled script me inc turns a b x y u v (Done core s) = s.lived.made.spelled
+all_spelled script me inc turns a b x y u v (Ended s) = s.lived.made.spelled
+all_spelled script me inc turns a b x y u v (Broken s) = s.lived.made.made.spelled
+
+told_spelled : (c : Config) (served : (n : ℕ) → List (Served c n)) (x : Exchange) → WasTold c served x → IsSpelledSend x
+told_spelled c served x h =
+    let r = h.by in
+    each_spelled (calls_of c h.node r) (all_spelled r.script h.node r.incarnation r.turns (Some r.calls) (Some r.calls_after) r.held r.held_after r.moments r.moments_after r.is) x h.told
+
 pub served_daemons_are_safe : ServedDaemonsAreSafe
 served_daemons_are_safe c served acts are run =
-    (networks_of_daemons_are_safe c acts run, nodes_record_their_lives c acts (λ n. map (life_of c n) (served n)) are)
+    let spelled : NetworkRun IsSpelledSend c acts = record { mode = run.mode; may = acts_as c (WasTold c served) IsSpelledSend (told_spelled c served) acts no_net run.may } in
+    (networks_of_daemons_are_safe c acts spelled, nodes_record_their_lives c acts (λ n. map (life_of c n) (served n)) are)

@@ -15,15 +15,16 @@ use Rattle.step_refinement.specs.Rules.{at_node}
 use Rattle.step_refinement.proofs.Changed.{set_here, set_there, each_set}
 use Rattle.world_safety.specs.Mirrors.{inc_at}
 use Rattle.piece_link.specs.Pieces.{Message}
-use Rattle.piece_link.specs.Answers.{Among}
-use Rattle.daemon_model.specs.Sent.{sent_calls}
+use Rattle.piece_link.specs.Answers.{Among, AreDistinct}
+use Rattle.daemon_model.specs.Sent.{Exchange, sent_calls}
 use Rattle.daemon_model.specs.Daemon.{Daemon, begun, left_for, begun_for}
-use Rattle.network_model.specs.Network.{Net, datagrams_of, starts, ends, idles}
+use Rattle.network_model.specs.Network.{Net, starts, ends, idles}
 use Rattle.network_safety.specs.Safe.{silent, idle_events}
 use Rattle.network_safety.proofs.Quiet.{start_rests}
+use Rattle.network_safety.proofs.Messages.{messages_in}
 use Rattle.network_safety.proofs.Joins.{none_joined}
 use Rattle.network_safety.proofs.WorldSteps.{starts_leave, stops_leave}
-use Rattle.network_safety.proofs.Standing.{IsCore, Facts, facts, NodeOf, node_of, no_node, stands_on, IsBefore, IsPast, IsUp, IsUpIf, Stand}
+use Rattle.network_safety.proofs.Standing.{IsCore, Facts, facts, NodeOf, node_of, no_node, stands_on, IsBefore, IsPast, IsUp, IsUpIf, made_later, known_later, Stand}
 
 -- ---- a start
 
@@ -47,10 +48,6 @@ begun_up ms c n inc moment most fits = record { most = most; fits = fits; me = r
 begun_inc : (c : Config) (n inc moment : ℕ) → (begun c n inc moment).incarnation ≡ inc
 unfolding begun_for left_for
 begun_inc c n inc moment = refl
-
-none_more : (wire : List (List ℕ)) → wire ++ datagrams_of [] ≡ wire
-unfolding datagrams_of
-none_more wire = append-nil wire
 
 module _ (c : Config) (net : Net) (es : List Answered) (w : World) (k : Stand c net es w) (n moment : ℕ) (free : is_fixed c.mode ≡ false) (some : 1 ≤ n) (most : n ≤ 32) (down : net.daemons n ≡ None) (less : net.incarnations n < last_u32) where
   same_core : (v : Config) (i : ℕ) → v ≡ c → i ≡ net.incarnations n → IsCore (Some (begun c n (net.incarnations n + 1) moment)) (Some (started v n (i + 1)))
@@ -87,12 +84,12 @@ module _ (c : Config) (net : Net) (es : List Answered) (w : World) (k : Stand c 
       record {
         world = stands_on c net es w k.world (silent (event.Start n)) (free, free_n) n (Some (begun c n (net.incarnations n + 1) moment)) (Some (started w.config n (inc_at w.starts n + 1))) (inc_at w.starts n + 1) (started w.config n (inc_at w.starts n + 1)).records [] l (same_core w.config (inc_at w.starts n) f.config (sym (k.world.incs n))) (starts c n (net.incarnations n + 1) moment net) refl (set_here net.incarnations n (net.incarnations n + 1) ∙ ap (λ i. i + 1) (k.world.incs n)) (λ m ne. set_there net.incarnations n (net.incarnations n + 1) m ne) (ap (λ xs. net.records ++ xs) (same_records w.config (inc_at w.starts n) f.config (sym (k.world.incs n))));
         wires = record {
+          made = λ x h. made_later net (starts c n (net.incarnations n + 1) moment net) w (goes_on w (silent (event.Start n))) l.old past_start x.call x.of (k.wires.made x (subst (Among x) no_more h));
+          distinct = subst (λ xs. AreDistinct (messages_in xs)) (sym no_more) k.wires.distinct;
           messages = k.wires.messages;
-          drawn = λ b h. k.wires.drawn b (subst (Among b) (ap (λ xs. net.wire ++ datagrams_of xs) (begun_calls c n (net.incarnations n + 1) moment) ∙ no_more) h);
+          sent = λ m h. subst (λ xs. Among m (messages_in xs)) (sym no_more) (k.wires.sent m h);
           fits = k.wires.fits;
-          distinct = k.wires.distinct;
-          known = λ m h p is. elim (k.wires.known m h p is) [ inl t ↦ inl t | inr i ↦ inr (l.old p i) ];
-          past = λ m h. past_start m (k.wires.past m h);
+          known = λ m h. known_later w (goes_on w (silent (event.Start n))) l.old m.bytes (k.wires.known m h);
           up = λ m. elim (cases_eq m n) [
             | inl e ↦ subst (λ j. IsUpIf k.wires.messages j (at_node net.incarnations n (net.incarnations n + 1) j) (at_node net.daemons n (Some (begun c n (net.incarnations n + 1) moment)) j)) (sym e) here
             | inr ne ↦ subst (λ i. IsUpIf k.wires.messages m i (at_node net.daemons n (Some (begun c n (net.incarnations n + 1) moment)) m)) (sym (set_there net.incarnations n (net.incarnations n + 1) m ne)) (subst (IsUpIf k.wires.messages m (net.incarnations m)) (sym (set_there net.daemons n (Some (begun c n (net.incarnations n + 1) moment)) m ne)) (k.wires.up m))
@@ -100,8 +97,8 @@ module _ (c : Config) (net : Net) (es : List Answered) (w : World) (k : Stand c 
         };
       }
     where
-      no_more : net.wire ++ datagrams_of [] ≡ net.wire
-      no_more = none_more net.wire
+      no_more : net.wire ++ (begun c n (net.incarnations n + 1) moment).calls ≡ net.wire
+      no_more = ap (λ xs. net.wire ++ xs) (begun_calls c n (net.incarnations n + 1) moment) ∙ append-nil net.wire
 
       here : IsUpIf k.wires.messages n (at_node net.incarnations n (net.incarnations n + 1) n) (at_node net.daemons n (Some (begun c n (net.incarnations n + 1) moment)) n)
       here =
@@ -110,6 +107,10 @@ module _ (c : Config) (net : Net) (es : List Answered) (w : World) (k : Stand c 
 -- ---- an end
 
 module _ (c : Config) (net : Net) (es : List Answered) (w : World) (k : Stand c net es w) (n : ℕ) (d : Daemon) (at : net.daemons n ≡ Some d) where
+  past_end : (m : Message) → IsPast net m → IsPast (ends n net) m
+  unfolding ends
+  past_end m p = record { incarnation = p.incarnation; before = each_set (λ j o. m.sender ≡ j → IsBefore m o) net.daemons n None (λ e. tt) (λ j ne e. subst (λ x. IsBefore m (net.daemons x)) e p.before) m.sender refl }
+
   pub end_stands : Stand c (ends n net) (es ++ silent (event.Stop n) ∷ []) (goes_on w (silent (event.Stop n)))
   unfolding ends happens_by
   end_stands =
@@ -119,12 +120,12 @@ module _ (c : Config) (net : Net) (es : List Answered) (w : World) (k : Stand c 
       record {
         world = stands_on c net es w k.world (silent (event.Stop n)) tt n None None (inc_at w.starts n) (happened.Down n ∷ []) [] l tt (ends n net) refl (k.world.incs n) (λ m ne. refl) refl;
         wires = record {
-          messages = k.wires.messages;
-          drawn = k.wires.drawn;
-          fits = k.wires.fits;
+          made = λ x h. made_later net (ends n net) w (goes_on w (silent (event.Stop n))) l.old past_end x.call x.of (k.wires.made x h);
           distinct = k.wires.distinct;
-          known = λ m h p is. elim (k.wires.known m h p is) [ inl t ↦ inl t | inr i ↦ inr (l.old p i) ];
-          past = λ m h. (let p : IsPast net m = k.wires.past m h in record { incarnation = p.incarnation; before = each_set (λ j o. m.sender ≡ j → IsBefore m o) net.daemons n None (λ e. tt) (λ j ne e. subst (λ x. IsBefore m (net.daemons x)) e p.before) m.sender refl });
+          messages = k.wires.messages;
+          sent = k.wires.sent;
+          fits = k.wires.fits;
+          known = λ m h. known_later w (goes_on w (silent (event.Stop n))) l.old m.bytes (k.wires.known m h);
           up = each_set (λ m o. IsUpIf k.wires.messages m (net.incarnations m) o) net.daemons n None tt (λ m ne. k.wires.up m);
         };
       }

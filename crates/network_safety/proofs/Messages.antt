@@ -1,6 +1,6 @@
 -- The messages of packets: what is sent of them is in pieces, and no two have one number.
-use Rattle.std.proofs.Common.{◌≡◌, ◌<◌, ◌≤◌, ◌+◌, ◌^◌, ℕ, List, [], ◌∷◌, ◌++◌, length, ◌==◌, not, Bool, true, false, refl, sym, ap, ◌∙◌, subst, inl, inr, arith}
-use Rattle.std.specs.Prelude.{map, nat_le}
+use Rattle.std.proofs.Common.{◌≡◌, ◌<◌, ◌≤◌, ◌+◌, ◌^◌, ℕ, List, [], ◌∷◌, ◌++◌, length, ◌==◌, not, Bool, true, false, Option, Some, None, refl, sym, ap, ◌∙◌, subst, inl, inr, arith}
+use Rattle.std.specs.Prelude.{map, flat_map, nat_le}
 use Rattle.std.proofs.lemmas.Bool.{leb-true}
 use Rattle.std.proofs.lemmas.Grind.{flat_map-append}
 use Rattle.rsct_packet.specs.Search.{Has}
@@ -11,8 +11,8 @@ use Rattle.node_state.specs.Bytes.{bytes_of}
 use Rattle.piece_link.specs.Pieces.{Message, can_cut, message_by, pieces_of}
 use Rattle.piece_link.specs.Answers.{Among, CanBeCut, SameKey, AreDistinct}
 use Rattle.piece_link.proofs.OnceLaw.{among_append}
-use Rattle.daemon_model.specs.Sent.{piece_call, packet_pieces, calls_if, number_if, goes_out, carried_calls, number_over, sent_calls, number_after}
-use Rattle.network_model.specs.Network.{datagram_in, datagrams_of}
+use Rattle.daemon_model.specs.Sent.{piece_call, packet_pieces, calls_if, number_if, goes_out, carried_calls, number_over, Numbered, Exchange, piece_of, numbered, carried, sent_calls, number_after}
+use Rattle.network_model.specs.Fits.{IsSend}
 
 -- ---- what is among joined lists
 
@@ -25,16 +25,56 @@ pub among_right : {A : Type 0} (x : A) (xs ys : List A) → Among x ys → Among
 among_right x [] ys h = h
 among_right x (y ∷ xs) ys h = inr (among_right x xs ys h)
 
--- ---- the messages of packets, from a number on
+-- ---- the messages of packets
 
-abbrev pub message_if : Bool → Message → List Message
-message_if true m = m ∷ []
-message_if false m = []
+abbrev pub message_of : Numbered → Message
+message_of n = message_by n.sender n.incarnation n.number (bytes_of n.packet)
 
-unfoldable pub messages_of : ℕ → ℕ → ℕ → List Packet → List Message
-messages_of me inc number [] = []
-messages_of me inc number (p ∷ ps) =
-    message_if (goes_out p) (message_by me inc number (bytes_of p)) ++ messages_of me inc (number_over number p) ps
+abbrev pub messages_if : Option Numbered → List Message
+messages_if None = []
+messages_if (Some n) = message_of n ∷ []
+
+-- of each send of a piece of a packet
+unfoldable pub messages_in : List Exchange → List Message
+messages_in xs = flat_map (λ (x : Exchange). messages_if x.of) xs
+
+pub messages_both : (xs ys : List Exchange) → messages_in (xs ++ ys) ≡ messages_in xs ++ messages_in ys
+unfolding messages_in
+messages_both xs ys = flat_map-append (λ (x : Exchange). messages_if x.of) xs ys
+
+pub no_messages : messages_in [] ≡ []
+unfolding messages_in
+no_messages = refl
+
+pub record IsMessageIn (xs : List Exchange) (m : Message) : Type 0 where
+  pub send : Exchange
+  pub among : Among send xs
+  pub of : Numbered
+  pub is : send.of ≡ Some of
+  pub message : m ≡ message_of of
+
+pub message_in : (xs : List Exchange) (m : Message) → Among m (messages_in xs) → IsMessageIn xs m
+unfolding messages_in
+message_in [] m h = absurd h
+message_in (x ∷ xs) m h = elim (among_append m (messages_if x.of) (messages_in xs) h) [ inl a ↦ first x.of refl a | inr b ↦ later (message_in xs m b) ]
+  where
+    first : (o : Option Numbered) → x.of ≡ o → Among m (messages_if o) → IsMessageIn (x ∷ xs) m
+    first None e a = absurd a
+    first (Some n) e (inl is) = record { send = x; among = inl refl; of = n; is = e; message = is }
+    first (Some n) e (inr a) = absurd a
+
+    later : IsMessageIn xs m → IsMessageIn (x ∷ xs) m
+    later k = record { send = k.send; among = inr k.among; of = k.of; is = k.is; message = k.message }
+
+pub in_messages : (xs : List Exchange) (x : Exchange) (n : Numbered) → Among x xs → x.of ≡ Some n → Among (message_of n) (messages_in xs)
+unfolding messages_in
+in_messages [] x n h e = absurd h
+in_messages (y ∷ ys) x n (inl is) e =
+    let one : Among (message_of n) (messages_if y.of) = subst (λ (o : Option Numbered). Among (message_of n) (messages_if o)) (sym e ∙ ap (λ (z : Exchange). z.of) is) (inl refl) in
+    among_left (message_of n) (messages_if y.of) (messages_in ys) one
+in_messages (y ∷ ys) x n (inr h) e = among_right (message_of n) (messages_if y.of) (messages_in ys) (in_messages ys x n h e)
+
+-- ---- packets that are sent, from a number on
 
 past_le : (b : Bool) (number : ℕ) → number ≤ number_if b number
 past_le true number = omega arith
@@ -48,44 +88,61 @@ after_le number (p ∷ ps) =
     let b : number_over number p ≤ number_after (number_over number p) ps = after_le (number_over number p) ps in
     omega arith
 
--- one of them, of one of the packets, between two numbers
-pub record IsOne (me inc low high : ℕ) (ps : List Packet) (m : Message) : Type 0 where
+-- a send of a piece of one of the packets, as a message between two numbers
+pub record IsOne (me inc low high : ℕ) (ps : List Packet) (x : Exchange) : Type 0 where
+  pub of : Numbered
+  pub is : x.of ≡ Some of
+  pub sender : of.sender ≡ me
+  pub incarnation : of.incarnation ≡ inc
+  pub from : low ≤ of.number
+  pub below : of.number < high
+  pub has : Has of.packet ps
+  pub goes : goes_out of.packet ≡ true
+  pub piece : (b : List ℕ) → IsSend b x.call → Among b (pieces_of (message_of of))
+
+wider : (me inc low high low' high' : ℕ) (p : Packet) (ps : List Packet) (x : Exchange) → low' ≤ low → high ≤ high' → IsOne me inc low high ps x → IsOne me inc low' high' (p ∷ ps) x
+wider me inc low high low' high' p ps x a b k =
+    record { of = k.of; is = k.is; sender = k.sender; incarnation = k.incarnation; from = omega (arith, k.from); below = omega (arith, k.below); has = inr k.has; goes = k.goes; piece = k.piece }
+
+piece_in : (n : Numbered) (p : Packet) (bs : List (List ℕ)) (x : Exchange) → Among x (map (piece_of n) (map (piece_call p) bs)) → (b : List ℕ) × (x ≡ piece_of n (piece_call p b)) × Among b bs
+piece_in n p [] x h = absurd h
+piece_in n p (b ∷ bs) x (inl is) = (b, is, inl refl)
+piece_in n p (b ∷ bs) x (inr h) = let r = piece_in n p bs x h in (r.0, r.1, inr r.2)
+
+first_one : (me inc number high : ℕ) (p : Packet) (ps : List Packet) (b : Bool) → goes_out p ≡ b → number_if b number ≤ high → (x : Exchange) → Among x (map (piece_of (numbered me inc number p)) (calls_if b (map (piece_call p) (packet_pieces me inc number p)))) → IsOne me inc number high (p ∷ ps) x
+first_one me inc number high p ps true e le x h =
+    let r = piece_in (numbered me inc number p) p (packet_pieces me inc number p) x h in
+    subst (IsOne me inc number high (p ∷ ps)) (sym r.1) (record { of = numbered me inc number p; is = refl; sender = refl; incarnation = refl; from = omega arith; below = omega (arith, le); has = inl refl; goes = e; piece = λ b is. subst (λ z. Among z (packet_pieces me inc number p)) is r.2 })
+first_one me inc number high p ps false e le x h = absurd h
+
+pub each_one : (me inc number : ℕ) (ps : List Packet) (x : Exchange) → Among x (sent_calls me inc number ps) → IsOne me inc number (number_after number ps) ps x
+unfolding sent_calls carried carried_calls number_after number_over
+each_one me inc number [] x h = absurd h
+each_one me inc number (p ∷ ps) x h =
+    let next : ℕ = number_over number p in
+    elim (among_append x (carried me inc number p) (sent_calls me inc next ps) h) [
+      | inl a ↦ first_one me inc number (number_after next ps) p ps (goes_out p) refl (after_le next ps) x a
+      | inr b ↦ wider me inc next (number_after next ps) number (number_after next ps) p ps x (past_le (goes_out p) number) (omega arith) (each_one me inc next ps x b)
+    ]
+
+-- the message of one of them
+pub record IsOneMessage (me inc low high : ℕ) (m : Message) : Type 0 where
   pub sender : m.sender ≡ me
   pub incarnation : m.incarnation ≡ inc
   pub from : low ≤ m.number
   pub below : m.number < high
-  pub cut : can_cut m.bytes ≡ true
-  pub packet : Packet
-  pub has : Has packet ps
-  pub bytes : m.bytes ≡ bytes_of packet
-  pub goes : goes_out packet ≡ true
 
-wider : (me inc low high low' high' : ℕ) (p : Packet) (ps : List Packet) (m : Message) → low' ≤ low → high ≤ high' → IsOne me inc low high ps m → IsOne me inc low' high' (p ∷ ps) m
-wider me inc low high low' high' p ps m a b k =
-    record { sender = k.sender; incarnation = k.incarnation; from = omega (arith, k.from); below = omega (arith, k.below); cut = k.cut; packet = k.packet; has = inr k.has; bytes = k.bytes; goes = k.goes }
+same_of : (a b : Numbered) (o : Option Numbered) → o ≡ Some a → o ≡ Some b → a ≡ b
+same_of a b o e f = let q : Some a ≡ Some b = sym e ∙ f in cc
 
-first_one : (me inc number high : ℕ) (p : Packet) (ps : List Packet) (b : Bool) → goes_out p ≡ b → number_if b number ≤ high → (m : Message) → Among m (message_if b (message_by me inc number (bytes_of p))) → IsOne me inc number high (p ∷ ps) m
-first_one me inc number high p ps true e le m (inl is) =
-    subst (IsOne me inc number high (p ∷ ps)) (sym is) (record { sender = refl; incarnation = refl; from = omega arith; below = omega (arith, le); cut = (and_true (not (p.network == 0)) (can_cut (bytes_of p)) e).1; packet = p; has = inl refl; bytes = refl; goes = e })
-first_one me inc number high p ps true e le m (inr h) = absurd h
-first_one me inc number high p ps false e le m h = absurd h
+pub each_message : (me inc number : ℕ) (ps : List Packet) (m : Message) → Among m (messages_in (sent_calls me inc number ps)) → IsOneMessage me inc number (number_after number ps) m
+each_message me inc number ps m h =
+    let i : IsMessageIn (sent_calls me inc number ps) m = message_in (sent_calls me inc number ps) m h in
+    let o : IsOne me inc number (number_after number ps) ps i.send = each_one me inc number ps i.send i.among in
+    let is : m ≡ message_of o.of = i.message ∙ ap message_of (same_of i.of o.of i.send.of i.is o.is) in
+    subst (IsOneMessage me inc number (number_after number ps)) (sym is) (record { sender = o.sender; incarnation = o.incarnation; from = o.from; below = o.below })
 
-pub each_one : (me inc number : ℕ) (ps : List Packet) (m : Message) → Among m (messages_of me inc number ps) → IsOne me inc number (number_after number ps) ps m
-unfolding messages_of number_after number_over
-each_one me inc number [] m h = absurd h
-each_one me inc number (p ∷ ps) m h =
-    let next : ℕ = number_over number p in
-    elim (among_append m (message_if (goes_out p) (message_by me inc number (bytes_of p))) (messages_of me inc next ps) h) [
-      | inl a ↦ first_one me inc number (number_after next ps) p ps (goes_out p) refl (after_le next ps) m a
-      | inr b ↦ wider me inc next (number_after next ps) number (number_after next ps) p ps m (past_le (goes_out p) number) (omega arith) (each_one me inc next ps m b)
-    ]
-
--- no two of them have one number
-same_first : (first : Message) (b : Bool) (m n : Message) → Among m (message_if b first) → Among n (message_if b first) → m ≡ n
-same_first first true m n (inl e) (inl f) = e ∙ sym f
-same_first first true m n (inr e) f = absurd e
-same_first first true m n (inl e) (inr f) = absurd f
-same_first first false m n e f = absurd e
+-- ---- no two of them have one number
 
 -- two parts of a list of messages between which no two have one key
 pub distinct_both : (xs ys : List Message) → AreDistinct xs → AreDistinct ys → ((m n : Message) → Among m xs → Among n ys → SameKey m n → ⊥) → AreDistinct (xs ++ ys)
@@ -101,66 +158,48 @@ distinct_both xs ys left right apart m n hm hn same =
       ]
     ]
 
-before_rest : (me inc number : ℕ) (p : Packet) (b : Bool) → goes_out p ≡ b → (m : Message) → Among m (message_if b (message_by me inc number (bytes_of p))) → m.number < number_if b number
-before_rest me inc number p true e m (inl is) = subst (λ (z : Message). z.number < number + 1) (sym is) (omega arith)
-before_rest me inc number p true e m (inr h) = absurd h
-before_rest me inc number p false e m h = absurd h
+-- all pieces of one packet have one message
+of_one : (n : Numbered) (cs : List LinkCall) (m : Message) → Among m (messages_in (map (piece_of n) cs)) → m ≡ message_of n
+unfolding messages_in
+of_one n [] m h = absurd h
+of_one n (c ∷ cs) m (inl is) = is
+of_one n (c ∷ cs) m (inr h) = of_one n cs m h
 
-pub own_distinct : (me inc number : ℕ) (ps : List Packet) → AreDistinct (messages_of me inc number ps)
-unfolding messages_of number_over
-own_distinct me inc number [] = λ m n h k same. absurd h
+before_rest : (me inc number : ℕ) (p : Packet) (b : Bool) (m : Message) → Among m (messages_in (map (piece_of (numbered me inc number p)) (calls_if b (map (piece_call p) (packet_pieces me inc number p))))) → m.number < number_if b number
+unfolding messages_in
+before_rest me inc number p true m h =
+    subst (λ (z : Message). z.number < number + 1) (sym (of_one (numbered me inc number p) (map (piece_call p) (packet_pieces me inc number p)) m h)) (omega arith)
+before_rest me inc number p false m h = absurd h
+
+pub own_distinct : (me inc number : ℕ) (ps : List Packet) → AreDistinct (messages_in (sent_calls me inc number ps))
+unfolding sent_calls carried carried_calls number_over
+own_distinct me inc number [] = λ m n h k same. absurd (subst (Among m) no_messages h)
 own_distinct me inc number (p ∷ ps) =
-    distinct_both (message_if (goes_out p) first) (messages_of me inc (number_over number p) ps) (λ m n h k same. same_first first (goes_out p) m n h k) (own_distinct me inc (number_over number p) ps) apart
+    subst AreDistinct (sym (messages_both (carried me inc number p) (sent_calls me inc (number_over number p) ps)))
+    (distinct_both (messages_in (carried me inc number p)) (messages_in (sent_calls me inc (number_over number p) ps)) first (own_distinct me inc (number_over number p) ps) apart)
   where
-    first : Message
-    first = message_by me inc number (bytes_of p)
+    first : AreDistinct (messages_in (carried me inc number p))
+    first m n h k same = of_one (numbered me inc number p) (carried_calls me inc number p) m h ∙ sym (of_one (numbered me inc number p) (carried_calls me inc number p) n k)
 
-    apart : (m n : Message) → Among m (message_if (goes_out p) first) → Among n (messages_of me inc (number_over number p) ps) → SameKey m n → ⊥
+    apart : (m n : Message) → Among m (messages_in (carried me inc number p)) → Among n (messages_in (sent_calls me inc (number_over number p) ps)) → SameKey m n → ⊥
     apart m n h k same =
-        let a : m.number < number_over number p = before_rest me inc number p (goes_out p) refl m h in
-        let b : number_over number p ≤ n.number = (each_one me inc (number_over number p) ps n k).from in
+        let a : m.number < number_over number p = before_rest me inc number p (goes_out p) m h in
+        let b : number_over number p ≤ n.number = (each_message me inc (number_over number p) ps n k).from in
         let c : m.number ≡ n.number = same.number in
         absurd (omega (arith, a, b, c))
 
--- ---- their pieces
-
-pub datagrams_both : (xs ys : List LinkCall) → datagrams_of (xs ++ ys) ≡ datagrams_of xs ++ datagrams_of ys
-unfolding datagrams_of
-datagrams_both xs ys = flat_map-append datagram_in xs ys
-
-of_pieces : (p : Packet) (bs : List (List ℕ)) → datagrams_of (map (piece_call p) bs) ≡ bs
-unfolding datagrams_of
-of_pieces p [] = refl
-of_pieces p (b ∷ bs) = ap (λ xs. b ∷ xs) (of_pieces p bs)
-
-first_piece : (me inc number : ℕ) (p : Packet) (c : Bool) (b : List ℕ) → Among b (datagrams_of (calls_if c (map (piece_call p) (packet_pieces me inc number p)))) → (m : Message) × Among m (message_if c (message_by me inc number (bytes_of p))) × Among b (pieces_of m)
-unfolding datagrams_of
-first_piece me inc number p true b h = (message_by me inc number (bytes_of p), inl refl, subst (Among b) (of_pieces p (packet_pieces me inc number p)) h)
-first_piece me inc number p false b h = absurd h
-
-pub sent_pieces : (me inc number : ℕ) (ps : List Packet) (b : List ℕ) → Among b (datagrams_of (sent_calls me inc number ps)) → (m : Message) × Among m (messages_of me inc number ps) × Among b (pieces_of m)
-unfolding messages_of sent_calls carried_calls datagrams_of
-sent_pieces me inc number [] b h = absurd h
-sent_pieces me inc number (p ∷ ps) b h =
-    let first : List Message = message_if (goes_out p) (message_by me inc number (bytes_of p)) in
-    let rest : List Message = messages_of me inc (number_over number p) ps in
-    let split : Among b (datagrams_of (carried_calls me inc number p) ++ datagrams_of (sent_calls me inc (number_over number p) ps)) = subst (Among b) (datagrams_both (carried_calls me inc number p) (sent_calls me inc (number_over number p) ps)) h in
-    elim (among_append b (datagrams_of (carried_calls me inc number p)) (datagrams_of (sent_calls me inc (number_over number p) ps)) split) [
-      | inl a ↦ (let r = first_piece me inc number p (goes_out p) b a in (r.0, among_left r.0 first rest r.1, r.2))
-      | inr a ↦ (let r = sent_pieces me inc (number_over number p) ps b a in (r.0, among_right r.0 first rest r.1, r.2))
-    ]
-
 -- each can be cut, where its numbers fit
-pub one_fits : (me inc low high : ℕ) (ps : List Packet) (m : Message) → me ≤ 32 → inc < 2 ^ 32 → high ≤ 2 ^ 64 → IsOne me inc low high ps m → CanBeCut m
-one_fits me inc low high ps m a b c k =
-    let both = and_true (nat_le 1 (length m.bytes)) (nat_le (length m.bytes) 70560000) k.cut in
+pub one_fits : (n : Numbered) → n.sender ≤ 32 → n.incarnation < 2 ^ 32 → n.number < 2 ^ 64 → can_cut (bytes_of n.packet) ≡ true → CanBeCut (message_of n)
+one_fits n a b c cut =
+    let both = and_true (nat_le 1 (length (bytes_of n.packet))) (nat_le (length (bytes_of n.packet)) 70560000) cut in
     record {
-      sender = subst (λ n. n ≤ 32) (sym k.sender) a;
-      incarnation = subst (λ n. n < 2 ^ 32) (sym k.incarnation) b;
-      number = below;
-      some = leb-true 1 (length m.bytes) both.0;
-      most = leb-true (length m.bytes) 70560000 both.1;
+      sender = a;
+      incarnation = b;
+      number = c;
+      some = leb-true 1 (length (bytes_of n.packet)) both.0;
+      most = leb-true (length (bytes_of n.packet)) 70560000 both.1;
     }
-  where
-    below : m.number < 2 ^ 64
-    below = omega (arith, k.below, c)
+
+-- what goes out can be cut
+pub goes_cut : (p : Packet) → goes_out p ≡ true → can_cut (bytes_of p) ≡ true
+goes_cut p e = (and_true (not (p.network == 0)) (can_cut (bytes_of p)) e).1

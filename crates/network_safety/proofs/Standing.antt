@@ -10,7 +10,7 @@ use Rattle.node_state.specs.declared.happened.Happened.{Happened}
 use Rattle.node_state.specs.declared.packet.Packet.{Packet}
 use Rattle.node_state.specs.declared.state.Core.{Core}
 use Rattle.node_state.specs.HandOn.{Answering}
-use Rattle.node_state.specs.Bytes.{packet_of}
+use Rattle.node_state.specs.Bytes.{packet_of, bytes_of}
 use Rattle.node_state.specs.Step.{NodeEvent, Ticks, Asks, Given, Calls, at_work, stepped}
 use Rattle.node_state.specs.Step as step
 use Rattle.world_model.specs.declared.event.Event.{Event}
@@ -28,12 +28,16 @@ use Rattle.world_safety.specs.Mirrors.{core_in, core_at, inc_at, Once, Mirrors}
 use Rattle.world_safety.specs.Moments.{CanCome}
 use Rattle.world_safety.proofs.HeardStates.{answered_last}
 use Rattle.world_safety.proofs.Runs.{every_run_is_reached}
-use Rattle.piece_link.specs.Pieces.{Message, pieces_of}
+use Rattle.hags_io.specs.declared.link.LinkCall.{LinkCall}
+use Rattle.piece_link.specs.Pieces.{Message, can_cut, pieces_of}
 use Rattle.piece_link.specs.Answers.{Among, CanBeCut, AreDistinct}
+use Rattle.daemon_model.specs.Sent.{Numbered, Exchange}
 use Rattle.daemon_model.specs.Daemon.{Daemon}
 use Rattle.daemon_model.proofs.AloneLaws.{IsAlone}
 use Rattle.network_model.specs.Network.{Net}
+use Rattle.network_model.specs.Fits.{IsSend}
 use Rattle.network_safety.proofs.Quiet.{IsTalk}
+use Rattle.network_safety.proofs.Messages.{message_of, messages_in, IsMessageIn, message_in}
 use Rattle.network_safety.proofs.Joins.{IsJoinedOf}
 use Rattle.network_safety.proofs.Pairs.{AllPaired}
 use Rattle.network_safety.proofs.WorldSteps.{Leaves}
@@ -87,15 +91,46 @@ abbrev pub IsUpIf : List Message → ℕ → ℕ → Option Daemon → Type 0
 IsUpIf messages n inc None = Unit {0}
 IsUpIf messages n inc (Some d) = IsUp messages n inc d
 
--- what is on the wire are pieces of messages, each with a key of its own, that the world knows
+-- a send of a piece of a packet that a daemon cut, and that the world knows
+pub record IsPiece (net : Net) (w : World) (n : Numbered) (c : LinkCall) : Type 0 where
+  pub sender : n.sender ≤ 32
+  pub incarnation : n.incarnation < 2 ^ 32
+  pub cut : can_cut (bytes_of n.packet) ≡ true
+  pub known : IsTalk n.packet.body ⊎ Has n.packet w.sent
+  pub past : IsPast net (message_of n)
+  pub piece : (b : List ℕ) → IsSend b c → Among b (pieces_of (message_of n))
+
+-- all else is no send
+abbrev pub IsMade : Net → World → LinkCall → Option Numbered → Type 0
+IsMade net w c None = (b : List ℕ) → IsSend b c → ⊥
+IsMade net w c (Some n) = IsPiece net w n c
+
+-- On the wire are pieces of packets that the world knows, each packet with a key of its own. Of some of their messages
+-- pieces came: these are known, whatever is joined of their pieces.
 pub record Wires (net : Net) (w : World) : Type 0 where
+  pub made : (x : Exchange) → Among x net.wire → IsMade net w x.call x.of
+  pub distinct : AreDistinct (messages_in net.wire)
   pub messages : List Message
-  pub drawn : (b : List ℕ) → Among b net.wire → (m : Message) × Among m messages × Among b (pieces_of m)
+  pub sent : (m : Message) → Among m messages → Among m (messages_in net.wire)
   pub fits : (m : Message) → Among m messages → CanBeCut m
-  pub distinct : AreDistinct messages
   pub known : (m : Message) → Among m messages → IsKnown w m.bytes
-  pub past : (m : Message) → Among m messages → IsPast net m
   pub up : (n : ℕ) → IsUpIf messages n (net.incarnations n) (net.daemons n)
+
+-- what was made stays so, where the world and the network go on
+pub made_later : (net after : Net) (w v : World) → ((p : Packet) → Has p w.sent → Has p v.sent) → ((m : Message) → IsPast net m → IsPast after m) → (c : LinkCall) (o : Option Numbered) → IsMade net w c o → IsMade after v c o
+made_later net after w v old past c None h = h
+made_later net after w v old past c (Some n) h =
+    record { sender = h.sender; incarnation = h.incarnation; cut = h.cut; known = elim h.known [ inl t ↦ inl t | inr i ↦ inr (old n.packet i) ]; past = past (message_of n) h.past; piece = h.piece }
+
+pub known_later : (w v : World) → ((p : Packet) → Has p w.sent → Has p v.sent) → (bytes : List ℕ) → IsKnown w bytes → IsKnown v bytes
+known_later w v old bytes k p is = elim (k p is) [ inl t ↦ inl t | inr i ↦ inr (old p i) ]
+
+-- each message of the wire is one that a daemon cut
+pub wire_past : (net : Net) (w : World) → Wires net w → (m : Message) → Among m (messages_in net.wire) → IsPast net m
+wire_past net w k m h =
+    let i : IsMessageIn net.wire m = message_in net.wire m h in
+    let piece : IsPiece net w i.of i.send.call = subst (IsMade net w i.send.call) i.is (k.made i.send i.among) in
+    subst (IsPast net) (sym i.message) piece.past
 
 pub record Stand (c : Config) (net : Net) (es : List Answered) (w : World) : Type 0 where
   pub world : Stands c net es w

@@ -9,7 +9,7 @@ use Rattle.world_safety.specs.Events.{AllMayHappen}
 use Rattle.world_safety.specs.Scripts.{IsSafe}
 use Rattle.daemon_model.specs.Daemon.{Daemon, Turn, is_due, ticked, joined_by}
 use Rattle.network_model.specs.Network.{Act, Begins, Opens, Turns, Ends, Net, no_net, skipped, acted, net_after}
-use Rattle.network_model.specs.Fits.{OfUp, NetworkRun}
+use Rattle.network_model.specs.Fits.{OfUp, IsSpelledSend, NetworkRun}
 
 -- ---- the events of an act
 
@@ -68,4 +68,4 @@ pub record IsSafeNetwork (c : Config) (acts : List Act) : Type 0 where
   pub safe : IsSafe c events (net_after c acts).records
 
 abbrev pub NetworksOfDaemonsAreSafe : Type 0
-NetworksOfDaemonsAreSafe = (c : Config) (acts : List Act) → NetworkRun c acts → IsSafeNetwork c acts
+NetworksOfDaemonsAreSafe = (c : Config) (acts : List Act) → NetworkRun IsSpelledSend c acts → IsSafeNetwork c acts

@@ -5,7 +5,9 @@ use Rattle.node_state.specs.declared.config.Config.{Config}
 use Rattle.node_state.specs.declared.state.Core.{Core}
 use Rattle.world_model.specs.declared.script.Script.{Script}
 use Rattle.daemon_model.specs.Daemon.{Life}
-use Rattle.daemon_model.specs.Lives.{ServesAs, ServesTo, ServesFront}
+use Rattle.piece_link.specs.Answers.{Among}
+use Rattle.daemon_model.specs.Sent.{Exchange}
+use Rattle.daemon_model.specs.Lives.{last_of, ServesAs, ServesTo, ServesFront}
 use Rattle.network_model.specs.Network.{Act, no_net}
 use Rattle.network_model.specs.Lives.{LifeIn, AreLives, records_at, lives_records}
 use Rattle.network_model.specs.Fits.{NetworkRun}
@@ -36,6 +38,12 @@ life_served script me incarnation turns a b x y u v (Done core s) = s.life
 life_served script me incarnation turns a b x y u v (Ended s) = s.life
 life_served script me incarnation turns a b x y u v (Broken s) = s.life
 
+-- what it sent and received, as its link told it: all that its life gives, or a front of that where it broke off
+abbrev pub served_calls : (script : Script) (me incarnation turns : ℕ) (a b : Option (List LinkCall)) (x y : Option (List ℕ)) (u v : Option (List ℕ)) → IsServed script me incarnation turns a b x y u v → List Exchange
+served_calls script me incarnation turns a b x y u v (Done core s) = (last_of script me incarnation s.life).calls
+served_calls script me incarnation turns a b x y u v (Ended s) = (last_of script me incarnation s.life).calls
+served_calls script me incarnation turns a b x y u v (Broken s) = s.lived.made.front
+
 -- in none of them were clients on other machines served
 abbrev pub served_alone : (script : Script) (me incarnation turns : ℕ) (a b : Option (List LinkCall)) (x y : Option (List ℕ)) (u v : Option (List ℕ)) (s : IsServed script me incarnation turns a b x y u v)
     → (life_served script me incarnation turns a b x y u v s).remote ≡ false
@@ -52,9 +60,20 @@ life_of c n r =
       alone = served_alone r.script n r.incarnation r.turns (Some r.calls) (Some r.calls_after) r.held r.held_after r.moments r.moments_after r.is;
     }
 
+abbrev pub calls_of : (c : Config) (n : ℕ) → Served c n → List Exchange
+calls_of c n r = served_calls r.script n r.incarnation r.turns (Some r.calls) (Some r.calls_after) r.held r.held_after r.moments r.moments_after r.is
+
+-- the link of one of these daemons told that this was sent
+pub record WasTold (c : Config) (served : (n : ℕ) → List (Served c n)) (x : Exchange) : Type 0 where
+  pub node : ℕ
+  pub by : Served c node
+  pub is : Among by (served node)
+  pub told : Among x (calls_of c node by)
+
 -- Let `serve` have run daemons over links that tell, for each node one after another, and let what they were given fit
--- together. Then they are a safe network, whose records at each node are those of these daemons.
+-- together: each datagram that was sent is one of which a link told so. Then they are a safe network, whose records at each
+-- node are those of these daemons.
 abbrev pub ServedDaemonsAreSafe : Type 0
 ServedDaemonsAreSafe =
-    (c : Config) (served : (n : ℕ) → List (Served c n)) (acts : List Act) → AreLives acts (λ n. map (life_of c n) (served n)) → NetworkRun c acts
+    (c : Config) (served : (n : ℕ) → List (Served c n)) (acts : List Act) → AreLives acts (λ n. map (life_of c n) (served n)) → NetworkRun (WasTold c served) c acts
     → IsSafeNetwork c acts × ((n : ℕ) → records_at c n no_net acts ≡ lives_records c n 0 (map (life_of c n) (served n)))

@@ -1,13 +1,13 @@
 -- One packet more, or it breaks off.
 use Rattle.std.proofs.Common.{rules}
-use Rattle.daemon_model.specs.Sent.{sent_calls, WentFront}
+use Rattle.daemon_model.specs.Sent.{sent_calls, MadeFront}
 use Rattle.daemon_run.proofs.KeepLaws.{keeps_on}
-use Rattle.daemon_run.proofs.WentLaws.{packets_next, packets_front, packets_done, packets_number}
+use Rattle.daemon_run.proofs.MadeLaws.{packets_next, packets_front, packets_done, packets_number}
 use Rattle.daemon_run.proofs.sending.send_packets.Goals as goal
 
 pub returns-in_err-send_carried-clause-broke : goal.returns-in_err-send_carried-clause-broke
 returns-in_err-send_carried-clause-broke g c =
-    let h : WentFront (g.L.Link.calls c.args.link.now) (g.L.Link.calls c.send_carried.new.link) (sent_calls c.args.me c.args.incarnation c.args.number.now c.args.packets.now)
+    let h : MadeFront (g.L.Link.calls c.args.link.now) (g.L.Link.calls c.send_carried.new.link) (sent_calls c.args.me c.args.incarnation c.args.number.now c.args.packets.now)
     = packets_front _ _ c.loop-packet.number _ c.loop-packet.packet-index c.packet-item.result c.args.packets.now _ _ _ c.loop-packet-test.true c.packet-item.is c.loop-packet.invariant.0 c.in_err-send_carried.ensures.broke in
     search rules
 

@@ -1,6 +1,6 @@
 use Rattle.std.proofs.Common.{drop}
 use Rattle.daemon_run.specs.Keeping.{KeepsLink}
-use Rattle.daemon_run.proofs.WentLaws.{PacketsTo}
+use Rattle.daemon_run.proofs.MadeLaws.{PacketsTo}
 use Rattle.daemon_run.proofs.sending.send_packets.Given as goal
 
 abbrev pub invariant-loop-packet : goal.invariant-loop-packet
