@@ -15,3 +15,5 @@ pub mod Scripts
 pub mod Steady
 pub mod SteadyRuns
 pub mod HeardStates
+pub mod Samples
+pub mod Asking

@@ -7,3 +7,5 @@ pub mod Scripts
 pub mod Plays
 pub mod Lemmas
 pub mod HeardStates
+pub mod Samples
+pub mod Opens

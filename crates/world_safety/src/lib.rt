@@ -1,6 +1,8 @@
 //! Every run of the world is safe.
 #![tactic(auto)]
 
+pub mod examples;
+
 ghost use Rattle.world_safety.specs.Safety.{RunHasTheRecords, EveryRunIsReached, EveryRunIsSafe};
 ghost use Rattle.world_safety.specs.Scripts.{EveryScriptIsSafe, EveryKeptRunIsSafe};
 ghost use Rattle.world_safety.specs.Lemmas.{SafeRunsHaveOneList, SafeRunsLeaveNoGap};

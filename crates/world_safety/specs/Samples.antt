@@ -1,0 +1,215 @@
+-- Small runs, for worked examples of what is asked of a run: in each a client comes and joins a group.
+use Rattle.std.specs.Prelude.{ℕ, List, [], ◌∷◌, ◌++◌, codes, Option, Some, None}
+use Rattle.rsct_packet.specs.declared.ids.ViewId.{ViewId}
+use Rattle.rsct_packet.specs.declared.ids.Member.{Member}
+use Rattle.rsct_packet.specs.declared.ids.ProviderId.{ProviderId}
+use Rattle.group_attr.specs.Attrs.{empty_attrs}
+use Rattle.group_attr.specs.declared.attrs.Attrs.{Attrs}
+use Rattle.proposal_core.specs.declared.proposal.Proposal.{Proposal}
+use Rattle.proposal_core.specs.declared.proposal.Proposal.TheVariants as proposal
+use Rattle.proposal_core.specs.declared.entry.Entry.{Entry}
+use Rattle.proposal_core.specs.declared.entry.Entry.TheVariants.{Once}
+use Rattle.node_state.specs.declared.call.CallLine.TheVariants as call
+use Rattle.node_state.specs.declared.config.Config.{Config}
+use Rattle.node_state.specs.declared.config.Mode.TheVariants.{Fixed, Asked}
+use Rattle.node_state.specs.declared.happened.Happened.{Happened}
+use Rattle.node_state.specs.declared.happened.Happened.TheVariants as happened
+use Rattle.node_state.specs.declared.packet.Body.TheVariants.{Lookup}
+use Rattle.node_state.specs.declared.packet.Packet.{Packet}
+use Rattle.world_model.specs.declared.event.Event.{Event}
+use Rattle.world_model.specs.declared.event.Event.TheVariants as event
+use Rattle.world_model.specs.Run.{Happening}
+use Rattle.world_model.specs.Load.{settings_of, mask_of}
+use Rattle.run_safety.specs.Past.{History, history_of}
+use Rattle.world_laws.specs.world_answers.Answers.{all_worded}
+use Rattle.world_safety.specs.Events.{run_of_events}
+
+-- what is recorded, the latest event first, where the clients vote by their words
+unfoldable pub history_after : Config → List Event → History
+history_after c es = history_of (run_of_events c (all_worded c es))
+
+-- ---- what is called and recorded
+
+-- a client begins a session, in which it votes APPROVE
+abbrev pub comes : ℕ → List ℕ → Event
+comes n name = event.Call n (call.Init n name (codes "A"))
+
+abbrev pub joins : ℕ → List ℕ → List ℕ → ℕ → Attrs → Event
+joins n name group instance attrs = event.Call n (call.Join name group instance attrs)
+
+abbrev pub db : List ℕ
+db = codes "db"
+
+abbrev pub src : List ℕ
+src = codes "src"
+
+-- an event, with what it records, the latest record first
+abbrev pub happening : Event → List Happened → Happening
+happening e rs = record { event = Some e; records = rs }
+
+-- one provider joins, with these attributes, over so many entries of a source
+abbrev pub join_of : ProviderId → Attrs → Option ℕ → Proposal
+join_of p attrs len = proposal.Join (p ∷ []) attrs len
+
+abbrev pub asks : ProviderId → List ℕ → Attrs → List Happened
+asks p g attrs = happened.Asked p p.join g (join_of p attrs None) ∷ []
+
+-- ---- the attributes of a join: one node, in mode fixed
+
+abbrev pub one : Config
+one = settings_of Fixed (1 ∷ [])
+
+abbrev pub one_view : ViewId
+one_view = record { number = 1; coord = 1; inc = 1 }
+
+abbrev pub one_member : Member
+one_member = record { node = 1; inc = 1 }
+
+-- the provider that joined first on the node, and the second one
+abbrev pub first_joiner : ProviderId
+first_joiner = record { node = 1; inc = 1; instance = 7; join = 1 }
+
+abbrev pub second_joiner : ProviderId
+second_joiner = record { node = 1; inc = 1; instance = 8; join = 2 }
+
+-- the node starts
+abbrev pub begins : Happening
+begins = record { event = None; records = happened.In 1 one_view (one_member ∷ []) ∷ happened.Up 1 1 ∷ [] }
+
+-- it puts an entry into its list of the group, and a provider hears it
+abbrev pub puts : List ℕ → ℕ → Entry → Happened
+puts g i e = happened.Put 1 one_view g i e
+
+abbrev pub hears : ProviderId → List ℕ → ℕ → Entry → List ProviderId → Happened
+hears p g i e members = happened.Heard p one_view g i e members []
+
+-- a time limit of five ticks
+abbrev pub limited : Attrs
+limited = record (empty_attrs) { limit = 5 }
+
+-- two clients join one group, one after the other, and ask for these attributes
+unfoldable pub two_join : List Event
+two_join = comes 1 (codes "a") ∷ joins 1 (codes "a") db 7 limited ∷ event.Deliver 1 1 1 ∷ comes 1 (codes "b") ∷ joins 1 (codes "b") db 8 limited ∷ event.Deliver 1 1 2 ∷ []
+
+abbrev pub one_in : Attrs → List Happened
+one_in attrs =
+    let e : Entry = Once (join_of first_joiner attrs None) in hears first_joiner db 0 e (first_joiner ∷ []) ∷ puts db 0 e ∷ []
+
+abbrev pub two_in : Attrs → List Happened
+two_in attrs =
+    let e : Entry = Once (join_of second_joiner attrs None) in
+    let members : List ProviderId = first_joiner ∷ second_joiner ∷ [] in
+    hears second_joiner db 1 e members ∷ hears first_joiner db 1 e members ∷ puts db 1 e ∷ []
+
+-- what is recorded where the entries carry these attributes
+unfoldable pub two_joined : Attrs → Attrs → History
+two_joined first second =
+    happening (event.Deliver 1 1 2) (two_in second)
+    ∷ happening (joins 1 (codes "b") db 8 limited) (asks second_joiner db limited)
+    ∷ happening (comes 1 (codes "b")) []
+    ∷ happening (event.Deliver 1 1 1) (one_in first)
+    ∷ happening (joins 1 (codes "a") db 7 limited) (asks first_joiner db limited)
+    ∷ happening (comes 1 (codes "a")) []
+    ∷ begins
+    ∷ []
+
+-- the group follows a source
+abbrev pub sourced : Attrs
+sourced = record (empty_attrs) { source = Some src }
+
+-- one client joins the source, and another one the target
+unfoldable pub target_joins : List Event
+target_joins = comes 1 (codes "a") ∷ joins 1 (codes "a") src 7 empty_attrs ∷ event.Deliver 1 1 1 ∷ comes 1 (codes "b") ∷ joins 1 (codes "b") db 8 sourced ∷ event.Deliver 1 1 2 ∷ []
+
+abbrev pub source_in : List Happened
+source_in =
+    let e : Entry = Once (join_of first_joiner empty_attrs None) in hears first_joiner src 0 e (first_joiner ∷ []) ∷ puts src 0 e ∷ []
+
+abbrev pub target_in : Attrs → Option ℕ → List Happened
+target_in attrs len =
+    let e : Entry = Once (join_of second_joiner attrs len) in hears second_joiner db 0 e (second_joiner ∷ []) ∷ puts db 0 e ∷ []
+
+-- what is recorded where the target's entry carries these attributes, and this length of the source's list
+unfoldable pub target_joined : Attrs → Option ℕ → History
+target_joined attrs len =
+    happening (event.Deliver 1 1 2) (target_in attrs len)
+    ∷ happening (joins 1 (codes "b") db 8 sourced) (asks second_joiner db sourced)
+    ∷ happening (comes 1 (codes "b")) []
+    ∷ happening (event.Deliver 1 1 1) source_in
+    ∷ happening (joins 1 (codes "a") src 7 empty_attrs) (asks first_joiner src empty_attrs)
+    ∷ happening (comes 1 (codes "a")) []
+    ∷ begins
+    ∷ []
+
+-- ---- who asks first: two nodes, in mode asked
+
+abbrev pub two : Config
+two = settings_of Asked (1 ∷ 2 ∷ [])
+
+-- the view of both
+abbrev pub two_view : ViewId
+two_view = record { number = 2; coord = 1; inc = 1 }
+
+-- a node asks node 1 who leads the group
+abbrev pub lookup_of : ℕ → Packet
+lookup_of asker = record { network = 1; from = asker; to = 1; inc = 1; level = 1; domain = 0; body = Lookup two_view db }
+
+-- node 1 asks for a view of both; a client of node 2 joins, and node 2 asks who leads
+unfoldable pub until_asked : List Event
+until_asked =
+    event.Start 1 ∷ event.Start 2 ∷ event.Ask 1 (mask_of (1 ∷ 2 ∷ [])) ∷ event.Deliver 1 2 1 ∷ event.Deliver 2 1 1 ∷ event.Deliver 1 2 2 ∷ comes 2 (codes "a") ∷ joins 2 (codes "a") db 7 empty_attrs ∷ []
+
+-- node 1 takes that, and then what it asks itself for a client of its own; node 2 is told that it leads, and takes its client's
+-- request; node 1 takes the entry
+unfoldable pub after_asked : List Event
+after_asked =
+    comes 1 (codes "b") ∷ joins 1 (codes "b") db 8 empty_attrs ∷ event.Deliver 1 1 1 ∷ event.Deliver 1 2 3 ∷ event.Deliver 2 2 1 ∷ event.Deliver 2 1 4 ∷ []
+
+abbrev pub asks_first : Event
+asks_first = event.Deliver 2 1 3
+
+unfoldable pub two_ask : List Event
+two_ask = until_asked ++ asks_first ∷ after_asked
+
+abbrev pub two_members : List Member
+two_members = one_member ∷ record { node = 2; inc = 1 } ∷ []
+
+abbrev pub alone : ℕ → Happening
+alone n =
+    happening (event.Start n) (happened.In n (record { number = 1; coord = n; inc = 1 }) (record { node = n; inc = 1 } ∷ []) ∷ happened.Up n 1 ∷ [])
+
+abbrev pub enters : ℕ → List Happened
+enters n = happened.In n two_view two_members ∷ []
+
+-- the provider that node 2 asks for, and the one that node 1 asks for
+abbrev pub first_asker : ProviderId
+first_asker = record { node = 2; inc = 1; instance = 7; join = 1 }
+
+abbrev pub second_asker : ProviderId
+second_asker = record { node = 1; inc = 1; instance = 8; join = 1 }
+
+-- what is recorded where this node puts the first entry, and that one puts it next
+unfoldable pub two_asked : ℕ → ℕ → History
+two_asked leader follower =
+    let e : Entry = Once (join_of first_asker empty_attrs None) in
+    happening (event.Deliver 2 1 4) (happened.Put follower two_view db 0 e ∷ [])
+    ∷ happening (event.Deliver 2 2 1) (happened.Heard first_asker two_view db 0 e (first_asker ∷ []) [] ∷ happened.Put leader two_view db 0 e ∷ [])
+    ∷ happening (event.Deliver 1 2 3) []
+    ∷ happening (event.Deliver 1 1 1) []
+    ∷ happening (joins 1 (codes "b") db 8 empty_attrs) (asks second_asker db empty_attrs)
+    ∷ happening (comes 1 (codes "b")) []
+    ∷ happening asks_first []
+    ∷ happening (joins 2 (codes "a") db 7 empty_attrs) (asks first_asker db empty_attrs)
+    ∷ happening (comes 2 (codes "a")) []
+    ∷ happening (event.Deliver 1 2 2) (enters 2)
+    ∷ happening (event.Deliver 2 1 1) (enters 1)
+    ∷ happening (event.Deliver 1 2 1) []
+    ∷ happening (event.Ask 1 (mask_of (1 ∷ 2 ∷ []))) []
+    ∷ alone 2
+    ∷ alone 1
+    ∷ []
+
+-- opens each word of this file, for a computation
+unfoldable pub samples_opens : Unit {0}
+unfolding history_after two_join two_joined target_joins target_joined until_asked after_asked two_ask two_asked
+samples_opens = tt

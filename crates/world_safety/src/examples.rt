@@ -1,0 +1,50 @@
+//! Worked examples of what is asked of a run: small runs that the definitions accept, with what they record, and records that
+//! they refuse. Each function is a law.
+ghost use Rattle.std.specs.Prelude.{◌≡◌, Some, None};
+ghost use Rattle.group_attr.specs.Attrs.{empty_attrs};
+ghost use Rattle.run_safety.specs.Past.{EachRecord};
+ghost use Rattle.entry_laws.specs.source_order.Sources.{FirstsFollowSources};
+ghost use Rattle.world_laws.specs.world_answers.Answers.{all_worded};
+ghost use Rattle.world_safety.specs.Askers.{FirstAsks, RecordLed};
+ghost use Rattle.world_safety.specs.Samples.{history_after, db, one, two_join, two_joined, limited, target_joins, target_joined, sourced, two, two_view, two_ask, two_asked};
+
+/// Two clients join a group, one after the other: the entry of the first has the attributes that it asked for, since the group
+/// was empty and idle, and that of the second has the group's.
+#[tactic(auto, using(crate::proofs::Samples::two_joined_is, crate::proofs::Samples::two_joined_follows))]
+pub fn joins_have_what_is_meant()
+    ensures records { history_after one two_join ≡ two_joined limited limited }
+    ensures accepted { FirstsFollowSources (two_joined limited limited) }
+{}
+
+/// An entry with attributes that are neither is refused.
+#[tactic(auto, using(crate::proofs::Samples::second_has_other_attributes))]
+pub fn other_attributes_are_refused()
+    ensures { FirstsFollowSources (two_joined limited empty_attrs) → ⊥ }
+{}
+
+/// A client joins a group whose attributes name a source: its entry carries the length of the source's list.
+#[tactic(auto, using(crate::proofs::Samples::target_joined_is, crate::proofs::Samples::target_joined_follows))]
+pub fn target_joins_over_its_source()
+    ensures records { history_after one target_joins ≡ target_joined sourced (Some 1) }
+    ensures accepted { FirstsFollowSources (target_joined sourced (Some 1)) }
+{}
+
+/// Whether there is a source is read off what was asked for: an entry that claims to have none is refused.
+#[tactic(auto, using(crate::proofs::Samples::target_has_no_source))]
+pub fn no_source_is_refused()
+    ensures { FirstsFollowSources (target_joined empty_attrs None) → ⊥ }
+{}
+
+/// Two nodes ask who leads a group without a base. Node 2 asks first, and puts first.
+#[tactic(auto, using(crate::proofs::Asking::two_asked_is, crate::proofs::Asking::second_node_asks_first, crate::proofs::Asking::second_node_leads))]
+pub fn first_asker_leads()
+    ensures records { history_after two two_ask ≡ two_asked 2 1 }
+    ensures asks { FirstAsks two (all_worded two two_ask) two_view db 2 }
+    ensures accepted { EachRecord (RecordLed 2 two_view db) (two_asked 2 1) }
+{}
+
+/// Where node 1 puts first, the records are refused.
+#[tactic(auto, using(crate::proofs::Asking::first_node_leads))]
+pub fn another_leader_is_refused()
+    ensures { EachRecord (RecordLed 2 two_view db) (two_asked 1 2) → ⊥ }
+{}
