@@ -1,5 +1,6 @@
 pub mod Stepping
 pub mod Finding
+pub mod Staying
 pub mod Playing
 pub mod Ticking
 pub mod Starting

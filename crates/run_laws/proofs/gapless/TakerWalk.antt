@@ -10,7 +10,6 @@ use Rattle.session_state.specs.State.{outstanding}
 use Rattle.session_state.specs.HandOn.{take_telling}
 use Rattle.view_state.specs.declared.install.Install.{Install}
 use Rattle.view_state.specs.Bases.{bases_of}
-use Rattle.view_state.specs.Views.{views_at_work}
 use Rattle.node_state.specs.declared.group.GroupRow.{GroupRow}
 use Rattle.node_state.specs.declared.group.Led.{Led}
 use Rattle.node_state.specs.declared.happened.Happened.{Happened}
@@ -27,8 +26,8 @@ use Rattle.node_state.proofs.NameOrder.{KeepsName, cases_text, row_here, row_the
 use Rattle.row_laws.specs.hearing.Changes.{Same, handing}
 use Rattle.row_laws.proofs.hearing.Changes.{Sends, same_sends, sends_on, sends_all, put_order}
 use Rattle.row_laws.proofs.failed_rows.Origin.{root_of}
-use Rattle.row_laws.proofs.failed_rows.InView.{InView, stay_asks, stay_prepares, stay_answers, stay_refuses, stay_installs, stay_takes, stay_ticks, stay_reminds}
-use Rattle.step_walk.proofs.Changes.{Whatever, put_sent, Viewing, Asks, Prepares, Answers, Refuses, Installs, Takes, Gathers, Reminds, viewing, KeepsRing, KeepsRings, KeepsRules, KeepsViews}
+use Rattle.run_laws.proofs.ring_runs.Staying.{stays_in}
+use Rattle.step_walk.proofs.Changes.{Whatever, put_sent, viewing, KeepsRing, KeepsRings, KeepsRules, KeepsViews}
 use Rattle.step_walk.proofs.Ringing.{by_ring}
 use Rattle.step_walk.proofs.Walking.{whatever}
 use Rattle.step_walk.proofs.Walking as walking
@@ -54,16 +53,6 @@ pub record Keeps (P : Core → Type 0) : Type 0 where
   pub tells : (s : Core) (p : ProviderId) (r : ℕ) (y : Why) → P s → P (recorded (with_sessions s (take_telling s.sessions p r y)) (happened.Told p r y))
   pub hands : (s c : Core) (h : List ℕ) (e : Entry) (bs : List (Option Filled)) → Same (put s h e) c → InNameOrder c.groups → P s → P (handing c h (len_of s h) (state_of s h) (state_of (put s h e) h) e bs)
   pub enters : (s : Core) (i : Install) → P s → P (view_entered s i (bases_of i))
-
-stays_in : (s : Core) (v : Viewing) → InView (views_at_work s.views) (viewing s v)
-stays_in s (Asks mask) = stay_asks (views_at_work s.views) mask _
-stays_in s (Prepares from inc v mask) = stay_prepares (views_at_work s.views) from inc v mask _
-stays_in s (Answers v a) = stay_answers (views_at_work s.views) v a
-stays_in s (Refuses v n) = stay_refuses (views_at_work s.views) v n
-stays_in s (Installs i) = stay_installs (views_at_work s.views) i
-stays_in s (Takes from v) = stay_takes (views_at_work s.views) from v
-stays_in s Gathers = stay_ticks (views_at_work s.views) _ _
-stays_in s Reminds = stay_reminds (views_at_work s.views)
 
 module _ (P : Core → Type 0) (k : Keeps P) where
   -- nothing but what is sent changes

@@ -33,12 +33,12 @@ use Rattle.view_state.specs.Views.{views_entered, views_at_work}
 use Rattle.node_state.specs.Leading.{put}
 use Rattle.node_state.specs.Deciding.{keep_decision, is_idle_empty, wait_join}
 use Rattle.node_state.specs.Applying.{number_of, dissolved}
-use Rattle.row_laws.proofs.hearing.Whose.{Whose, whose_asks, whose_prepares, whose_answers, whose_refuses, whose_installs, whose_takes, whose_ticks, whose_reminds}
-use Rattle.step_walk.proofs.Changes.{Any, Spoken, Viewing, Asks, Prepares, Answers, Refuses, Installs, Takes, Gathers, Reminds, viewing, KeepsCalls, KeepsParts, KeepsRules, KeepsViews}
+use Rattle.step_walk.proofs.Changes.{Any, Spoken, viewing, KeepsCalls, KeepsParts, KeepsRules, KeepsViews}
 use Rattle.step_walk.proofs.Parts.{IsEntering, entering, on_hands, on_enters}
 use Rattle.step_refinement.specs.Tied.{Scene}
 use Rattle.step_refinement.proofs.Changed.{has_pushed}
 use Rattle.run_laws.specs.ring_runs.Rings.{ring_settings}
+use Rattle.run_laws.proofs.ring_runs.Staying.{stays_in}
 use Rattle.run_laws.proofs.ring_runs.Stepping.{OwnWork, own_step}
 use Rattle.run_laws.proofs.ring_runs.Finding.{is_on, nets_of, Differ, put_has, put_nets, put_here, put_there, with_here, with_there}
 
@@ -185,16 +185,6 @@ module _ (net : ℕ) (w : Scene) (n : ℕ) where
       let t : SessionState = take_telling s.sessions p r y in
       told (with_sessions s t) (happened.Told p r y) (λ z. tt) (alike s (with_sessions s t) refl refl refl refl refl k)
 
-  whose_in : (s : Core) (v : Viewing) → Whose (views_at_work s.views) (viewing s v)
-  whose_in s (Asks mask) = whose_asks (views_at_work s.views) mask _
-  whose_in s (Prepares from inc v mask) = whose_prepares (views_at_work s.views) from inc v mask _
-  whose_in s (Answers v a) = whose_answers (views_at_work s.views) v a
-  whose_in s (Refuses v n) = whose_refuses (views_at_work s.views) v n
-  whose_in s (Installs i) = whose_installs (views_at_work s.views) i
-  whose_in s (Takes from v) = whose_takes (views_at_work s.views) from v
-  whose_in s Gathers = whose_ticks (views_at_work s.views) _ _
-  whose_in s Reminds = whose_reminds (views_at_work s.views)
-
   parts : KeepsParts Played Any
   unfolding put with_row with_sessions
   parts =
@@ -228,7 +218,7 @@ module _ (net : ℕ) (w : Scene) (n : ℕ) where
   unfolding views_entered dissolved
   played_views =
       record {
-        views = λ s v p. (let whose = whose_in s v in alike s (record s { views = (viewing s v).views }) refl whose.0 whose.1 refl refl p);
+        views = λ s v p. (let stays = stays_in s v in alike s (record s { views = (viewing s v).views }) refl stays.0 stays.2 refl refl p);
         enters = λ s i p. on_enters Played entered s i (alike s (entering s i) refl refl refl refl refl p);
         dissolves = λ s q x e p. refused s x.p (number_of (outstanding s.sessions x.p)) Dissolved p;
       }
