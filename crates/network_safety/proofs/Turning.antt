@@ -20,7 +20,7 @@ use Rattle.piece_link.specs.Joining.{Joining, Joined, taken}
 use Rattle.piece_link.specs.Answers.{Among}
 use Rattle.piece_link.proofs.UnchangedLaw.{unchanged, answered_at_once}
 use Rattle.daemon_model.specs.Sent.{as_sent, goes_out}
-use Rattle.daemon_model.specs.Daemon.{Daemon, Opening, Turn, stepped_by, opened, is_due, ticked_if, ticked, joined_by, received, given, heard, turned, left_for, stepped_for}
+use Rattle.daemon_model.specs.Daemon.{Daemon, Opening, Turn, stepped_by, opened, is_due, ticked_if, ticked, joined_by, received, given, turned, left_for, stepped_for}
 use Rattle.daemon_model.proofs.AloneLaws.{IsAlone, tick_alone, heard_alone}
 use Rattle.network_model.specs.Network.{Net, datagrams_of, went_on}
 use Rattle.network_model.specs.Packets.{tick_packets, given_packets, turn_packets}
