@@ -4,7 +4,6 @@ use Rattle.std.specs.Prelude.{not, map, option_map}
 use Rattle.hags_io.specs.declared.link.LinkCall.{LinkCall}
 use Rattle.node_state.specs.declared.call.CallLine.{CallLine}
 use Rattle.node_state.specs.declared.happened.Happened.{Happened}
-use Rattle.node_state.specs.declared.state.Core.{Core}
 use Rattle.node_state.specs.HandOn.{Answering}
 use Rattle.node_state.specs.Bytes.{event_of}
 use Rattle.node_state.specs.Step.{Calls, at_work, stepped}
