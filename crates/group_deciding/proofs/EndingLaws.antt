@@ -13,11 +13,11 @@ use Rattle.source_target.specs.declared.owed.Due.TheVariants as due
 use Rattle.source_target.specs.Due as target
 use Rattle.client_callbacks.specs.declared.votes.VoteItem.{VoteItem}
 use Rattle.node_state.specs.declared.state.Core.{Core}
-use Rattle.node_state.specs.State.{row_of, led_of, list_of, state_of, frozen}
+use Rattle.node_state.specs.State.{row_of, led_of, state_of, frozen}
 use Rattle.node_state.specs.HandOn.{Answering}
 use Rattle.node_state.specs.Leading.{begins}
 use Rattle.node_state.specs.Deciding.{known_state}
-use Rattle.node_state.specs.Ending.{Pass, quiet, begun_now, failures_begin, due_begins, source_begins, carried_len, joins_begin, or_due, or_joins, may_begin, first_begins, group_begins, one_pass, passes, most_begun, end_step}
+use Rattle.node_state.specs.Ending.{Pass, quiet, begun_now, failures_begin, due_begins, source_begins, carried_len, joins_begin, or_due, or_joins, first_begins, group_begins, one_pass, passes, most_begun, end_step}
 use Rattle.node_groups.specs.Keeps.{Keeps}
 use Rattle.entry_delivery.specs.Received.{Handing}
 use Rattle.entry_delivery.specs.Doing.{Joins, IsNothing, Does}
@@ -290,14 +290,3 @@ pub none_due : (scripts : List (Option (List (Option VoteItem)))) (P : List Hand
 unfolding source_begins
 none_due scripts P p s g st at e =
     let none : (state_of s g).attrs.source ≡ None = ap (λ (x : GroupState). x.attrs.source) (sym at) ∙ e in rw none (pass_nothing scripts P p s false)
-
--- something runs, or the list is full
-pub first_none : (scripts : List (Option (List (Option VoteItem)))) (P : List Handing → Type 0) → P [] → (s : Core) (g : List ℕ) → may_begin (list_of s g) ≡ false → DoesPass scripts P s s false (λ f. first_begins f s g (row_of s g))
-unfolding first_begins list_of
-first_none scripts P p s g e = rw (first_begins, e) (pass_nothing scripts P p s false)
-
--- it begins where it may
-pub first_some : (scripts : List (Option (List (Option VoteItem)))) (P : List Handing → Type 0) (s t : Core) (began : Bool) (g : List ℕ) → may_begin (list_of s g) ≡ true
-    → DoesPass scripts P s t began (λ f. or_joins f g (or_due f g (failures_begin (length (led_of s g).waiting.failures) f s g))) → DoesPass scripts P s t began (λ f. first_begins f s g (row_of s g))
-unfolding first_begins list_of led_of
-first_some scripts P s t began g e done = rw (first_begins, e) done

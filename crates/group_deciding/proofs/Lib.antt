@@ -6,3 +6,4 @@ pub mod EndingLaws
 pub mod TakingLaws
 pub mod ResendLaws
 pub mod TickLaws
+pub mod IdleLaws

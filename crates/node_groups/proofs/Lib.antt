@@ -3,3 +3,4 @@ pub mod ReadLaws
 pub mod RowLaws
 pub mod TableLaws
 pub mod TallyLaws
+pub mod OrderLaws

@@ -9,11 +9,12 @@ use node_state::{GroupRow, Groups};
 use rsct_packet::{Name, NoMemory};
 use std::alloc::Global;
 
-/// Has the row this name, or does it come after it?
+/// Has the row this name, or does it come after it? One comparison tells both.
+#[tactic(auto, using(crate::proofs::OrderLaws::stops_by_order))]
 fn stops_at(name: &[u8], row: &GroupRow) -> bool
     ensures { result ≡ stops_at name.now row.now }
 {
-    row.name.bytes() == name || name.cmp(row.name.bytes()).is_lt()
+    name.cmp(row.name.bytes()).is_le()
 }
 
 /// How many rows stand before a name.

@@ -8,6 +8,7 @@ ghost use Rattle.view_state.specs.Bases.{bases_for, bases_of};
 ghost use Rattle.node_state.specs.Applying.{base_row, base_leader};
 ghost use Rattle.node_views.specs.Carried.{is_tail, are_tails, IsSound};
 
+use crate::names::name_after;
 use name_server::{Leader, Leaders};
 use node_groups::new_row;
 use node_state::{GroupRow, Groups, Table};
@@ -84,11 +85,13 @@ fn bases_in(alloc: Global, install: &Install) -> Result<List<Base>, NoMemory>
     ensures { IfOk result (λ l. l ≡ bases_of install.now) }
 {
     let mut bases = List::new(alloc);
+    let mut last: Option<&[u8]> = None;
     for k in 0..usize::MAX {
-        match view_bases::group_at(install, k) {
-            None => return Ok(bases),
-            Some(g) => push_base(alloc, &mut bases, install, g)?,
-        }
+        let Some(group) = name_after(install, last) else {
+            return Ok(bases);
+        };
+        push_base(alloc, &mut bases, install, group)?;
+        last = Some(group);
     }
     Err(NoMemory)
 }

@@ -6,6 +6,7 @@ mod dissolved;
 mod entry;
 mod led_groups;
 mod missing_entries;
+mod names;
 mod notes;
 mod own_lists;
 mod packets;

@@ -1,3 +1,4 @@
+pub mod ApartLaws
 pub mod DatagramLaws
 pub mod PairLaws
 pub mod WaitLaws

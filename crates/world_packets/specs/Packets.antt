@@ -1,5 +1,5 @@
 -- The packets of a world as it is kept, and the definitions' packets that they stand for.
-use Rattle.std.specs.Prelude.{ℕ, ◌+◌, Bool, ◌==◌, ◌&&◌, List, [], ◌∷◌, ◌++◌, length, map, find, Option, Some, None}
+use Rattle.std.specs.Prelude.{◌≡◌, ℕ, ◌+◌, Bool, false, ◌==◌, ◌&&◌, List, [], ◌∷◌, ◌++◌, length, map, find, Option, Some, None}
 use Rattle.rsct_packet.specs.Lists.{reverse_onto}
 use Rattle.node_state.specs.declared.packet.Packet.{Packet}
 use Rattle.world_model.specs.World.{is_pair, count_in}
@@ -14,6 +14,15 @@ pub record Kept : Type 0 where
 
 abbrev pub is_from : ℕ → ℕ → Pair → Bool
 is_from a b p = p.from == a && p.to == b
+
+abbrev pub is_right : ℕ → ℕ → Option Pair → Bool
+is_right a b None = false
+is_right a b (Some p) = is_from a b p
+
+-- no two pairs are of the same two nodes in the same order
+abbrev pub AreApart : List Pair → Type 0
+AreApart [] = Unit {0}
+AreApart (p ∷ ps) = (find (is_from p.from p.to) ps ≡ None) × AreApart ps
 
 abbrev pub with_packet : Packet → Pair → Pair
 with_packet d p = record p { packets = p.packets ++ d ∷ [] }

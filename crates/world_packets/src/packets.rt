@@ -1,5 +1,5 @@
 //! What is kept of the packets of a world.
-ghost use Rattle.std.specs.Prelude.{◌≡◌, ◌++◌, ◌∷◌, [], IfOk, OnOk, filter, not, option_copied, drop};
+ghost use Rattle.std.specs.Prelude.{◌≡◌, ◌<◌, ◌++◌, ◌∷◌, [], IfOk, OnOk, filter, not, option_copied, drop};
 ghost use Rattle.rsct_packet.specs.Search.{place_where};
 ghost use Rattle.rsct_packet.specs.Lists.{drop_where};
 ghost use Rattle.node_state.specs.Bytes.{packet_len};
@@ -16,19 +16,33 @@ use std::collections::VecDeque;
 use std::marker::Model;
 use std::mem;
 
-/// All packets of a world, by pairs of nodes, and those that wait to be given, in the order of sending.
+/// How many hints there are: one for each two of 32 nodes.
+const HINTS: usize = 1024;
+
+/// All packets of a world, by pairs of nodes, and those that wait to be given, in the order of sending. A hint says where
+/// the pair of two nodes stands; one that is not right costs a search.
 #[derive(Drop)]
 pub struct WorldPackets {
     pairs: Vec<Pair>,
+    hints: [u16; HINTS],
     waiting: VecDeque<Waiting>,
 }
 
 impl Model for WorldPackets {
-    ghost use Rattle.world_packets.specs.Packets.{Kept};
+    ghost use Rattle.world_packets.specs.Packets.{Kept, AreApart};
 
     ghost Value = { Kept };
 
     ghost view = { λ w. record { pairs = w.pairs.items; waiting = w.waiting.items } };
+
+    ghost invariant = { λ w. AreApart w.pairs.items };
+}
+
+/// Which hint is that of two nodes.
+fn hint_of(from: u8, to: u8) -> usize
+    ensures { result < 1024 }
+{
+    from as usize % 32 * 32 + to as usize % 32
 }
 
 /// Is it the k-th packet of these two nodes?
@@ -87,6 +101,7 @@ impl WorldPackets {
     {
         WorldPackets {
             pairs: Vec::new(alloc),
+            hints: [0; HINTS],
             waiting: VecDeque::new(alloc),
         }
     }
@@ -101,7 +116,13 @@ impl WorldPackets {
     {
         let d = Datagram::of(alloc, packet)?;
         let len = d.len();
-        let k = add(&mut self.pairs, alloc, packet.from, packet.to, d)?;
+        let at = hint_of(packet.from, packet.to);
+        let hint = self.hints[at] as usize;
+        let k = add(&mut self.pairs, alloc, hint, packet.from, packet.to, d)?;
+        if k == 1 {
+            let last = self.pairs.len().saturating_sub(1);
+            self.hints[at] = u16::try_from(last).unwrap_or(0);
+        }
         self.waiting.push_back(Waiting {
             from: packet.from,
             to: packet.to,
@@ -116,7 +137,8 @@ impl WorldPackets {
         ensures { option_copied result
             ≡ kth_in number (find_pair from to (world_pairs self.now.pairs)) }
     {
-        kth(self.pairs.as_slice(), from, to, number)
+        let hint = self.hints[hint_of(from, to)] as usize;
+        kth(self.pairs.as_slice(), hint, from, to, number)
     }
 
     /// The packet that waits longest.

@@ -1,8 +1,8 @@
-//! All packets from one node to another.
-ghost use Rattle.std.specs.Prelude.{◌≡◌, ◌+◌, find, option_copied, IfOk, OnOk};
+//! All packets from one node to another. Where a pair may stand a hint says, which need not be right.
+ghost use Rattle.std.specs.Prelude.{◌≡◌, ◌+◌, find, slice_get, option_copied, IfOk, OnOk};
 ghost use Rattle.rsct_packet.specs.Search.{place_where};
 ghost use Rattle.world_model.specs.World.{kth_in, count_in, pairs_with};
-ghost use Rattle.world_packets.specs.Packets.{is_from, world_pairs, find_pair};
+ghost use Rattle.world_packets.specs.Packets.{is_from, is_right, AreApart, world_pairs, find_pair};
 
 use crate::Datagram;
 use rsct_packet::{List, NoMemory};
@@ -23,9 +23,19 @@ fn is_from(pair: &Pair, from: u8, to: u8) -> bool
     pair.from == from && pair.to == to
 }
 
-/// The place of the pair of two nodes.
+/// Does the pair of two nodes stand at the place of the hint?
+fn is_right(pairs: &[Pair], hint: usize, from: u8, to: u8) -> bool
+    ensures { result ≡ is_right from to (slice_get pairs.now hint) }
+{
+    match pairs.get(hint) {
+        None => false,
+        Some(pair) => is_from(pair, from, to),
+    }
+}
+
+/// The place of the pair of two nodes, by a search.
 #[tactic(auto, using(rsct_packet::proofs::SearchLaws::place_search))]
-pub fn place_of(pairs: &[Pair], from: u8, to: u8) -> Option<usize>
+fn search(pairs: &[Pair], from: u8, to: u8) -> Option<usize>
     ensures { result ≡ place_where (is_from from to) pairs.now }
 {
     for (i, p) in pairs.iter().enumerate() {
@@ -36,22 +46,39 @@ pub fn place_of(pairs: &[Pair], from: u8, to: u8) -> Option<usize>
     None
 }
 
+/// The place of the pair of two nodes: that of the hint where it is right, else by a search.
+#[tactic(auto, using(crate::proofs::ApartLaws::right_place))]
+fn place_of(pairs: &[Pair], hint: usize, from: u8, to: u8) -> Option<usize>
+    requires { AreApart pairs.now }
+    ensures { result ≡ place_where (is_from from to) pairs.now }
+{
+    if is_right(pairs, hint, from, to) {
+        Some(hint)
+    } else {
+        search(pairs, from, to)
+    }
+}
+
 /// The pair of two nodes.
-pub fn pair_of(pairs: &[Pair], from: u8, to: u8) -> Option<&Pair>
+#[tactic(auto, using(rsct_packet::proofs::SearchLaws::place_is_in, rsct_packet::proofs::SearchLaws::read_at_place, rsct_packet::proofs::SearchLaws::missing_at_place))]
+fn pair_of(pairs: &[Pair], hint: usize, from: u8, to: u8) -> Option<&Pair>
+    requires { AreApart pairs.now }
     ensures { option_copied result ≡ find (is_from from to) pairs.now }
 {
-    pairs.iter().find(|p| is_from(p, from, to))
+    let place = place_of(pairs, hint, from, to)?;
+    pairs.get(place)
 }
 
 /// The k-th packet ever sent between two nodes, from 1 on.
 #[tactic(auto, using(crate::proofs::PairLaws::kth_missing, crate::proofs::PairLaws::kth_zero, crate::proofs::PairLaws::kth_found, std::proofs::lemmas::Grind::common_steps))]
-pub fn kth(pairs: &[Pair], from: u8, to: u8, number: u32) -> Option<&Datagram>
+pub fn kth(pairs: &[Pair], hint: usize, from: u8, to: u8, number: u32) -> Option<&Datagram>
+    requires { AreApart pairs.now }
     ensures { option_copied result ≡ kth_in number (find_pair from to (world_pairs pairs.now)) }
 {
     if number == 0 {
         return None;
     }
-    match pair_of(pairs, from, to) {
+    match pair_of(pairs, hint, from, to) {
         None => None,
         Some(p) => p.packets.get(number as usize - 1),
     }
@@ -59,30 +86,34 @@ pub fn kth(pairs: &[Pair], from: u8, to: u8, number: u32) -> Option<&Datagram>
 
 /// How many packets were ever sent between two nodes.
 #[tactic(auto, using(crate::proofs::PairLaws::count_missing, crate::proofs::PairLaws::count_found))]
-fn count(pairs: &[Pair], from: u8, to: u8) -> usize
+fn count(pairs: &[Pair], hint: usize, from: u8, to: u8) -> usize
+    requires { AreApart pairs.now }
     ensures { result ≡ count_in (find_pair from to (world_pairs pairs.now)) }
 {
-    match pair_of(pairs, from, to) {
+    match pair_of(pairs, hint, from, to) {
         None => 0,
         Some(p) => p.packets.len(),
     }
 }
 
 /// Puts a packet behind those of its pair.
-#[tactic(auto, using(crate::proofs::PairLaws::put_at, crate::proofs::PairLaws::added_new, rsct_packet::proofs::SearchLaws::place_is_in, std::proofs::lemmas::Grind::common_steps))]
+#[tactic(auto, using(crate::proofs::PairLaws::put_at, crate::proofs::PairLaws::added_new, crate::proofs::ApartLaws::apart_set, crate::proofs::ApartLaws::apart_push, rsct_packet::proofs::SearchLaws::place_is_in, std::proofs::lemmas::Grind::common_steps))]
 fn put(
     pairs: &mut Vec<Pair>,
     alloc: Global,
+    hint: usize,
     from: u8,
     to: u8,
     datagram: Datagram,
 ) -> Result<(), NoMemory>
+    requires apart { AreApart pairs.old.items }
     requires from { from ≡ datagram.from }
     requires to { to ≡ datagram.to }
-    ensures { OnOk result (world_pairs pairs.new.items
+    ensures pairs { OnOk result (world_pairs pairs.new.items
         ≡ pairs_with datagram (world_pairs pairs.old.items)) }
+    ensures apart { AreApart pairs.new.items }
 {
-    match place_of(pairs.as_slice(), from, to) {
+    match place_of(pairs.as_slice(), hint, from, to) {
         None => {
             let mut packets = List::new(alloc);
             packets.push(datagram)?;
@@ -93,25 +124,28 @@ fn put(
     Ok(())
 }
 
-/// Adds a packet to those of its pair; answers how many they are then.
+/// Adds a packet to those of its pair; answers how many they are then. A new pair stands behind the others.
 pub fn add(
     pairs: &mut Vec<Pair>,
     alloc: Global,
+    hint: usize,
     from: u8,
     to: u8,
     datagram: Datagram,
 ) -> Result<u32, NoMemory>
+    requires apart { AreApart pairs.old.items }
     requires from { from ≡ datagram.from }
     requires to { to ≡ datagram.to }
+    ensures apart { AreApart pairs.new.items }
     ensures pairs { OnOk result (world_pairs pairs.new.items
         ≡ pairs_with datagram (world_pairs pairs.old.items)) }
     ensures count { IfOk result (λ k. k ≡ count_in
         (find_pair from to (world_pairs pairs.old.items)) + 1) }
 {
-    let k = count(pairs.as_slice(), from, to);
+    let k = count(pairs.as_slice(), hint, from, to);
     if k >= u32::MAX as usize {
         return Err(NoMemory);
     }
-    put(pairs, alloc, from, to, datagram)?;
+    put(pairs, alloc, hint, from, to, datagram)?;
     Ok(k as u32 + 1)
 }
