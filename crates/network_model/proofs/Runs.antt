@@ -3,7 +3,7 @@ use Rattle.std.proofs.Common.{◌≡◌, Some, None, refl, inl, inr, arith}
 use Rattle.std.specs.Prelude.{true, false}
 use Rattle.network_model.specs.Fits.{WasSent, IsSpelledSend, NetworkRun, MayBegin}
 use Rattle.network_model.specs.Opens.{net_opens}
-use Rattle.network_model.specs.Samples.{pair, two_speak, never_sent, old_incarnation, two_at_once}
+use Rattle.network_model.specs.Samples.{pair, two_speak, client_served, never_sent, old_incarnation, two_at_once}
 
 pub two_speak_run : NetworkRun IsSpelledSend pair two_speak
 unfolding net_opens
@@ -13,12 +13,32 @@ two_speak_run =
       may = (
         record { some = omega arith; most = omega arith; down = refl; later = omega arith; fits = omega arith },
         (
-          tt,
+          record { comes = tt; numbers = inl refl },
           (
             record { some = omega arith; most = omega arith; down = refl; later = omega arith; fits = omega arith },
             (
-              inl (record { send = _; among = inl refl; is = refl; holds = record { fits = omega arith; read = refl } }),
-              (inl (record { send = _; among = inl refl; is = refl; holds = record { fits = omega arith; read = refl } }), tt),
+              record { comes = inl (record { send = _; among = inl refl; is = refl; holds = record { fits = omega arith; read = refl } }); numbers = inl refl },
+              (record { comes = inl (record { send = _; among = inl refl; is = refl; holds = record { fits = omega arith; read = refl } }); numbers = inl refl }, tt),
+            ),
+          ),
+        ),
+      );
+    }
+
+pub client_served_run : NetworkRun IsSpelledSend pair client_served
+unfolding net_opens
+client_served_run =
+    record {
+      mode = refl;
+      may = (
+        record { some = omega arith; most = omega arith; down = refl; later = omega arith; fits = omega arith },
+        (
+          record { comes = inr (inr (refl, tt)); numbers = inr (omega arith) },
+          (
+            record { comes = inr (inr (refl, tt)); numbers = inr (omega arith) },
+            (
+              record { some = omega arith; most = omega arith; down = refl; later = omega arith; fits = omega arith },
+              (record { comes = inl (record { send = _; among = inr (inl refl); is = refl; holds = tt }); numbers = inl refl }, tt),
             ),
           ),
         ),
@@ -28,7 +48,7 @@ two_speak_run =
 pub never_sent_run : NetworkRun IsSpelledSend pair never_sent → ⊥
 unfolding net_opens
 never_sent_run run =
-    elim (run.may.1.1.0) [
+    elim (run.may.1.1.0.comes) [
       | inl sent ↦ (let s : WasSent IsSpelledSend _ _ = sent in absurd s.among)
       | inr other ↦ elim other [
         | inl none ↦ absurd (let e : Some _ ≡ None = none in cc)

@@ -1,5 +1,5 @@
 -- What is asked of a network, act by act: what operators, links and clients have to keep to.
-use Rattle.std.specs.Prelude.{ℕ, ◌≤◌, ◌<◌, ◌≡◌, ◌⊎◌, true, false, List, [], ◌∷◌, ◌++◌, Option, Some, None}
+use Rattle.std.specs.Prelude.{ℕ, ◌≤◌, ◌<◌, ◌^◌, ◌≡◌, ◌⊎◌, true, false, List, [], ◌∷◌, ◌++◌, Option, Some, None}
 use Rattle.rsct_packet.specs.Ids.{last_u32}
 use Rattle.hags_io.specs.declared.link.LinkCall.{LinkCall}
 use Rattle.hags_io.specs.declared.link.LinkCall.TheVariants as call
@@ -13,7 +13,7 @@ use Rattle.node_state.specs.declared.packet.Packet.{Packet}
 use Rattle.node_state.specs.Settings.{is_fixed}
 use Rattle.node_state.specs.Bytes.{packet_of}
 use Rattle.daemon_model.specs.Sent.{Exchange, IsSpelledIf}
-use Rattle.daemon_model.specs.Daemon.{Daemon, Turn, ticked}
+use Rattle.daemon_model.specs.Daemon.{Daemon, Turn, ticked, turned}
 use Rattle.network_model.specs.Network.{Act, Begins, Opens, Turns, Ends, Net, no_net, made_since, acted}
 
 -- ---- what a turn is given
@@ -27,7 +27,8 @@ abbrev pub AsksAtMost : Option Packet → Type 0
 AsksAtMost None = Unit {0}
 AsksAtMost (Some p) = IsQuestion p.body
 
--- a client's: a whole message of sender 0 that asks at most
+-- a client's: a whole message of sender 0 that is a question of a status client, or no packet, as whatever a client on
+-- another machine says (`client_text_is_no_packet`)
 abbrev pub IsOfClient : Option Piece → Type 0
 IsOfClient None = ⊥
 IsOfClient (Some p) = (is_status p.head ≡ true) × AsksAtMost (packet_of p.text)
@@ -68,9 +69,11 @@ pub record MayBegin (net : Net) (n incarnation : ℕ) : Type 0 where
   pub later : net.incarnations n < incarnation
   pub fits : incarnation ≤ last_u32
 
--- a turn is given what may come: what was sent before it, or by its own tick
-abbrev pub MayTurn : (Exchange → Type 0) → Net → Turn → Daemon → Type 0
-MayTurn P net t d = MayCome P (net.wire ++ made_since d (ticked t.moment t.tick d)) t.got
+-- A turn is given what may come: what was sent before it, or by its own tick. And a daemon that serves clients on other
+-- machines numbers its messages below 2^64: what it sends to them is no packet, of which the number is known.
+pub record MayTurn (P : Exchange → Type 0) (net : Net) (t : Turn) (d : Daemon) : Type 0 where
+  pub comes : MayCome P (net.wire ++ made_since d (ticked t.moment t.tick d)) t.got
+  pub numbers : (d.sessions ≡ None) ⊎ ((turned d t).number ≤ 2 ^ 64)
 
 -- a daemon of the node is up, and this holds of it
 abbrev pub OfUp : (Daemon → Type 0) → Option Daemon → Type 0
@@ -78,7 +81,7 @@ OfUp P None = ⊥
 OfUp P (Some d) = P d
 
 abbrev pub MayAct : (Exchange → Type 0) → Net → Act → Type 0
-MayAct P net (Begins n incarnation moment) = MayBegin net n incarnation
+MayAct P net (Begins n incarnation moment remote) = MayBegin net n incarnation
 MayAct P net (Opens n opening) = OfUp (λ d. Unit {0}) (net.daemons n)
 MayAct P net (Turns n turn) = OfUp (MayTurn P net turn) (net.daemons n)
 MayAct P net (Ends n) = OfUp (λ d. Unit {0}) (net.daemons n)

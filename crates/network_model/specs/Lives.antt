@@ -7,17 +7,16 @@ use Rattle.node_state.specs.Step.{started}
 use Rattle.daemon_model.specs.Daemon.{Life, lived}
 use Rattle.network_model.specs.Network.{Act, Begins, Opens, Turns, Ends, Net, no_net, acted}
 
--- a life that a daemon lived which serves no clients on other machines, and its incarnation
+-- a life that a daemon lived, and its incarnation
 pub record LifeIn : Type 0 where
   pub incarnation : ℕ
   pub life : Life
-  pub alone : life.remote ≡ false
 
 unfoldable pub acts_of : ℕ → LifeIn → List Act
-acts_of n l = Begins n l.incarnation l.life.start ∷ map (Opens n) l.life.opening ++ (map (Turns n) l.life.turns ++ Ends n ∷ [])
+acts_of n l = Begins n l.incarnation l.life.start l.life.remote ∷ map (Opens n) l.life.opening ++ (map (Turns n) l.life.turns ++ Ends n ∷ [])
 
 abbrev pub is_at : ℕ → Act → Bool
-is_at n (Begins node incarnation moment) = node == n
+is_at n (Begins node incarnation moment remote) = node == n
 is_at n (Opens node opening) = node == n
 is_at n (Turns node turn) = node == n
 is_at n (Ends node) = node == n

@@ -1,16 +1,16 @@
 -- A network of daemons: daemons that start, carry out the calls of their settings, do turns and end, all in one order.
-use Rattle.std.specs.Prelude.{ℕ, zero, suc, ◌+◌, ◌-◌, List, [], ◌∷◌, ◌++◌, length, drop, fold, Option, Some, None}
+use Rattle.std.specs.Prelude.{ℕ, zero, suc, ◌+◌, ◌-◌, Bool, false, List, [], ◌∷◌, ◌++◌, length, drop, fold, Option, Some, None}
 use Rattle.node_state.specs.declared.config.Config.{Config}
 use Rattle.node_state.specs.declared.happened.Happened.{Happened}
 use Rattle.node_state.specs.declared.happened.Happened.TheVariants as happened
 use Rattle.step_refinement.specs.Rules.{at_node}
 use Rattle.daemon_model.specs.Sent.{Exchange}
-use Rattle.daemon_model.specs.Daemon.{Daemon, Opening, Turn, begun, opened, turned}
+use Rattle.daemon_model.specs.Daemon.{Daemon, Opening, Turn, begun_for, opened, turned}
 
--- what happens in a network: the daemon of a node starts, in an incarnation and at a moment; it carries out a call of its
--- settings; it does a turn; and it ends, however it does
+-- what happens in a network: the daemon of a node starts, in an incarnation and at a moment, and serves clients on other
+-- machines or not; it carries out a call of its settings; it does a turn; and it ends, however it does
 pub data Act : Type 0 where
-  Begins : (node incarnation moment : ℕ) → Act
+  Begins : (node incarnation moment : ℕ) (remote : Bool) → Act
   Opens : (node : ℕ) (opening : Opening) → Act
   Turns : (node : ℕ) (turn : Turn) → Act
   Ends : (node : ℕ) → Act
@@ -48,9 +48,9 @@ went_on n d e net = record net {
 
 -- ---- acts
 
-unfoldable pub starts : Config → ℕ → ℕ → ℕ → Net → Net
-starts c n incarnation moment net =
-    let d : Daemon = begun c n incarnation moment in
+unfoldable pub starts : Bool → Config → ℕ → ℕ → ℕ → Net → Net
+starts remote c n incarnation moment net =
+    let d : Daemon = begun_for remote c n incarnation moment in
     record {
       daemons = at_node net.daemons n (Some d);
       incarnations = at_node net.incarnations n incarnation;
@@ -64,14 +64,14 @@ ends n net = record net { daemons = at_node net.daemons n None; records = net.re
 -- in each of the next incarnations, so many, the node starts and is down at once
 unfoldable pub idles : Config → ℕ → ℕ → Net → Net
 idles c n zero net = net
-idles c n (suc k) net = idles c n k (ends n (starts c n (net.incarnations n + 1) 0 net))
+idles c n (suc k) net = idles c n k (ends n (starts false c n (net.incarnations n + 1) 0 net))
 
 -- how many incarnations a node skips that starts in this one
 abbrev pub skipped : Net → ℕ → ℕ → ℕ
 skipped net n incarnation = incarnation - 1 - net.incarnations n
 
-unfoldable pub begins : Config → ℕ → ℕ → ℕ → Net → Net
-begins c n incarnation moment net = starts c n incarnation moment (idles c n (skipped net n incarnation) net)
+unfoldable pub begins : Bool → Config → ℕ → ℕ → ℕ → Net → Net
+begins remote c n incarnation moment net = starts remote c n incarnation moment (idles c n (skipped net n incarnation) net)
 
 -- what the daemon of a node does, if it is up
 abbrev pub does_if : (Daemon → Daemon) → ℕ → Option Daemon → Net → Net
@@ -79,7 +79,7 @@ does_if f n None net = net
 does_if f n (Some d) net = went_on n d (f d) net
 
 unfoldable pub acted : Config → Net → Act → Net
-acted c net (Begins n incarnation moment) = begins c n incarnation moment net
+acted c net (Begins n incarnation moment remote) = begins remote c n incarnation moment net
 acted c net (Opens n opening) = does_if (λ d. opened d opening) n (net.daemons n) net
 acted c net (Turns n turn) = does_if (λ d. turned d turn) n (net.daemons n) net
 acted c net (Ends n) = ends n net

@@ -1,11 +1,11 @@
--- Small runs of networks, for worked examples: nodes 1 and 2, without clients.
-use Rattle.std.specs.Prelude.{ℕ, List, [], ◌∷◌, flat_map, codes, slice_index_or}
+-- Small runs of networks, for worked examples: nodes 1 and 2.
+use Rattle.std.specs.Prelude.{ℕ, true, false, List, [], ◌∷◌, flat_map, codes, slice_index_or}
 use Rattle.hags_io.specs.declared.link.LinkCall.{LinkCall}
 use Rattle.hags_io.specs.declared.link.LinkCall.TheVariants as call
 use Rattle.node_state.specs.declared.config.Config.{Config}
 use Rattle.daemon_model.specs.Sent.{Exchange}
 use Rattle.daemon_model.specs.Daemon.{records_text}
-use Rattle.daemon_model.specs.Samples.{settings_for, quiet_at, given_at}
+use Rattle.daemon_model.specs.Samples.{settings_for, quiet_at, given_at, up_piece}
 use Rattle.network_model.specs.Network.{Act, Begins, Turns, Ends, net_after}
 
 unfoldable pub pair : Config
@@ -13,7 +13,7 @@ pair = settings_for (1 ∷ 2 ∷ [])
 
 -- node 1 starts in incarnation 1, and 100 milliseconds later it ticks
 unfoldable pub one_ticks : List Act
-one_ticks = Begins 1 1 0 ∷ Turns 1 (quiet_at 100) ∷ []
+one_ticks = Begins 1 1 0 false ∷ Turns 1 (quiet_at 100) ∷ []
 
 abbrev pub datagram_in : LinkCall → List (List ℕ)
 datagram_in (call.Sent node network bytes out) = bytes ∷ []
@@ -29,25 +29,38 @@ first_piece = slice_index_or (wire_after one_ticks) 0 []
 
 -- then node 2 starts, and is given that piece, twice
 unfoldable pub two_speak : List Act
-two_speak = Begins 1 1 0 ∷ Turns 1 (quiet_at 100) ∷ Begins 2 1 100 ∷ Turns 2 (given_at 100 first_piece) ∷ Turns 2 (given_at 101 first_piece) ∷ []
+two_speak = Begins 1 1 0 false ∷ Turns 1 (quiet_at 100) ∷ Begins 2 1 100 false ∷ Turns 2 (given_at 100 first_piece) ∷ Turns 2 (given_at 101 first_piece) ∷ []
 
 -- the daemon of node 1 ends, and starts again, skipping incarnation 2
 unfoldable pub starts_again : List Act
-starts_again = Begins 1 1 0 ∷ Ends 1 ∷ Begins 1 3 0 ∷ []
+starts_again = Begins 1 1 0 false ∷ Ends 1 ∷ Begins 1 3 0 false ∷ []
+
+-- node 1 serves clients on other machines: one of key 7 begins, and makes a call that is refused
+unfoldable pub one_serves : List Act
+one_serves = Begins 1 1 0 true ∷ Turns 1 (given_at 0 (up_piece 1 1 (codes "client 1 a -"))) ∷ Turns 1 (given_at 0 (up_piece 2 2 (codes "leave a db 1"))) ∷ []
+
+-- what node 1 sent to that client first
+unfoldable pub first_down : List ℕ
+first_down = slice_index_or (wire_after one_serves) 0 []
+
+-- then node 2 starts, and is given that by mistake
+unfoldable pub client_served : List Act
+client_served =
+    Begins 1 1 0 true ∷ Turns 1 (given_at 0 (up_piece 1 1 (codes "client 1 a -"))) ∷ Turns 1 (given_at 0 (up_piece 2 2 (codes "leave a db 1"))) ∷ Begins 2 1 0 false ∷ Turns 2 (given_at 0 first_down) ∷ []
 
 -- ---- what no network may do
 
 -- node 2 is given what node 1 never sent
 unfoldable pub never_sent : List Act
-never_sent = Begins 1 1 0 ∷ Begins 2 1 0 ∷ Turns 2 (given_at 50 first_piece) ∷ []
+never_sent = Begins 1 1 0 false ∷ Begins 2 1 0 false ∷ Turns 2 (given_at 50 first_piece) ∷ []
 
 -- node 1 starts again in its old incarnation
 unfoldable pub old_incarnation : List Act
-old_incarnation = Begins 1 1 0 ∷ Ends 1 ∷ Begins 1 1 0 ∷ []
+old_incarnation = Begins 1 1 0 false ∷ Ends 1 ∷ Begins 1 1 0 false ∷ []
 
 -- a second daemon of node 1 starts while the first is up
 unfoldable pub two_at_once : List Act
-two_at_once = Begins 1 1 0 ∷ Begins 1 2 0 ∷ []
+two_at_once = Begins 1 1 0 false ∷ Begins 1 2 0 false ∷ []
 
 -- the lines of what was recorded
 unfoldable pub lines_after : List Act → List ℕ
@@ -62,10 +75,14 @@ starts_again_lines =
 abbrev pub two_speak_lines : List ℕ
 two_speak_lines = codes "up 1 1\nring 1 1 1.1.1 1 1\nin 1 1.1.1 1.1\nup 2 1\nring 2 1 2.1.1 2 2\nin 2 1.2.1 2.1\n"
 
+abbrev pub client_served_lines : List ℕ
+client_served_lines =
+    codes "up 1 1\nring 1 1 1.1.1 1 1\nin 1 1.1.1 1.1\nrefused 1.a BAD_MEMBER_TOKEN\nup 2 1\nring 2 1 2.1.1 2 2\nin 2 1.2.1 2.1\n"
+
 abbrev pub old_incarnation_lines : List ℕ
 old_incarnation_lines = codes "up 1 1\nring 1 1 1.1.1 1 1\nin 1 1.1.1 1.1\ndown 1\nup 1 1\nring 1 1 1.1.1 1 1\nin 1 1.1.1 1.1\n"
 
 -- opens each word of this file, for a computation
 unfoldable pub samples_opens : Unit {0}
-unfolding pair one_ticks wire_after first_piece two_speak starts_again never_sent old_incarnation two_at_once lines_after
+unfolding pair one_ticks wire_after first_piece two_speak starts_again one_serves first_down client_served never_sent old_incarnation two_at_once lines_after
 samples_opens = tt

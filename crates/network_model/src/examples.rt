@@ -1,7 +1,9 @@
 //! Worked examples of networks. Each function is a law: what the definitions compute, and which runs they let be.
-ghost use Rattle.std.specs.Prelude.{◌≡◌, length};
+ghost use Rattle.std.specs.Prelude.{◌≡◌, ℕ, List, None, length};
+ghost use Rattle.node_state.specs.Bytes.{packet_of};
+ghost use Rattle.remote_session.specs.Messages.{UpIn, up_text, DownIn, down_text};
 ghost use Rattle.network_model.specs.Fits.{IsSpelledSend, NetworkRun};
-ghost use Rattle.network_model.specs.Samples.{pair, wire_after, lines_after, one_ticks, two_speak, two_speak_lines, starts_again, starts_again_lines, never_sent, old_incarnation, old_incarnation_lines, two_at_once};
+ghost use Rattle.network_model.specs.Samples.{pair, wire_after, lines_after, one_ticks, two_speak, two_speak_lines, starts_again, starts_again_lines, client_served, client_served_lines, never_sent, old_incarnation, old_incarnation_lines, two_at_once};
 
 /// A node that skips an incarnation has a life in it in which it does nothing.
 #[tactic(auto, unfolding(crate::specs::Opens::net_opens))]
@@ -15,6 +17,20 @@ pub fn speaks()
     ensures wire { length (wire_after one_ticks) ≡ 1 }
     ensures lines { lines_after two_speak ≡ two_speak_lines }
     ensures run { NetworkRun IsSpelledSend pair two_speak }
+{}
+
+/// What a client on another machine says is no packet, whatever it is, and nor is what is said to it: so both may come.
+#[tactic(auto, using(crate::proofs::Marks::up_is_no_packet, crate::proofs::Marks::down_is_no_packet))]
+pub fn client_text_is_no_packet()
+    ensures up { (u : UpIn) → packet_of (up_text u) ≡ None }
+    ensures down { (d : DownIn) → packet_of (down_text d) ≡ None }
+{}
+
+/// A client on another machine makes calls of a node, and what is sent to it does nothing at another.
+#[tactic(auto, unfolding(crate::specs::Opens::net_opens), using(crate::proofs::Runs::client_served_run))]
+pub fn serves_a_client()
+    ensures lines { lines_after client_served ≡ client_served_lines }
+    ensures run { NetworkRun IsSpelledSend pair client_served }
 {}
 
 /// A datagram that was never sent is given in no network's run.

@@ -19,15 +19,15 @@ use Rattle.world_safety.specs.Mirrors.{inc_at}
 use Rattle.world_safety.specs.Moments.{CanCome}
 use Rattle.piece_link.specs.Answers.{Among}
 use Rattle.daemon_model.specs.Sent.{Exchange}
-use Rattle.daemon_model.specs.Daemon.{Daemon, Opening, stepped_by, given, left_for, stepped_for}
+use Rattle.daemon_model.specs.Daemon.{Daemon, Opening, stepped_by, given}
 use Rattle.network_model.specs.Network.{Net, made_since, went_on}
-use Rattle.network_safety.specs.Safe.{answered_by, IsGivenTo, GivenEvents}
+use Rattle.network_safety.specs.Safe.{answered_by, IsGivenTo, IsGiven}
 use Rattle.network_safety.proofs.Quiet.{IsTalk, talk_or, IsQuiet, garbage_quiet, given_quiet}
 use Rattle.network_safety.proofs.Pairs.{kth_found}
 use Rattle.network_safety.proofs.WorldSteps.{Leaves, step_leaves, given_leaves}
 use Rattle.network_safety.proofs.Going.{made_is, noted_is}
 use Rattle.network_safety.proofs.Standing.{Facts, facts, NodeOf, node_of, IsKnown, Stand}
-use Rattle.network_safety.proofs.Stepping.{own_up, IsStep, step_stands, IsNoSend, keeps_stands}
+use Rattle.network_safety.proofs.Stepping.{steps_to, IsNoSend, own_up, IsStep, step_stands, keeps_stands}
 
 -- the same step, from a node that is at work
 same_step : (f : Answering) (e : NodeEvent) (s : Core) (d : Daemon) → at_work s ≡ d.core → stepped f s e ≡ stepped f d.core e
@@ -102,25 +102,25 @@ event_is message o e = ap event_in e
 
 -- ---- a message that is whole is given to the node
 
-pub record Gives (c : Config) (net : Net) (es : List Answered) (w : World) (n : ℕ) (d e : Daemon) (message : Option (List ℕ)) (f : Answering) : Type 0 where
+pub record Gives (c : Config) (net : Net) (es : List Answered) (n : ℕ) (d e : Daemon) (AreThey : List Answered → Type 0) : Type 0 where
   pub events : List Answered
-  pub are : GivenEvents n message f events
+  pub are : AreThey events
   pub world : World
   pub stand : Stand c (went_on n d e net) (es ++ events) world
 
 module _ (c : Config) (net : Net) (es : List Answered) (w : World) (k : Stand c net es w) (n : ℕ) (d : Daemon) (at : net.daemons n ≡ Some d) (f : Answering) (message : List ℕ) where
   by_step : (e : NodeEvent) → event_of message ≡ e → (v : Event) (y : Core) → IsGivenTo n v → IsStep c net es w k n d at f e (answered_by f v) y
-      → Gives c net es w n d (stepped_by f (event_of message) d) (Some message) f
+      → Gives c net es n d (stepped_by f (event_of message) d) (IsGiven n f)
   by_step e is v y to s =
       record {
         events = answered_by f v ∷ [];
         are = (v, to, refl);
         world = goes_on w (answered_by f v);
-        stand = step_stands c net es w k n d at f (event_of message) (answered_by f v) y (subst (λ z. IsStep c net es w k n d at f z (answered_by f v) y) (sym is) s);
+        stand = step_stands c net es w k n d at f (event_of message) (answered_by f v) y (subst (λ z. IsStep c net es w k n d at f z (answered_by f v) y) (sym is) s) (stepped_by f (event_of message) d) (steps_to f (event_of message) d);
       }
 
   given_by : (o : Option Packet) → packet_of message ≡ o → IsKnown w message
-      → Gives c net es w n d (stepped_by f (event_of message) d) (Some message) f
+      → Gives c net es n d (stepped_by f (event_of message) d) (IsGiven n f)
   given_by None is known =
       by_step Garbage (event_is message None is) (event.Garbage n message) (stepped f (node_of c net es w k.world n d at).node.core Garbage) refl (drops c net es w k n d at f message)
   given_by (Some p) is known = by (p.to == d.core.views.me) refl (talk_or p.body)
@@ -131,16 +131,16 @@ module _ (c : Config) (net : Net) (es : List Answered) (w : World) (k : Stand c 
       me : d.core.views.me ≡ n
       me = sym (ap (λ (z : Core). z.views.me) x.core) ∙ (facts c net es w k.world).me n x.node x.up
 
-      quiet : ((p.to == d.core.views.me) ≡ true → IsTalk p.body) → Gives c net es w n d (stepped_by f (event_of message) d) (Some message) f
+      quiet : ((p.to == d.core.views.me) ≡ true → IsTalk p.body) → Gives c net es n d (stepped_by f (event_of message) d) (IsGiven n f)
       quiet talk =
-          by_step (Given p) (event_is message (Some p) is) (event.Garbage n message) (stepped f x.node.core Garbage) refl (idles_at c net es w k n d at f p message (own_up c net es w k n d at).rests talk)
+          by_step (Given p) (event_is message (Some p) is) (event.Garbage n message) (stepped f x.node.core Garbage) refl (idles_at c net es w k n d at f p message (own_up net w k.wires n d at).rests talk)
 
-      taken_by : p.to ≡ n → Has p w.sent → Gives c net es w n d (stepped_by f (event_of message) d) (Some message) f
+      taken_by : p.to ≡ n → Has p w.sent → Gives c net es n d (stepped_by f (event_of message) d) (IsGiven n f)
       taken_by to h =
           let i = kth_found w k.world.paired p h in
           by_step (Given p) (event_is message (Some p) is) (event.Deliver p.from p.to i.0) (stepped f x.node.core (Given p)) to (takes c net es w k n d at f p to h i.0 i.1)
 
-      by : (b : Bool) → (p.to == d.core.views.me) ≡ b → IsTalk p.body ⊎ (IsTalk p.body → ⊥) → Gives c net es w n d (stepped_by f (event_of message) d) (Some message) f
+      by : (b : Bool) → (p.to == d.core.views.me) ≡ b → IsTalk p.body ⊎ (IsTalk p.body → ⊥) → Gives c net es n d (stepped_by f (event_of message) d) (IsGiven n f)
       by false e talk = quiet (λ g. absurd (let z : false ≡ true = sym e ∙ g in cc))
       by true e (inl talk) = quiet (λ g. talk)
       by true e (inr other) = elim (known p is) [
@@ -151,15 +151,13 @@ module _ (c : Config) (net : Net) (es : List Answered) (w : World) (k : Stand c 
 -- no message: nothing changes
 pub none_given : (c : Config) (net : Net) (es : List Answered) (w : World) → Stand c net es w → (n : ℕ) (d : Daemon) → net.daemons n ≡ Some d → Stand c (went_on n d d net) es w
 none_given c net es w k n d at =
-    keeps_stands c net es w k n d at d refl refl refl refl (own_up c net es w k n d at).joined (own_up c net es w k n d at).alone (nothing_sent d d refl) (noted_is d d [] (sym (append-nil d.records)))
+    keeps_stands c net es w k n d at d refl refl refl refl (own_up net w k.wires n d at).joined (nothing_sent d d refl) (noted_is d d [] (sym (append-nil d.records)))
 
 abbrev pub IsKnownIf : World → Option (List ℕ) → Type 0
 IsKnownIf w None = Unit {0}
 IsKnownIf w (Some bytes) = IsKnown w bytes
 
-pub message_gives : (c : Config) (net : Net) (es : List Answered) (w : World) (k : Stand c net es w) (n : ℕ) (d : Daemon) → net.daemons n ≡ Some d → (f : Answering) (message : Option (List ℕ)) → IsKnownIf w message
-    → Gives c net es w n d (given message f d) message f
-unfolding given stepped_for left_for
-message_gives c net es w k n d at f None known =
-    record { events = []; are = refl; world = w; stand = subst (λ zs. Stand c (went_on n d d net) zs w) (sym (append-nil es)) (none_given c net es w k n d at) }
-message_gives c net es w k n d at f (Some message) known = given_by c net es w k n d at f message (packet_of message) refl known
+pub message_gives : (c : Config) (net : Net) (es : List Answered) (w : World) (k : Stand c net es w) (n : ℕ) (d : Daemon) → net.daemons n ≡ Some d → (f : Answering) (message : List ℕ) → IsKnown w message
+    → Gives c net es n d (given (Some message) f d) (IsGiven n f)
+unfolding given
+message_gives c net es w k n d at f message known = given_by c net es w k n d at f message (packet_of message) refl known

@@ -9,8 +9,7 @@ use Rattle.node_state.specs.declared.happened.Happened.TheVariants as happened
 use Rattle.node_state.specs.Step.{started}
 use Rattle.step_refinement.specs.Rules.{at_node}
 use Rattle.step_refinement.proofs.Changed.{set_here, set_there}
-use Rattle.daemon_model.specs.Daemon.{Daemon, Opening, Turn, begun, opened, opened_all, turned, turned_all, lived, begun_for}
-use Rattle.daemon_model.proofs.AloneLaws.{IsAlone, opened_alone, opened_all_alone, turned_alone, begun_alone}
+use Rattle.daemon_model.specs.Daemon.{Daemon, Opening, Turn, opened, opened_all, turned, turned_all, lived, begun_for}
 use Rattle.network_model.specs.Network.{Act, Begins, Opens, Turns, Ends, Net, no_net, noted_since, went_on, starts, ends, idles, begins, does_if, acted}
 use Rattle.network_model.specs.Lives.{LifeIn, acts_of, is_at, noted_if, records_at, idle_records, lives_records, NodesRecordTheirLives}
 use Rattle.network_safety.proofs.Going.{More, noted_is}
@@ -36,14 +35,14 @@ noted_by f (Some d) = noted_since d (f d)
 
 -- an act of the node
 acted_at : Config → ℕ → At → Act → At
-acted_at c n s (Begins node incarnation moment) = record { daemon = Some (begun c n incarnation moment); last = incarnation }
+acted_at c n s (Begins node incarnation moment remote) = record { daemon = Some (begun_for remote c n incarnation moment); last = incarnation }
 acted_at c n s (Opens node opening) = with_daemon s (λ d. opened d opening) s.daemon
 acted_at c n s (Turns node turn) = with_daemon s (λ d. turned d turn) s.daemon
 acted_at c n s (Ends node) = record s { daemon = None }
 
 noted_at : Config → ℕ → At → Act → List Happened
-noted_at c n s (Begins node incarnation moment) =
-    idle_records c n s.last (incarnation - 1 - s.last) ++ (begun c n incarnation moment).records
+noted_at c n s (Begins node incarnation moment remote) =
+    idle_records c n s.last (incarnation - 1 - s.last) ++ (begun_for remote c n incarnation moment).records
 noted_at c n s (Opens node opening) = noted_by (λ d. opened d opening) s.daemon
 noted_at c n s (Turns node turn) = noted_by (λ d. turned d turn) s.daemon
 noted_at c n s (Ends node) = happened.Down n ∷ []
@@ -62,19 +61,19 @@ idles_records : (c : Config) (n k : ℕ) (net : Net) → (idles c n k net).recor
 unfolding idles idle_records starts ends
 idles_records c n zero net = sym (append-nil net.records)
 idles_records c n (suc k) net =
-    idles_records c n k (ends n (starts c n (net.incarnations n + 1) 0 net))
-    ∙ ap (λ i. ((net.records ++ (begun c n (net.incarnations n + 1) 0).records) ++ happened.Down n ∷ []) ++ idle_records c n i k) (set_here net.incarnations n (net.incarnations n + 1))
-    ∙ ap (λ xs. ((net.records ++ xs) ++ happened.Down n ∷ []) ++ idle_records c n (net.incarnations n + 1) k) (begun_records c n (net.incarnations n + 1) 0)
+    idles_records c n k (ends n (starts false c n (net.incarnations n + 1) 0 net))
+    ∙ ap (λ i. ((net.records ++ (begun_for false c n (net.incarnations n + 1) 0).records) ++ happened.Down n ∷ []) ++ idle_records c n i k) (set_here net.incarnations n (net.incarnations n + 1))
+    ∙ ap (λ xs. ((net.records ++ xs) ++ happened.Down n ∷ []) ++ idle_records c n (net.incarnations n + 1) k) (begun_records false c n (net.incarnations n + 1) 0)
     ∙ append_assoc (net.records ++ (started c n (net.incarnations n + 1)).records) (happened.Down n ∷ []) (idle_records c n (net.incarnations n + 1) k)
     ∙ append_assoc net.records (started c n (net.incarnations n + 1)).records (happened.Down n ∷ idle_records c n (net.incarnations n + 1) k)
 
-begin_same : (c : Config) (n incarnation moment : ℕ) (net : Net) → Same c n net (Begins n incarnation moment)
+begin_same : (c : Config) (n incarnation moment : ℕ) (remote : Bool) (net : Net) → Same c n net (Begins n incarnation moment remote)
 unfolding acted begins starts at_of acted_at noted_at
-begin_same c n incarnation moment net =
+begin_same c n incarnation moment remote net =
     let idled : Net = idles c n (incarnation - 1 - net.incarnations n) net in
     record {
-      state = λ i. record { daemon = set_here idled.daemons n (Some (begun c n incarnation moment)) i; last = set_here idled.incarnations n incarnation i };
-      records = ap (λ xs. xs ++ (begun c n incarnation moment).records) (idles_records c n (incarnation - 1 - net.incarnations n) net) ∙ append_assoc net.records (idle_records c n (net.incarnations n) (incarnation - 1 - net.incarnations n)) (begun c n incarnation moment).records;
+      state = λ i. record { daemon = set_here idled.daemons n (Some (begun_for remote c n incarnation moment)) i; last = set_here idled.incarnations n incarnation i };
+      records = ap (λ xs. xs ++ (begun_for remote c n incarnation moment).records) (idles_records c n (incarnation - 1 - net.incarnations n) net) ∙ append_assoc net.records (idle_records c n (net.incarnations n) (incarnation - 1 - net.incarnations n)) (begun_for remote c n incarnation moment).records;
     }
 
 does_state : (f : Daemon → Daemon) (n : ℕ) (net : Net) (o : Option Daemon) → net.daemons n ≡ o → at_of n (does_if f n o net) ≡ with_daemon (at_of n net) f o
@@ -104,9 +103,9 @@ end_same c n net =
 
 act_same : (c : Config) (n : ℕ) (net : Net) (a : Act) → is_at n a ≡ true → Same c n net a
 unfolding acted_at noted_at
-act_same c n net (Begins m incarnation moment) e =
+act_same c n net (Begins m incarnation moment remote) e =
     let is : m ≡ n = eqb-true m n e in
-    subst (λ j. Same c n net (Begins j incarnation moment)) (sym is) (begin_same c n incarnation moment net)
+    subst (λ j. Same c n net (Begins j incarnation moment remote)) (sym is) (begin_same c n incarnation moment remote net)
 act_same c n net (Opens m o) e = let is : m ≡ n = eqb-true m n e in subst (λ j. Same c n net (Opens j o)) (sym is) (open_same c n o net)
 act_same c n net (Turns m t) e = let is : m ≡ n = eqb-true m n e in subst (λ j. Same c n net (Turns j t)) (sym is) (turn_same c n t net)
 act_same c n net (Ends m) e = let is : m ≡ n = eqb-true m n e in subst (λ j. Same c n net (Ends j)) (sym is) (end_same c n net)
@@ -116,9 +115,9 @@ idles_other : (c : Config) (m n k : ℕ) (net : Net) → n ≢ m → at_of n (id
 unfolding idles starts ends at_of
 idles_other c m n zero net ne = refl
 idles_other c m n (suc k) net ne =
-    let up : ℕ → Option Daemon = at_node net.daemons m (Some (begun c m (net.incarnations m + 1) 0)) in
-    idles_other c m n k (ends m (starts c m (net.incarnations m + 1) 0 net)) ne
-    ∙ (λ i. record { daemon = (set_there up m None n ne ∙ set_there net.daemons m (Some (begun c m (net.incarnations m + 1) 0)) n ne) i; last = set_there net.incarnations m (net.incarnations m + 1) n ne i })
+    let up : ℕ → Option Daemon = at_node net.daemons m (Some (begun_for false c m (net.incarnations m + 1) 0)) in
+    idles_other c m n k (ends m (starts false c m (net.incarnations m + 1) 0 net)) ne
+    ∙ (λ i. record { daemon = (set_there up m None n ne ∙ set_there net.daemons m (Some (begun_for false c m (net.incarnations m + 1) 0)) n ne) i; last = set_there net.incarnations m (net.incarnations m + 1) n ne i })
 
 does_other : (f : Daemon → Daemon) (m n : ℕ) (net : Net) (o : Option Daemon) → n ≢ m → at_of n (does_if f m o net) ≡ at_of n net
 unfolding at_of went_on
@@ -127,10 +126,10 @@ does_other f m n net (Some d) ne = λ i. record { daemon = set_there net.daemons
 
 act_other : (c : Config) (n : ℕ) (net : Net) (a : Act) → is_at n a ≡ false → at_of n (acted c net a) ≡ at_of n net
 unfolding acted begins starts ends at_of
-act_other c n net (Begins m incarnation moment) e =
+act_other c n net (Begins m incarnation moment remote) e =
     let ne : n ≢ m = λ is. eqb-false m n e (sym is) in
     let idled : Net = idles c m (incarnation - 1 - net.incarnations m) net in
-    (λ i. record { daemon = set_there idled.daemons m (Some (begun c m incarnation moment)) n ne i; last = set_there idled.incarnations m incarnation n ne i })
+    (λ i. record { daemon = set_there idled.daemons m (Some (begun_for remote c m incarnation moment)) n ne i; last = set_there idled.incarnations m incarnation n ne i })
     ∙ idles_other c m n (incarnation - 1 - net.incarnations m) net ne
 act_other c n net (Opens m o) e = does_other (λ d. opened d o) m n net (net.daemons m) (λ is. eqb-false m n e (sym is))
 act_other c n net (Turns m t) e = does_other (λ d. turned d t) m n net (net.daemons m) (λ is. eqb-false m n e (sym is))
@@ -156,41 +155,38 @@ all_same c n (a ∷ acts) net = by (is_at n a) refl (all_same c n acts (acted c 
 -- ---- a life
 
 -- a daemon goes on, act after act, and then come other acts
-module _ (c : Config) (n last : ℕ) {X : Type 0} (act : X → Act) (f : Daemon → X → Daemon) (more : (d : Daemon) (x : X) → IsAlone d → More d (f d x)) (keeps : (d : Daemon) (x : X) → IsAlone d → IsAlone (f d x))
+module _ (c : Config) (n last : ℕ) {X : Type 0} (act : X → Act) (f : Daemon → X → Daemon) (more : (d : Daemon) (x : X) → More d (f d x))
     (state : (d : Daemon) (x : X) → acted_at c n (record { daemon = Some d; last = last }) (act x) ≡ record { daemon = Some (f d x); last = last })
     (noted : (d : Daemon) (x : X) → noted_at c n (record { daemon = Some d; last = last }) (act x) ≡ noted_since d (f d x)) where
-  goes_at : (xs : List X) (d : Daemon) (rest : List Act) → IsAlone d → d.records ++ all_at c n (record { daemon = Some d; last = last }) (map act xs ++ rest) ≡ (fold f d xs).records ++ all_at c n (record { daemon = Some (fold f d xs); last = last }) rest
+  goes_at : (xs : List X) (d : Daemon) (rest : List Act) → d.records ++ all_at c n (record { daemon = Some d; last = last }) (map act xs ++ rest) ≡ (fold f d xs).records ++ all_at c n (record { daemon = Some (fold f d xs); last = last }) rest
   unfolding all_at
-  goes_at [] d rest alone = refl
-  goes_at (x ∷ xs) d rest alone =
-      let m : More d (f d x) = more d x alone in
+  goes_at [] d rest = refl
+  goes_at (x ∷ xs) d rest =
+      let m : More d (f d x) = more d x in
       let later : List Happened = all_at c n (record { daemon = Some (f d x); last = last }) (map act xs ++ rest) in
       ap (λ ys. d.records ++ (ys ++ all_at c n (acted_at c n (record { daemon = Some d; last = last }) (act x)) (map act xs ++ rest))) (noted d x) ∙ ap (λ s. d.records ++ (noted_since d (f d x) ++ all_at c n s (map act xs ++ rest))) (state d x)
-      ∙ sym (append_assoc d.records (noted_since d (f d x)) later) ∙ ap (λ ys. (d.records ++ ys) ++ later) (noted_is d (f d x) m.records m.recorded) ∙ ap (λ ys. ys ++ later) (sym m.recorded) ∙ goes_at xs (f d x) rest (keeps d x alone)
+      ∙ sym (append_assoc d.records (noted_since d (f d x)) later) ∙ ap (λ ys. (d.records ++ ys) ++ later) (noted_is d (f d x) m.records m.recorded) ∙ ap (λ ys. ys ++ later) (sym m.recorded) ∙ goes_at xs (f d x) rest
 
-open_at : (c : Config) (n last : ℕ) (os : List Opening) (d : Daemon) (rest : List Act) → IsAlone d → d.records ++ all_at c n (record { daemon = Some d; last = last }) (map (Opens n) os ++ rest) ≡ (opened_all d os).records ++ all_at c n (record { daemon = Some (opened_all d os); last = last }) rest
+open_at : (c : Config) (n last : ℕ) (os : List Opening) (d : Daemon) (rest : List Act) → d.records ++ all_at c n (record { daemon = Some d; last = last }) (map (Opens n) os ++ rest) ≡ (opened_all d os).records ++ all_at c n (record { daemon = Some (opened_all d os); last = last }) rest
 unfolding opened_all acted_at noted_at with_daemon noted_by
-open_at c n last = goes_at c n last (Opens n) opened (λ d o alone. open_more d o) opened_alone (λ d o. refl) (λ d o. refl)
+open_at c n last = goes_at c n last (Opens n) opened open_more (λ d o. refl) (λ d o. refl)
 
-turn_at : (c : Config) (n last : ℕ) (ts : List Turn) (d : Daemon) (rest : List Act) → IsAlone d → d.records ++ all_at c n (record { daemon = Some d; last = last }) (map (Turns n) ts ++ rest) ≡ (turned_all d ts).records ++ all_at c n (record { daemon = Some (turned_all d ts); last = last }) rest
+turn_at : (c : Config) (n last : ℕ) (ts : List Turn) (d : Daemon) (rest : List Act) → d.records ++ all_at c n (record { daemon = Some d; last = last }) (map (Turns n) ts ++ rest) ≡ (turned_all d ts).records ++ all_at c n (record { daemon = Some (turned_all d ts); last = last }) rest
 unfolding turned_all acted_at noted_at with_daemon noted_by
-turn_at c n last = goes_at c n last (Turns n) turned turn_more turned_alone (λ d t. refl) (λ d t. refl)
+turn_at c n last = goes_at c n last (Turns n) turned turn_more (λ d t. refl) (λ d t. refl)
 
 life_at : (c : Config) (n last : ℕ) (l : LifeIn) (rest : List Act) → all_at c n (record { daemon = None; last = last }) (acts_of n l ++ rest)
     ≡ idle_records c n last (l.incarnation - 1 - last) ++ ((lived c n l.incarnation l.life).records ++ happened.Down n ∷ all_at c n (record { daemon = None; last = l.incarnation }) rest)
 unfolding acts_of all_at acted_at noted_at lived
 life_at c n last l rest =
-    let b : Daemon = begun c n l.incarnation l.life.start in
+    let b : Daemon = begun_for l.life.remote c n l.incarnation l.life.start in
     let o : Daemon = opened_all b l.life.opening in
     let turns : List Act = map (Turns n) l.life.turns ++ Ends n ∷ [] in
     let idle : List Happened = idle_records c n last (l.incarnation - 1 - last) in
     let up : Daemon → At = λ d. record { daemon = Some d; last = l.incarnation } in
-    let alone : IsAlone b = begun_alone false c n l.incarnation l.life.start refl in
-    let is : turned_all o l.life.turns ≡ lived c n l.incarnation l.life = ap (λ (remote : Bool). turned_all (opened_all (begun_for remote c n l.incarnation l.life.start) l.life.opening) l.life.turns) (sym l.alone) in
     append_assoc idle b.records (all_at c n (up b) ((map (Opens n) l.life.opening ++ turns) ++ rest))
-    ∙ ap (λ zs. idle ++ (b.records ++ all_at c n (up b) zs)) (append_assoc (map (Opens n) l.life.opening) turns rest) ∙ ap (λ ys. idle ++ ys) (open_at c n l.incarnation l.life.opening b (turns ++ rest) alone)
-    ∙ ap (λ zs. idle ++ (o.records ++ all_at c n (up o) zs)) (append_assoc (map (Turns n) l.life.turns) (Ends n ∷ []) rest) ∙ ap (λ ys. idle ++ ys) (turn_at c n l.incarnation l.life.turns o (Ends n ∷ rest) (opened_all_alone b l.life.opening alone))
-    ∙ ap (λ (d : Daemon). idle ++ (d.records ++ happened.Down n ∷ all_at c n (record { daemon = None; last = l.incarnation }) rest)) is
+    ∙ ap (λ zs. idle ++ (b.records ++ all_at c n (up b) zs)) (append_assoc (map (Opens n) l.life.opening) turns rest) ∙ ap (λ ys. idle ++ ys) (open_at c n l.incarnation l.life.opening b (turns ++ rest))
+    ∙ ap (λ zs. idle ++ (o.records ++ all_at c n (up o) zs)) (append_assoc (map (Turns n) l.life.turns) (Ends n ∷ []) rest) ∙ ap (λ ys. idle ++ ys) (turn_at c n l.incarnation l.life.turns o (Ends n ∷ rest))
 
 lives_at : (c : Config) (n last : ℕ) (ls : List LifeIn) → all_at c n (record { daemon = None; last = last }) (flat_map (acts_of n) ls) ≡ lives_records c n last ls
 unfolding all_at lives_records

@@ -1,5 +1,5 @@
 -- The run of every network is that of a world, and so it is safe.
-use Rattle.std.proofs.Common.{◌≡◌, ◌<◌, ◌≤◌, ◌+◌, ℕ, List, [], ◌∷◌, ◌++◌, Option, Some, None, false, refl, sym, ap, ◌∙◌, subst, inl, inr, arith, append-nil, append_assoc}
+use Rattle.std.proofs.Common.{◌≡◌, ◌<◌, ◌≤◌, ◌+◌, ℕ, Bool, List, [], ◌∷◌, ◌++◌, Option, Some, None, false, refl, sym, ap, ◌∙◌, subst, inl, inr, arith, append-nil, append_assoc}
 use Rattle.std.specs.Prelude.{fold, map}
 use Rattle.rsct_packet.specs.Ids.{last_u32}
 use Rattle.rsct_packet.specs.Lists.{reverse_onto}
@@ -22,13 +22,12 @@ use Rattle.piece_link.specs.Answers.{Among}
 use Rattle.daemon_model.specs.Sent.{Exchange, AllSpelled}
 use Rattle.daemon_model.specs.Daemon.{Daemon, Opening, Turn, opened, ticked, turned, left_for, stepped_for}
 use Rattle.network_model.specs.Network.{Act, Begins, Opens, Turns, Ends, Net, no_net, made_since, skipped, begins, idles, starts, does_if, acted, net_after}
-use Rattle.network_model.specs.Fits.{WasSent, MayCome, IsSpelledSend, MayBegin, MayTurn, OfUp, MayAct, AllMayAct, NetworkRun}
+use Rattle.network_model.specs.Fits.{MayCome, IsSpelledSend, MayBegin, MayTurn, OfUp, MayAct, AllMayAct, NetworkRun}
 use Rattle.network_safety.specs.Safe.{answered_by, silent, idle_events, TurnEvents, ActEvents, AreEventsOf, NetworksOfDaemonsAreSafe}
 use Rattle.network_safety.specs.Served.{IsServed, Done, Ended, Broken, served_calls, Served, life_of, calls_of, WasTold, ServedDaemonsAreSafe}
 use Rattle.network_safety.proofs.Apart.{nodes_record_their_lives}
-use Rattle.network_safety.proofs.Messages.{no_messages}
 use Rattle.network_safety.proofs.Standing.{Stands, Stand}
-use Rattle.network_safety.proofs.Stepping.{step_stands}
+use Rattle.network_safety.proofs.Stepping.{steps_to, step_stands}
 use Rattle.network_safety.proofs.Acts.{its_node, called}
 use Rattle.network_safety.proofs.Turning.{TurnGoes, turn_goes}
 use Rattle.network_safety.proofs.Lives.{Idled, idles_stand, start_stands, end_stands}
@@ -54,8 +53,10 @@ nothing_stands c free =
         paired = record { counted = λ x h. absurd h; paired = λ p h. absurd h };
       };
       wires = record {
+        all = [];
+        past = λ m h. absurd h;
+        distinct = λ m l h i same. absurd h;
         made = λ x h. absurd h;
-        distinct = λ m l h. absurd (subst (Among m) no_messages h);
         messages = [];
         sent = λ m h. absurd h;
         fits = λ m h. absurd h;
@@ -73,21 +74,21 @@ record ActGoes (c : Config) (net : Net) (es : List Answered) (a : Act) : Type 0 
   stand : Stand c (acted c net a) (es ++ events) world
 
 module _ (c : Config) (free : is_fixed c.mode ≡ false) (net : Net) (es : List Answered) (w : World) (k : Stand c net es w) where
-  begin_goes : (n incarnation moment : ℕ) → MayBegin net n incarnation → ActGoes c net es (Begins n incarnation moment)
+  begin_goes : (n incarnation moment : ℕ) (remote : Bool) → MayBegin net n incarnation → ActGoes c net es (Begins n incarnation moment remote)
   unfolding acted begins
-  begin_goes n incarnation moment may =
+  begin_goes n incarnation moment remote may =
       let i : ℕ = skipped net n incarnation in
       let later : net.incarnations n < incarnation = may.later in
       let fits : incarnation ≤ last_u32 = may.fits in
       let r : Idled c net es n (skipped net n incarnation) = idles_stand c n free may.some may.most (skipped net n incarnation) net es w k may.down (omega (arith, later, fits)) in
       let risen : (idles c n (skipped net n incarnation) net).incarnations n ≡ net.incarnations n + skipped net n incarnation = r.risen in
       let now : (idles c n (skipped net n incarnation) net).incarnations n + 1 ≡ incarnation = omega (arith, later, risen) in
-      let s = start_stands c (idles c n (skipped net n incarnation) net) (es ++ idle_events n (skipped net n incarnation)) r.world r.stand n moment free may.some may.most r.down (omega (arith, now, fits)) in
+      let s = start_stands c (idles c n (skipped net n incarnation) net) (es ++ idle_events n (skipped net n incarnation)) r.world r.stand remote n moment free may.some may.most r.down (omega (arith, now, fits)) in
       record {
         events = idle_events n (skipped net n incarnation) ++ silent (event.Start n) ∷ [];
         are = refl;
         world = goes_on r.world (silent (event.Start n));
-        stand = subst (λ zs. Stand c (starts c n incarnation moment (idles c n (skipped net n incarnation) net)) zs (goes_on r.world (silent (event.Start n)))) (append_assoc es (idle_events n (skipped net n incarnation)) (silent (event.Start n) ∷ [])) (subst (λ j. Stand c (starts c n j moment (idles c n (skipped net n incarnation) net)) ((es ++ idle_events n (skipped net n incarnation)) ++ silent (event.Start n) ∷ []) (goes_on r.world (silent (event.Start n)))) now s);
+        stand = subst (λ zs. Stand c (starts remote c n incarnation moment (idles c n (skipped net n incarnation) net)) zs (goes_on r.world (silent (event.Start n)))) (append_assoc es (idle_events n (skipped net n incarnation)) (silent (event.Start n) ∷ [])) (subst (λ j. Stand c (starts remote c n j moment (idles c n (skipped net n incarnation) net)) ((es ++ idle_events n (skipped net n incarnation)) ++ silent (event.Start n) ∷ []) (goes_on r.world (silent (event.Start n)))) now s);
       }
 
   open_goes : (n : ℕ) (o : Opening) (d : Option Daemon) → net.daemons n ≡ d → OfUp (λ d. Unit {0}) d → ActGoes c net es (Opens n o)
@@ -98,7 +99,7 @@ module _ (c : Config) (free : is_fixed c.mode ≡ false) (net : Net) (es : List 
         events = answered_by o.answers (event.Call n o.call) ∷ [];
         are = refl;
         world = goes_on w (answered_by o.answers (event.Call n o.call));
-        stand = subst (λ q. Stand c (does_if (λ d. opened d o) n q net) (es ++ answered_by o.answers (event.Call n o.call) ∷ []) (goes_on w (answered_by o.answers (event.Call n o.call)))) (sym at) (step_stands c net es w k n d at o.answers (Calls o.call) (answered_by o.answers (event.Call n o.call)) (stepped o.answers (its_node c net es w k n d at).node.core (Calls o.call)) (called c net es w k n d at o));
+        stand = subst (λ q. Stand c (does_if (λ d. opened d o) n q net) (es ++ answered_by o.answers (event.Call n o.call) ∷ []) (goes_on w (answered_by o.answers (event.Call n o.call)))) (sym at) (step_stands c net es w k n d at o.answers (Calls o.call) (answered_by o.answers (event.Call n o.call)) (stepped o.answers (its_node c net es w k n d at).node.core (Calls o.call)) (called c net es w k n d at o) (opened d o) (steps_to o.answers (Calls o.call) d));
       }
 
   turning : (n : ℕ) (t : Turn) (d : Option Daemon) → net.daemons n ≡ d → OfUp (MayTurn IsSpelledSend net t) d → ActGoes c net es (Turns n t)
@@ -120,7 +121,7 @@ module _ (c : Config) (free : is_fixed c.mode ≡ false) (net : Net) (es : List 
       record { events = silent (event.Stop n) ∷ []; are = refl; world = goes_on w (silent (event.Stop n)); stand = end_stands c net es w k n d at }
 
   act_goes : (a : Act) → MayAct IsSpelledSend net a → ActGoes c net es a
-  act_goes (Begins n incarnation moment) may = begin_goes n incarnation moment may
+  act_goes (Begins n incarnation moment remote) may = begin_goes n incarnation moment remote may
   act_goes (Opens n o) may = open_goes n o (net.daemons n) refl may
   act_goes (Turns n t) may = turning n t (net.daemons n) refl may
   act_goes (Ends n) may = end_goes n (net.daemons n) refl may
@@ -171,10 +172,10 @@ module _ (c : Config) (P Q : Exchange → Type 0) (weaker : (x : Exchange) → P
 
   turns_as : (net : Net) (t : Turn) (d : Option Daemon) → OfUp (MayTurn P net t) d → OfUp (MayTurn Q net t) d
   turns_as net t None h = h
-  turns_as net t (Some d) h = comes_as (net.wire ++ made_since d (ticked t.moment t.tick d)) t.got h
+  turns_as net t (Some d) h = record { comes = comes_as (net.wire ++ made_since d (ticked t.moment t.tick d)) t.got h.comes; numbers = h.numbers }
 
   act_as : (net : Net) (a : Act) → MayAct P net a → MayAct Q net a
-  act_as net (Begins n incarnation moment) h = h
+  act_as net (Begins n incarnation moment remote) h = h
   act_as net (Opens n o) h = h
   act_as net (Turns n t) h = turns_as net t (net.daemons n) h
   act_as net (Ends n) h = h
@@ -189,15 +190,15 @@ each_spelled (y ∷ ys) h x (inl e) = subst IsSpelledSend (sym e) h.0
 each_spelled (y ∷ ys) h x (inr i) = each_spelled ys h.1 x i
 
 -- `serve` tells of all that it made that it is spelled
-all_spelled : (script : Script) (me inc turns : ℕ) (a b : Option (List LinkCall)) (x y u v : Option (List ℕ)) (s : IsServed script me inc turns a b x y u v) → AllSpelled (served_calls script me inc turns a b x y u v s)
-all_spelled script me inc turns a b x y u v (Done core s) = s.lived.made.spelled
-all_spelled script me inc turns a b x y u v (Ended s) = s.lived.made.spelled
-all_spelled script me inc turns a b x y u v (Broken s) = s.lived.made.made.spelled
+all_spelled : (script : Script) (me inc : ℕ) (remote : Bool) (turns : ℕ) (a b : Option (List LinkCall)) (x y u v : Option (List ℕ)) (s : IsServed script me inc remote turns a b x y u v) → AllSpelled (served_calls script me inc remote turns a b x y u v s)
+all_spelled script me inc remote turns a b x y u v (Done core s) = s.lived.made.spelled
+all_spelled script me inc remote turns a b x y u v (Ended s) = s.lived.made.spelled
+all_spelled script me inc remote turns a b x y u v (Broken s) = s.lived.made.made.spelled
 
 told_spelled : (c : Config) (served : (n : ℕ) → List (Served c n)) (x : Exchange) → WasTold c served x → IsSpelledSend x
 told_spelled c served x h =
     let r = h.by in
-    each_spelled (calls_of c h.node r) (all_spelled r.script h.node r.incarnation r.turns (Some r.calls) (Some r.calls_after) r.held r.held_after r.moments r.moments_after r.is) x h.told
+    each_spelled (calls_of c h.node r) (all_spelled r.script h.node r.incarnation r.remote r.turns (Some r.calls) (Some r.calls_after) r.held r.held_after r.moments r.moments_after r.is) x h.told
 
 pub served_daemons_are_safe : ServedDaemonsAreSafe
 served_daemons_are_safe c served acts are run =

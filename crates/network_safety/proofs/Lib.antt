@@ -7,6 +7,7 @@ pub mod Standing
 pub mod Going
 pub mod Stepping
 pub mod Acts
+pub mod Bringing
 pub mod Turning
 pub mod Lives
 pub mod Apart

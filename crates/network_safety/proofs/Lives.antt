@@ -1,5 +1,5 @@
 -- Daemons start and end, and each incarnation that is skipped is a life in which a node does nothing.
-use Rattle.std.proofs.Common.{◌≡◌, ◌≢◌, ◌<◌, ◌≤◌, ◌+◌, ◌^◌, ℕ, zero, suc, List, [], ◌∷◌, ◌++◌, Some, None, false, refl, sym, ap, ◌∙◌, subst, inl, inr, arith, append-nil, append_assoc}
+use Rattle.std.proofs.Common.{◌≡◌, ◌≢◌, ◌<◌, ◌≤◌, ◌+◌, ◌^◌, ℕ, zero, suc, Bool, List, [], ◌∷◌, ◌++◌, Some, None, false, refl, sym, ap, ◌∙◌, subst, inl, inr, arith, append-nil, append_assoc}
 use Rattle.std.specs.Prelude.{find}
 use Rattle.std.proofs.lemmas.Bool.{cases_eq}
 use Rattle.rsct_packet.specs.Ids.{last_u32}
@@ -15,13 +15,12 @@ use Rattle.step_refinement.specs.Rules.{at_node}
 use Rattle.step_refinement.proofs.Changed.{set_here, set_there, each_set}
 use Rattle.world_safety.specs.Mirrors.{inc_at}
 use Rattle.piece_link.specs.Pieces.{Message}
-use Rattle.piece_link.specs.Answers.{Among, AreDistinct}
-use Rattle.daemon_model.specs.Sent.{Exchange, sent_calls}
-use Rattle.daemon_model.specs.Daemon.{Daemon, begun, left_for, begun_for}
+use Rattle.piece_link.specs.Answers.{Among}
+use Rattle.daemon_model.specs.Sent.{sent_calls}
+use Rattle.daemon_model.specs.Daemon.{Daemon, left_for, begun_for}
 use Rattle.network_model.specs.Network.{Net, starts, ends, idles}
 use Rattle.network_safety.specs.Safe.{silent, idle_events}
 use Rattle.network_safety.proofs.Quiet.{start_rests}
-use Rattle.network_safety.proofs.Messages.{messages_in}
 use Rattle.network_safety.proofs.Joins.{none_joined}
 use Rattle.network_safety.proofs.WorldSteps.{starts_leave, stops_leave}
 use Rattle.network_safety.proofs.Standing.{IsCore, Facts, facts, NodeOf, node_of, no_node, stands_on, IsBefore, IsPast, IsUp, IsUpIf, made_later, known_later, Stand}
@@ -29,52 +28,52 @@ use Rattle.network_safety.proofs.Standing.{IsCore, Facts, facts, NodeOf, node_of
 -- ---- a start
 
 -- a daemon that starts has its node, at work; has sent nothing; and recorded that it is up
-pub begun_records : (c : Config) (n inc moment : ℕ) → (begun c n inc moment).records ≡ (started c n inc).records
+pub begun_records : (remote : Bool) (c : Config) (n inc moment : ℕ) → (begun_for remote c n inc moment).records ≡ (started c n inc).records
 unfolding begun_for left_for
-begun_records c n inc moment = refl
+begun_records remote c n inc moment = refl
 
-begun_calls : (c : Config) (n inc moment : ℕ) → (begun c n inc moment).calls ≡ []
+begun_calls : (remote : Bool) (c : Config) (n inc moment : ℕ) → (begun_for remote c n inc moment).calls ≡ []
 unfolding begun_for left_for started with_sessions sent_calls
-begun_calls c n inc moment = refl
+begun_calls remote c n inc moment = refl
 
-begun_core : (c : Config) (n inc moment : ℕ) → (begun c n inc moment).core ≡ at_work (started c n inc)
+begun_core : (remote : Bool) (c : Config) (n inc moment : ℕ) → (begun_for remote c n inc moment).core ≡ at_work (started c n inc)
 unfolding begun_for left_for
-begun_core c n inc moment = refl
+begun_core remote c n inc moment = refl
 
-begun_up : (ms : List Message) (c : Config) (n inc moment : ℕ) → n ≤ 32 → inc < 2 ^ 32 → IsUp ms n inc (begun c n inc moment)
+begun_up : (remote : Bool) (ms : List Message) (c : Config) (n inc moment : ℕ) → n ≤ 32 → inc < 2 ^ 32 → IsUp ms n inc (begun_for remote c n inc moment)
 unfolding begun_for left_for
-begun_up ms c n inc moment most fits = record { most = most; fits = fits; me = refl; incarnation = refl; rests = start_rests c n inc; joined = none_joined ms; alone = refl }
+begun_up remote ms c n inc moment most fits = record { most = most; fits = fits; me = refl; incarnation = refl; rests = start_rests c n inc; joined = none_joined ms }
 
-begun_inc : (c : Config) (n inc moment : ℕ) → (begun c n inc moment).incarnation ≡ inc
+begun_inc : (remote : Bool) (c : Config) (n inc moment : ℕ) → (begun_for remote c n inc moment).incarnation ≡ inc
 unfolding begun_for left_for
-begun_inc c n inc moment = refl
+begun_inc remote c n inc moment = refl
 
-module _ (c : Config) (net : Net) (es : List Answered) (w : World) (k : Stand c net es w) (n moment : ℕ) (free : is_fixed c.mode ≡ false) (some : 1 ≤ n) (most : n ≤ 32) (down : net.daemons n ≡ None) (less : net.incarnations n < last_u32) where
-  same_core : (v : Config) (i : ℕ) → v ≡ c → i ≡ net.incarnations n → IsCore (Some (begun c n (net.incarnations n + 1) moment)) (Some (started v n (i + 1)))
-  same_core v i e f = ap (λ (z : Config). at_work (started z n (i + 1))) e ∙ ap (λ j. at_work (started c n (j + 1))) f ∙ sym (begun_core c n (net.incarnations n + 1) moment)
+module _ (c : Config) (net : Net) (es : List Answered) (w : World) (k : Stand c net es w) (remote : Bool) (n moment : ℕ) (free : is_fixed c.mode ≡ false) (some : 1 ≤ n) (most : n ≤ 32) (down : net.daemons n ≡ None) (less : net.incarnations n < last_u32) where
+  same_core : (v : Config) (i : ℕ) → v ≡ c → i ≡ net.incarnations n → IsCore (Some (begun_for remote c n (net.incarnations n + 1) moment)) (Some (started v n (i + 1)))
+  same_core v i e f = ap (λ (z : Config). at_work (started z n (i + 1))) e ∙ ap (λ j. at_work (started c n (j + 1))) f ∙ sym (begun_core remote c n (net.incarnations n + 1) moment)
 
-  same_records : (v : Config) (i : ℕ) → v ≡ c → i ≡ net.incarnations n → (begun c n (net.incarnations n + 1) moment).records ≡ (started v n (i + 1)).records
-  same_records v i e f = begun_records c n (net.incarnations n + 1) moment ∙ ap (λ j. (started c n (j + 1)).records) (sym f) ∙ ap (λ (z : Config). (started z n (i + 1)).records) (sym e)
+  same_records : (v : Config) (i : ℕ) → v ≡ c → i ≡ net.incarnations n → (begun_for remote c n (net.incarnations n + 1) moment).records ≡ (started v n (i + 1)).records
+  same_records v i e f = begun_records remote c n (net.incarnations n + 1) moment ∙ ap (λ j. (started c n (j + 1)).records) (sym f) ∙ ap (λ (z : Config). (started z n (i + 1)).records) (sym e)
 
   module _ (m : Message) (p : IsPast net m) where
-    past_start : IsPast (starts c n (net.incarnations n + 1) moment net) m
+    past_start : IsPast (starts remote c n (net.incarnations n + 1) moment net) m
     unfolding starts
     past_start =
         record {
           incarnation = each_set (λ j i. m.sender ≡ j → m.incarnation ≤ i) net.incarnations n (net.incarnations n + 1) (λ e. risen e) (λ j ne e. subst (λ x. m.incarnation ≤ net.incarnations x) e p.incarnation) m.sender refl;
-          before = each_set (λ j o. m.sender ≡ j → IsBefore m o) net.daemons n (Some (begun c n (net.incarnations n + 1) moment)) (λ e same. fresh e same) (λ j ne e. subst (λ x. IsBefore m (net.daemons x)) e p.before) m.sender refl;
+          before = each_set (λ j o. m.sender ≡ j → IsBefore m o) net.daemons n (Some (begun_for remote c n (net.incarnations n + 1) moment)) (λ e same. fresh e same) (λ j ne e. subst (λ x. IsBefore m (net.daemons x)) e p.before) m.sender refl;
         }
       where
         risen : m.sender ≡ n → m.incarnation ≤ net.incarnations n + 1
         risen e = let le : m.incarnation ≤ net.incarnations n = subst (λ x. m.incarnation ≤ net.incarnations x) e p.incarnation in omega (arith, le)
 
-        fresh : m.sender ≡ n → m.incarnation ≡ (begun c n (net.incarnations n + 1) moment).incarnation → m.number < (begun c n (net.incarnations n + 1) moment).number
+        fresh : m.sender ≡ n → m.incarnation ≡ (begun_for remote c n (net.incarnations n + 1) moment).incarnation → m.number < (begun_for remote c n (net.incarnations n + 1) moment).number
         fresh e same =
             let le : m.incarnation ≤ net.incarnations n = subst (λ x. m.incarnation ≤ net.incarnations x) e p.incarnation in
-            let eq : m.incarnation ≡ net.incarnations n + 1 = same ∙ begun_inc c n (net.incarnations n + 1) moment in
+            let eq : m.incarnation ≡ net.incarnations n + 1 = same ∙ begun_inc remote c n (net.incarnations n + 1) moment in
             absurd (omega (arith, le, eq))
 
-  pub start_stands : Stand c (starts c n (net.incarnations n + 1) moment net) (es ++ silent (event.Start n) ∷ []) (goes_on w (silent (event.Start n)))
+  pub start_stands : Stand c (starts remote c n (net.incarnations n + 1) moment net) (es ++ silent (event.Start n) ∷ []) (goes_on w (silent (event.Start n)))
   unfolding starts happens_by
   start_stands =
       let f : Facts c net es w k.world = facts c net es w k.world in
@@ -82,27 +81,29 @@ module _ (c : Config) (net : Net) (es : List Answered) (w : World) (k : Stand c 
       let at : find (is_node n) w.nodes ≡ None = no_node c net es w k.world n down in
       let l = starts_leave w n at (subst (λ i. i < last_u32) (k.world.incs n) less) in
       record {
-        world = stands_on c net es w k.world (silent (event.Start n)) (free, free_n) n (Some (begun c n (net.incarnations n + 1) moment)) (Some (started w.config n (inc_at w.starts n + 1))) (inc_at w.starts n + 1) (started w.config n (inc_at w.starts n + 1)).records [] l (same_core w.config (inc_at w.starts n) f.config (sym (k.world.incs n))) (starts c n (net.incarnations n + 1) moment net) refl (set_here net.incarnations n (net.incarnations n + 1) ∙ ap (λ i. i + 1) (k.world.incs n)) (λ m ne. set_there net.incarnations n (net.incarnations n + 1) m ne) (ap (λ xs. net.records ++ xs) (same_records w.config (inc_at w.starts n) f.config (sym (k.world.incs n))));
+        world = stands_on c net es w k.world (silent (event.Start n)) (free, free_n) n (Some (begun_for remote c n (net.incarnations n + 1) moment)) (Some (started w.config n (inc_at w.starts n + 1))) (inc_at w.starts n + 1) (started w.config n (inc_at w.starts n + 1)).records [] l (same_core w.config (inc_at w.starts n) f.config (sym (k.world.incs n))) (starts remote c n (net.incarnations n + 1) moment net) refl (set_here net.incarnations n (net.incarnations n + 1) ∙ ap (λ i. i + 1) (k.world.incs n)) (λ m ne. set_there net.incarnations n (net.incarnations n + 1) m ne) (ap (λ xs. net.records ++ xs) (same_records w.config (inc_at w.starts n) f.config (sym (k.world.incs n))));
         wires = record {
-          made = λ x h. made_later net (starts c n (net.incarnations n + 1) moment net) w (goes_on w (silent (event.Start n))) l.old past_start x.call x.of (k.wires.made x (subst (Among x) no_more h));
-          distinct = subst (λ xs. AreDistinct (messages_in xs)) (sym no_more) k.wires.distinct;
+          all = k.wires.all;
+          past = λ m h. past_start m (k.wires.past m h);
+          distinct = k.wires.distinct;
+          made = λ x h. made_later k.wires.all k.wires.all w (goes_on w (silent (event.Start n))) l.old (λ m i. i) x.call x.of (k.wires.made x (subst (Among x) no_more h));
           messages = k.wires.messages;
-          sent = λ m h. subst (λ xs. Among m (messages_in xs)) (sym no_more) (k.wires.sent m h);
+          sent = k.wires.sent;
           fits = k.wires.fits;
           known = λ m h. known_later w (goes_on w (silent (event.Start n))) l.old m.bytes (k.wires.known m h);
           up = λ m. elim (cases_eq m n) [
-            | inl e ↦ subst (λ j. IsUpIf k.wires.messages j (at_node net.incarnations n (net.incarnations n + 1) j) (at_node net.daemons n (Some (begun c n (net.incarnations n + 1) moment)) j)) (sym e) here
-            | inr ne ↦ subst (λ i. IsUpIf k.wires.messages m i (at_node net.daemons n (Some (begun c n (net.incarnations n + 1) moment)) m)) (sym (set_there net.incarnations n (net.incarnations n + 1) m ne)) (subst (IsUpIf k.wires.messages m (net.incarnations m)) (sym (set_there net.daemons n (Some (begun c n (net.incarnations n + 1) moment)) m ne)) (k.wires.up m))
+            | inl e ↦ subst (λ j. IsUpIf k.wires.messages j (at_node net.incarnations n (net.incarnations n + 1) j) (at_node net.daemons n (Some (begun_for remote c n (net.incarnations n + 1) moment)) j)) (sym e) here
+            | inr ne ↦ subst (λ i. IsUpIf k.wires.messages m i (at_node net.daemons n (Some (begun_for remote c n (net.incarnations n + 1) moment)) m)) (sym (set_there net.incarnations n (net.incarnations n + 1) m ne)) (subst (IsUpIf k.wires.messages m (net.incarnations m)) (sym (set_there net.daemons n (Some (begun_for remote c n (net.incarnations n + 1) moment)) m ne)) (k.wires.up m))
           ];
         };
       }
     where
-      no_more : net.wire ++ (begun c n (net.incarnations n + 1) moment).calls ≡ net.wire
-      no_more = ap (λ xs. net.wire ++ xs) (begun_calls c n (net.incarnations n + 1) moment) ∙ append-nil net.wire
+      no_more : net.wire ++ (begun_for remote c n (net.incarnations n + 1) moment).calls ≡ net.wire
+      no_more = ap (λ xs. net.wire ++ xs) (begun_calls remote c n (net.incarnations n + 1) moment) ∙ append-nil net.wire
 
-      here : IsUpIf k.wires.messages n (at_node net.incarnations n (net.incarnations n + 1) n) (at_node net.daemons n (Some (begun c n (net.incarnations n + 1) moment)) n)
+      here : IsUpIf k.wires.messages n (at_node net.incarnations n (net.incarnations n + 1) n) (at_node net.daemons n (Some (begun_for remote c n (net.incarnations n + 1) moment)) n)
       here =
-          subst (λ i. IsUpIf k.wires.messages n i (at_node net.daemons n (Some (begun c n (net.incarnations n + 1) moment)) n)) (sym (set_here net.incarnations n (net.incarnations n + 1))) (subst (IsUpIf k.wires.messages n (net.incarnations n + 1)) (sym (set_here net.daemons n (Some (begun c n (net.incarnations n + 1) moment)))) (begun_up k.wires.messages c n (net.incarnations n + 1) moment most (omega (arith, less))))
+          subst (λ i. IsUpIf k.wires.messages n i (at_node net.daemons n (Some (begun_for remote c n (net.incarnations n + 1) moment)) n)) (sym (set_here net.incarnations n (net.incarnations n + 1))) (subst (IsUpIf k.wires.messages n (net.incarnations n + 1)) (sym (set_here net.daemons n (Some (begun_for remote c n (net.incarnations n + 1) moment)))) (begun_up remote k.wires.messages c n (net.incarnations n + 1) moment most (omega (arith, less))))
 
 -- ---- an end
 
@@ -120,8 +121,10 @@ module _ (c : Config) (net : Net) (es : List Answered) (w : World) (k : Stand c 
       record {
         world = stands_on c net es w k.world (silent (event.Stop n)) tt n None None (inc_at w.starts n) (happened.Down n ∷ []) [] l tt (ends n net) refl (k.world.incs n) (λ m ne. refl) refl;
         wires = record {
-          made = λ x h. made_later net (ends n net) w (goes_on w (silent (event.Stop n))) l.old past_end x.call x.of (k.wires.made x h);
+          all = k.wires.all;
+          past = λ m h. past_end m (k.wires.past m h);
           distinct = k.wires.distinct;
+          made = λ x h. made_later k.wires.all k.wires.all w (goes_on w (silent (event.Stop n))) l.old (λ m i. i) x.call x.of (k.wires.made x h);
           messages = k.wires.messages;
           sent = k.wires.sent;
           fits = k.wires.fits;
@@ -140,13 +143,13 @@ ended_inc : (n : ℕ) (net : Net) (m : ℕ) → (ends n net).incarnations m ≡ 
 unfolding ends
 ended_inc n net m = refl
 
-started_up : (c : Config) (n inc moment : ℕ) (net : Net) → (starts c n inc moment net).daemons n ≡ Some (begun c n inc moment)
+started_up : (remote : Bool) (c : Config) (n inc moment : ℕ) (net : Net) → (starts remote c n inc moment net).daemons n ≡ Some (begun_for remote c n inc moment)
 unfolding starts
-started_up c n inc moment net = set_here net.daemons n (Some (begun c n inc moment))
+started_up remote c n inc moment net = set_here net.daemons n (Some (begun_for remote c n inc moment))
 
-started_inc : (c : Config) (n inc moment : ℕ) (net : Net) → (starts c n inc moment net).incarnations n ≡ inc
+started_inc : (remote : Bool) (c : Config) (n inc moment : ℕ) (net : Net) → (starts remote c n inc moment net).incarnations n ≡ inc
 unfolding starts
-started_inc c n inc moment net = set_here net.incarnations n inc
+started_inc remote c n inc moment net = set_here net.incarnations n inc
 
 pub record Idled (c : Config) (net : Net) (es : List Answered) (n k : ℕ) : Type 0 where
   pub world : World
@@ -159,10 +162,10 @@ unfolding idles
 idles_stand c n free some most zero net es w k down less =
     record { world = w; stand = subst (λ zs. Stand c net zs w) (sym (append-nil es)) k; down = down; risen = omega arith }
 idles_stand c n free some most (suc i) net es w k down less =
-    let up : Net = starts c n (net.incarnations n + 1) 0 net in
-    let s1 : Stand c up (es ++ silent (event.Start n) ∷ []) (goes_on w (silent (event.Start n))) = start_stands c net es w k n 0 free some most down (omega (arith, less)) in
-    let s2 = end_stands c up (es ++ silent (event.Start n) ∷ []) (goes_on w (silent (event.Start n))) s1 n (begun c n (net.incarnations n + 1) 0) (started_up c n (net.incarnations n + 1) 0 net) in
-    let now : (ends n up).incarnations n ≡ net.incarnations n + 1 = ended_inc n up n ∙ started_inc c n (net.incarnations n + 1) 0 net in
+    let up : Net = starts false c n (net.incarnations n + 1) 0 net in
+    let s1 : Stand c up (es ++ silent (event.Start n) ∷ []) (goes_on w (silent (event.Start n))) = start_stands c net es w k false n 0 free some most down (omega (arith, less)) in
+    let s2 = end_stands c up (es ++ silent (event.Start n) ∷ []) (goes_on w (silent (event.Start n))) s1 n (begun_for false c n (net.incarnations n + 1) 0) (started_up false c n (net.incarnations n + 1) 0 net) in
+    let now : (ends n up).incarnations n ≡ net.incarnations n + 1 = ended_inc n up n ∙ started_inc false c n (net.incarnations n + 1) 0 net in
     let r : Idled c (ends n up) ((es ++ silent (event.Start n) ∷ []) ++ silent (event.Stop n) ∷ []) n i = idles_stand c n free some most i (ends n up) ((es ++ silent (event.Start n) ∷ []) ++ silent (event.Stop n) ∷ []) (goes_on (goes_on w (silent (event.Start n))) (silent (event.Stop n))) s2 (ended_down n up) (omega (arith, now, less)) in
     let risen : (idles c n i (ends n up)).incarnations n ≡ (ends n up).incarnations n + i = r.risen in
     record {

@@ -189,15 +189,15 @@ own_distinct me inc number (p ∷ ps) =
         absurd (omega (arith, a, b, c))
 
 -- each can be cut, where its numbers fit
-pub one_fits : (n : Numbered) → n.sender ≤ 32 → n.incarnation < 2 ^ 32 → n.number < 2 ^ 64 → can_cut (bytes_of n.packet) ≡ true → CanBeCut (message_of n)
-one_fits n a b c cut =
-    let both = and_true (nat_le 1 (length (bytes_of n.packet))) (nat_le (length (bytes_of n.packet)) 70560000) cut in
+pub one_fits : (m : Message) → m.sender ≤ 32 → m.incarnation < 2 ^ 32 → m.number < 2 ^ 64 → can_cut m.bytes ≡ true → CanBeCut m
+one_fits m a b c cut =
+    let both = and_true (nat_le 1 (length m.bytes)) (nat_le (length m.bytes) 70560000) cut in
     record {
       sender = a;
       incarnation = b;
       number = c;
-      some = leb-true 1 (length (bytes_of n.packet)) both.0;
-      most = leb-true (length (bytes_of n.packet)) 70560000 both.1;
+      some = leb-true 1 (length m.bytes) both.0;
+      most = leb-true (length m.bytes) 70560000 both.1;
     }
 
 -- what goes out can be cut

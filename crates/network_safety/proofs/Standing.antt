@@ -33,11 +33,10 @@ use Rattle.piece_link.specs.Pieces.{Message, can_cut, pieces_of}
 use Rattle.piece_link.specs.Answers.{Among, CanBeCut, AreDistinct}
 use Rattle.daemon_model.specs.Sent.{Numbered, Exchange}
 use Rattle.daemon_model.specs.Daemon.{Daemon}
-use Rattle.daemon_model.proofs.AloneLaws.{IsAlone}
 use Rattle.network_model.specs.Network.{Net}
 use Rattle.network_model.specs.Fits.{IsSend}
 use Rattle.network_safety.proofs.Quiet.{IsTalk}
-use Rattle.network_safety.proofs.Messages.{message_of, messages_in, IsMessageIn, message_in}
+use Rattle.network_safety.proofs.Messages.{message_of}
 use Rattle.network_safety.proofs.Joins.{IsJoinedOf}
 use Rattle.network_safety.proofs.Pairs.{AllPaired}
 use Rattle.network_safety.proofs.WorldSteps.{Leaves}
@@ -77,7 +76,7 @@ pub record IsPast (net : Net) (m : Message) : Type 0 where
   pub incarnation : m.incarnation ≤ net.incarnations m.sender
   pub before : IsBefore m (net.daemons m.sender)
 
--- a daemon that is up: who it is, that its node rests, what it joins, and that it serves no clients on other machines
+-- a daemon that is up: who it is, that its node rests, and what it joins
 pub record IsUp (messages : List Message) (n inc : ℕ) (d : Daemon) : Type 0 where
   pub most : n ≤ 32
   pub fits : inc < 2 ^ 32
@@ -85,52 +84,57 @@ pub record IsUp (messages : List Message) (n inc : ℕ) (d : Daemon) : Type 0 wh
   pub incarnation : d.incarnation ≡ inc
   pub rests : Resting d.core
   pub joined : IsJoinedOf messages d.joining
-  pub alone : IsAlone d
 
 abbrev pub IsUpIf : List Message → ℕ → ℕ → Option Daemon → Type 0
 IsUpIf messages n inc None = Unit {0}
 IsUpIf messages n inc (Some d) = IsUp messages n inc d
 
--- a send of a piece of a packet that a daemon cut, and that the world knows
-pub record IsPiece (net : Net) (w : World) (n : Numbered) (c : LinkCall) : Type 0 where
+-- a send of a piece of a packet that the world knows, and whose message is one of these
+pub record IsPiece (all : List Message) (w : World) (n : Numbered) (c : LinkCall) : Type 0 where
   pub sender : n.sender ≤ 32
   pub incarnation : n.incarnation < 2 ^ 32
   pub cut : can_cut (bytes_of n.packet) ≡ true
   pub known : IsTalk n.packet.body ⊎ Has n.packet w.sent
-  pub past : IsPast net (message_of n)
+  pub among : Among (message_of n) all
   pub piece : (b : List ℕ) → IsSend b c → Among b (pieces_of (message_of n))
 
--- all else is no send
-abbrev pub IsMade : Net → World → LinkCall → Option Numbered → Type 0
-IsMade net w c None = (b : List ℕ) → IsSend b c → ⊥
-IsMade net w c (Some n) = IsPiece net w n c
+-- a piece of a message that is one of these, and no packet
+pub record IsOther (all : List Message) (b : List ℕ) : Type 0 where
+  pub message : Message
+  pub among : Among message all
+  pub fits : CanBeCut message
+  pub none : packet_of message.bytes ≡ None
+  pub piece : Among b (pieces_of message)
 
--- On the wire are pieces of packets that the world knows, each packet with a key of its own. Of some of their messages
--- pieces came: these are known, whatever is joined of their pieces.
+-- all else that is sent is a piece of what is no packet
+abbrev pub IsMade : List Message → World → LinkCall → Option Numbered → Type 0
+IsMade all w c None = (b : List ℕ) → IsSend b c → IsOther all b
+IsMade all w c (Some n) = IsPiece all w n c
+
+-- All messages that daemons cut, each with a key of its own: on the wire are pieces of them, of packets that the world
+-- knows or of what is no packet. Of some of them pieces came: these are known, whatever is joined of their pieces.
 pub record Wires (net : Net) (w : World) : Type 0 where
-  pub made : (x : Exchange) → Among x net.wire → IsMade net w x.call x.of
-  pub distinct : AreDistinct (messages_in net.wire)
+  pub all : List Message
+  pub past : (m : Message) → Among m all → IsPast net m
+  pub distinct : AreDistinct all
+  pub made : (x : Exchange) → Among x net.wire → IsMade all w x.call x.of
   pub messages : List Message
-  pub sent : (m : Message) → Among m messages → Among m (messages_in net.wire)
+  pub sent : (m : Message) → Among m messages → Among m all
   pub fits : (m : Message) → Among m messages → CanBeCut m
   pub known : (m : Message) → Among m messages → IsKnown w m.bytes
   pub up : (n : ℕ) → IsUpIf messages n (net.incarnations n) (net.daemons n)
 
--- what was made stays so, where the world and the network go on
-pub made_later : (net after : Net) (w v : World) → ((p : Packet) → Has p w.sent → Has p v.sent) → ((m : Message) → IsPast net m → IsPast after m) → (c : LinkCall) (o : Option Numbered) → IsMade net w c o → IsMade after v c o
-made_later net after w v old past c None h = h
-made_later net after w v old past c (Some n) h =
-    record { sender = h.sender; incarnation = h.incarnation; cut = h.cut; known = elim h.known [ inl t ↦ inl t | inr i ↦ inr (old n.packet i) ]; past = past (message_of n) h.past; piece = h.piece }
+-- what was made stays so, where the world goes on, and more is cut
+pub made_later : (all more : List Message) (w v : World) → ((p : Packet) → Has p w.sent → Has p v.sent) → ((m : Message) → Among m all → Among m more) → (c : LinkCall) (o : Option Numbered) → IsMade all w c o → IsMade more v c o
+made_later all more w v old wider c None h = λ b is. other_later b (h b is)
+  where
+    other_later : (b : List ℕ) → IsOther all b → IsOther more b
+    other_later b o = record { message = o.message; among = wider o.message o.among; fits = o.fits; none = o.none; piece = o.piece }
+made_later all more w v old wider c (Some n) h =
+    record { sender = h.sender; incarnation = h.incarnation; cut = h.cut; known = elim h.known [ inl t ↦ inl t | inr i ↦ inr (old n.packet i) ]; among = wider (message_of n) h.among; piece = h.piece }
 
 pub known_later : (w v : World) → ((p : Packet) → Has p w.sent → Has p v.sent) → (bytes : List ℕ) → IsKnown w bytes → IsKnown v bytes
 known_later w v old bytes k p is = elim (k p is) [ inl t ↦ inl t | inr i ↦ inr (old p i) ]
-
--- each message of the wire is one that a daemon cut
-pub wire_past : (net : Net) (w : World) → Wires net w → (m : Message) → Among m (messages_in net.wire) → IsPast net m
-wire_past net w k m h =
-    let i : IsMessageIn net.wire m = message_in net.wire m h in
-    let piece : IsPiece net w i.of i.send.call = subst (IsMade net w i.send.call) i.is (k.made i.send i.among) in
-    subst (IsPast net) (sym i.message) piece.past
 
 pub record Stand (c : Config) (net : Net) (es : List Answered) (w : World) : Type 0 where
   pub world : Stands c net es w

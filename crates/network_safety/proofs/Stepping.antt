@@ -1,6 +1,6 @@
 -- A daemon's node takes a step, or only the daemon changes.
-use Rattle.std.proofs.Common.{◌≡◌, ◌<◌, ◌≤◌, ◌^◌, ℕ, List, [], ◌∷◌, ◌++◌, Option, Some, None, refl, sym, ap, ◌∙◌, subst, inl, inr, arith, append-nil}
-use Rattle.std.specs.Prelude.{◌⊎◌}
+use Rattle.std.proofs.Common.{◌≡◌, ◌<◌, ◌≤◌, ◌^◌, ℕ, Bool, true, false, List, [], ◌∷◌, ◌++◌, Option, Some, None, refl, sym, ap, ◌∙◌, subst, inl, inr, arith, append-nil}
+use Rattle.std.specs.Prelude.{◌⊎◌, map}
 use Rattle.rsct_packet.specs.Lists.{reverse_onto}
 use Rattle.rsct_packet.specs.Search.{Has}
 use Rattle.provider_laws.proofs.resting.Law.{Resting}
@@ -8,6 +8,7 @@ use Rattle.node_state.specs.declared.config.Config.{Config}
 use Rattle.node_state.specs.declared.packet.Packet.{Packet}
 use Rattle.node_state.specs.declared.state.Core.{Core}
 use Rattle.node_state.specs.HandOn.{Answering}
+use Rattle.node_state.specs.Bytes.{packet_of}
 use Rattle.node_state.specs.Step.{NodeEvent, at_work, stepped}
 use Rattle.world_model.specs.World.{World}
 use Rattle.world_laws.specs.world_answers.Answers.{Answered, goes_on}
@@ -15,20 +16,19 @@ use Rattle.step_refinement.specs.Rules.{at_node}
 use Rattle.step_refinement.proofs.Changed.{set_here, each_set}
 use Rattle.world_safety.specs.Events.{MayHappen}
 use Rattle.world_safety.specs.Mirrors.{core_at, inc_at}
-use Rattle.piece_link.specs.Pieces.{Message}
-use Rattle.piece_link.specs.Answers.{Among, SameKey}
+use Rattle.piece_link.specs.Pieces.{Message, can_cut, message_by, pieces_of}
+use Rattle.piece_link.specs.Answers.{Among, CanBeCut, SameKey, AreDistinct}
 use Rattle.piece_link.proofs.OnceLaw.{among_append}
-use Rattle.daemon_model.specs.Sent.{Numbered, Exchange, sent_calls, number_after}
+use Rattle.daemon_model.specs.Sent.{piece_to, calls_if, number_if, message_calls, Exchange, plain, sent_calls, number_after}
 use Rattle.daemon_model.specs.Daemon.{Daemon, stepped_by, left_for, stepped_for}
-use Rattle.daemon_model.proofs.AloneLaws.{IsAlone, stepped_alone}
 use Rattle.network_model.specs.Network.{Net, made_since, noted_since, went_on}
 use Rattle.network_model.specs.Fits.{IsSend}
 use Rattle.network_safety.proofs.Quiet.{IsTalk, step_rests}
-use Rattle.network_safety.proofs.Messages.{among_left, message_of, messages_in, messages_both, IsMessageIn, message_in, IsOne, each_one, IsOneMessage, each_message, after_le, own_distinct, distinct_both, goes_cut}
+use Rattle.network_safety.proofs.Messages.{among_left, among_right, message_of, messages_in, in_messages, IsOne, each_one, IsOneMessage, each_message, after_le, own_distinct, distinct_both, one_fits, goes_cut}
 use Rattle.network_safety.proofs.Joins.{IsJoinedOf}
 use Rattle.network_safety.proofs.WorldSteps.{Leaves}
 use Rattle.network_safety.proofs.Going.{More, made_is, noted_is}
-use Rattle.network_safety.proofs.Standing.{IsCore, stands_on, IsBefore, IsPast, IsUp, IsUpIf, IsPiece, IsMade, made_later, known_later, wire_past, Stand}
+use Rattle.network_safety.proofs.Standing.{IsCore, stands_on, IsBefore, IsPast, IsUp, IsUpIf, IsMade, made_later, known_later, Wires, Stand}
 
 -- what a step adds
 pub step_more : (f : Answering) (e : NodeEvent) (d : Daemon) → More d (stepped_by f e d)
@@ -40,18 +40,165 @@ pub step_who : (f : Answering) (e : NodeEvent) (d : Daemon) → ((stepped_by f e
 unfolding stepped_for left_for
 step_who f e d = (refl, refl)
 
+-- a step made the second daemon of the first, whatever became of sessions
+pub record StepsTo (f : Answering) (e : NodeEvent) (d g : Daemon) : Type 0 where
+  pub me : g.me ≡ d.me
+  pub incarnation : g.incarnation ≡ d.incarnation
+  pub core : g.core ≡ at_work (stepped f d.core e)
+  pub joining : g.joining ≡ d.joining
+  pub number : g.number ≡ number_after d.number (stepped f d.core e).sends
+  pub calls : g.calls ≡ d.calls ++ sent_calls d.me d.incarnation d.number (stepped f d.core e).sends
+  pub records : g.records ≡ d.records ++ (stepped f d.core e).records
+
+pub steps_to : (f : Answering) (e : NodeEvent) (d : Daemon) → StepsTo f e d (stepped_by f e d)
+unfolding stepped_for left_for
+steps_to f e d = record { me = refl; incarnation = refl; core = refl; joining = refl; number = refl; calls = refl; records = refl }
+
 -- no send
 abbrev pub IsNoSend : Exchange → Type 0
 IsNoSend x = (x.of ≡ None) × ((b : List ℕ) → IsSend b x.call → ⊥)
 
-module _ (c : Config) (net : Net) (es : List Answered) (w : World) (k : Stand c net es w) (n : ℕ) (d : Daemon) (at : net.daemons n ≡ Some d) where
-  pub own_up : IsUp k.wires.messages n (net.incarnations n) d
-  own_up = subst (IsUpIf k.wires.messages n (net.incarnations n)) at (k.wires.up n)
+module _ (net : Net) (w : World) (k : Wires net w) (n : ℕ) (d : Daemon) (at : net.daemons n ≡ Some d) where
+  pub own_up : IsUp k.messages n (net.incarnations n) d
+  own_up = subst (IsUpIf k.messages n (net.incarnations n)) at (k.up n)
 
-  own_before : (m : Message) → IsPast net m → m.sender ≡ n → m.incarnation ≡ d.incarnation → m.number < d.number
-  own_before m past is =
-      let q : IsBefore m (net.daemons n) = subst (λ j. IsBefore m (net.daemons j)) is past.before in
+  own_before : (m : Message) → Among m k.all → m.sender ≡ n → m.incarnation ≡ d.incarnation → m.number < d.number
+  own_before m h is =
+      let q : IsBefore m (net.daemons n) = subst (λ j. IsBefore m (net.daemons j)) is (k.past m h).before in
       subst (IsBefore m) at q
+
+  -- it goes on, in a world in which what was sent stays so: what it sends are pieces of what it cut before, or now
+  pub record GoesTo (v : World) (e : Daemon) : Type 0 where
+    pub old : (p : Packet) → Has p w.sent → Has p v.sent
+    pub me : e.me ≡ d.me
+    pub incarnation : e.incarnation ≡ d.incarnation
+    pub later : d.number ≤ e.number
+    pub rests : Resting e.core
+    pub joined : IsJoinedOf k.messages e.joining
+    pub new : List Message
+    pub each : (m : Message) → Among m new → IsOneMessage d.me d.incarnation d.number e.number m
+    pub distinct : AreDistinct new
+    pub made : (x : Exchange) → Among x (made_since d e) → IsMade (k.all ++ new) v x.call x.of
+
+  module _ (v : World) (e : Daemon) (g : GoesTo v e) where
+    apart : (m l : Message) → Among m k.all → Among l g.new → SameKey m l → ⊥
+    apart m l hm hl same =
+        let o : IsOneMessage d.me d.incarnation d.number e.number l = g.each l hl in
+        let less : m.number < d.number = own_before m hm (same.sender ∙ o.sender ∙ own_up.me) (same.incarnation ∙ o.incarnation) in
+        let from : d.number ≤ l.number = o.from in
+        let eq : m.number ≡ l.number = same.number in
+        absurd (omega (arith, less, from, eq))
+
+    old_past : (m : Message) → Among m k.all → IsPast (went_on n d e net) m
+    unfolding went_on
+    old_past m h =
+        record {
+          incarnation = (k.past m h).incarnation;
+          before = each_set (λ j o. m.sender ≡ j → IsBefore m o) net.daemons n (Some e) (λ at_n same. within at_n (same ∙ g.incarnation)) (λ j ne at_j. subst (λ i. IsBefore m (net.daemons i)) at_j (k.past m h).before) m.sender refl;
+        }
+      where
+        within : m.sender ≡ n → m.incarnation ≡ d.incarnation → m.number < e.number
+        within at_n same =
+            let less : m.number < d.number = own_before m h at_n same in
+            let later : d.number ≤ e.number = g.later in
+            omega (arith, less, later)
+
+    new_past : (m : Message) → Among m g.new → IsPast (went_on n d e net) m
+    unfolding went_on
+    new_past m h =
+        let o : IsOneMessage d.me d.incarnation d.number e.number m = g.each m h in
+        let at_n : m.sender ≡ n = o.sender ∙ own_up.me in
+        let eq : m.incarnation ≡ net.incarnations m.sender = o.incarnation ∙ own_up.incarnation ∙ ap net.incarnations (sym at_n) in
+        record {
+          incarnation = omega (arith, eq);
+          before = subst (λ j. IsBefore m (at_node net.daemons n (Some e) j)) (sym at_n) (subst (IsBefore m) (sym (set_here net.daemons n (Some e))) (λ same. o.below));
+        }
+
+    pub wires_on : Wires (went_on n d e net) v
+    unfolding went_on
+    wires_on =
+        record {
+          all = k.all ++ g.new;
+          past = λ m h. elim (among_append m k.all g.new h) [ inl i ↦ old_past m i | inr i ↦ new_past m i ];
+          distinct = distinct_both k.all g.new k.distinct g.distinct apart;
+          made = λ x h. elim (among_append x net.wire (made_since d e) h) [
+            | inl i ↦ made_later k.all (k.all ++ g.new) w v g.old (λ m j. among_left m k.all g.new j) x.call x.of (k.made x i)
+            | inr i ↦ g.made x i
+          ];
+          messages = k.messages;
+          sent = λ m h. among_left m k.all g.new (k.sent m h);
+          fits = k.fits;
+          known = λ m h. known_later w v g.old m.bytes (k.known m h);
+          up = each_set (λ m o. IsUpIf k.messages m (net.incarnations m) o) net.daemons n (Some e) (record { most = own_up.most; fits = own_up.fits; me = g.me ∙ own_up.me; incarnation = g.incarnation ∙ own_up.incarnation; rests = g.rests; joined = g.joined }) (λ m ne. k.up m);
+        }
+
+  -- it sends nothing
+  quiet_goes : (e : Daemon) → e.core ≡ d.core → e.me ≡ d.me → e.incarnation ≡ d.incarnation → e.number ≡ d.number → IsJoinedOf k.messages e.joining → ((x : Exchange) → Among x (made_since d e) → IsNoSend x) → GoesTo w e
+  quiet_goes e core me inc number joined quiet =
+      record {
+        old = λ p h. h;
+        me = me;
+        incarnation = inc;
+        later = omega (arith, number);
+        rests = subst Resting (sym core) own_up.rests;
+        joined = joined;
+        new = [];
+        each = λ m h. absurd h;
+        distinct = λ m l h i same. absurd h;
+        made = λ x h. (let q = quiet x h in subst (IsMade (k.all ++ []) w x.call) (sym q.0) (λ b is. absurd (q.1 b is)));
+      }
+
+  -- ---- it sends a message that is no packet
+
+  pub record Says (network : ℕ) (bytes : List ℕ) (e : Daemon) : Type 0 where
+    pub core : e.core ≡ d.core
+    pub me : e.me ≡ d.me
+    pub incarnation : e.incarnation ≡ d.incarnation
+    pub joining : e.joining ≡ d.joining
+    pub number : e.number ≡ number_if (can_cut bytes) d.number
+    pub calls : e.calls ≡ d.calls ++ map plain (message_calls d.me d.incarnation d.number 0 network bytes)
+
+  module _ (network : ℕ) (bytes : List ℕ) (none : packet_of bytes ≡ None) (e : Daemon) (says : Says network bytes e) (room : e.number ≤ 2 ^ 64) where
+    abbrev said : Message
+    said = message_by d.me d.incarnation d.number bytes
+
+    abbrev said_if : Bool → List Exchange
+    said_if b = map plain (calls_if b (map (piece_to 0 network) (pieces_of said)))
+
+    itself : (m : Message) → Among m (said ∷ []) → m ≡ said
+    itself m (inl is) = is
+    itself m (inr h) = absurd h
+
+    one_made : CanBeCut said → (bs : List (List ℕ)) → ((b : List ℕ) → Among b bs → Among b (pieces_of said)) → (x : Exchange) → Among x (map plain (map (piece_to 0 network) bs)) → IsMade (k.all ++ said ∷ []) w x.call x.of
+    one_made fits [] within x h = absurd h
+    one_made fits (b ∷ bs) within x (inl is) =
+        subst (λ (z : Exchange). IsMade (k.all ++ said ∷ []) w z.call z.of) (sym is) (λ c same. record { message = said; among = among_right said k.all (said ∷ []) (inl refl); fits = fits; none = none; piece = subst (λ z. Among z (pieces_of said)) same (within b (inl refl)) })
+    one_made fits (b ∷ bs) within x (inr h) = one_made fits bs (λ c i. within c (inr i)) x h
+
+    goes_if : (b : Bool) → can_cut bytes ≡ b → e.number ≡ number_if b d.number → e.calls ≡ d.calls ++ said_if b → GoesTo w e
+    goes_if false cut number calls =
+        quiet_goes e says.core says.me says.incarnation number (subst (IsJoinedOf k.messages) (sym says.joining) own_up.joined) (λ x h. absurd (subst (Among x) (made_is d e [] calls) h))
+    goes_if true cut number calls =
+        let fits : CanBeCut said = one_fits said (subst (λ j. j ≤ 32) (sym own_up.me) own_up.most) (subst (λ j. j < 2 ^ 32) (sym own_up.incarnation) own_up.fits) (omega (arith, room, number)) cut in
+        record {
+          old = λ p h. h;
+          me = says.me;
+          incarnation = says.incarnation;
+          later = omega (arith, number);
+          rests = subst Resting (sym says.core) own_up.rests;
+          joined = subst (IsJoinedOf k.messages) (sym says.joining) own_up.joined;
+          new = said ∷ [];
+          each = λ m h. subst (IsOneMessage d.me d.incarnation d.number e.number) (sym (itself m h)) (record { sender = refl; incarnation = refl; from = omega arith; below = omega (arith, number) });
+          distinct = λ m l h i same. itself m h ∙ sym (itself l i);
+          made = λ x h. one_made fits (pieces_of said) (λ b i. i) x (subst (Among x) (made_is d e (said_if true) calls) h);
+        }
+
+    says_goes : GoesTo w e
+    says_goes = goes_if (can_cut bytes) refl says.number says.calls
+
+module _ (c : Config) (net : Net) (es : List Answered) (w : World) (k : Stand c net es w) (n : ℕ) (d : Daemon) (at : net.daemons n ≡ Some d) where
+  abbrev own : IsUp k.wires.messages n (net.incarnations n) d
+  own = own_up net w k.wires n d at
 
   -- ---- the node takes a step
 
@@ -65,115 +212,55 @@ module _ (c : Config) (net : Net) (es : List Answered) (w : World) (k : Stand c 
       pub sends : (p : Packet) → Has p (stepped f d.core e).sends → IsTalk p.body ⊎ Has p y.sends
 
     module _ (s : IsStep) where
+      abbrev sends : List Packet
+      sends = (stepped f d.core e).sends
+
       abbrev new : List Exchange
-      new = sent_calls d.me d.incarnation d.number (stepped f d.core e).sends
+      new = sent_calls d.me d.incarnation d.number sends
 
-      abbrev next : ℕ
-      next = number_after d.number (stepped f d.core e).sends
+      new_made : (x : Exchange) → Among x new → IsMade (k.wires.all ++ messages_in new) (goes_on w a) x.call x.of
+      new_made x h =
+          let o : IsOne d.me d.incarnation d.number (number_after d.number sends) sends x = each_one d.me d.incarnation d.number sends x h in
+          subst (IsMade (k.wires.all ++ messages_in new) (goes_on w a) x.call) (sym o.is) (record {
+            sender = subst (λ j. j ≤ 32) (sym (o.sender ∙ own.me)) own.most;
+            incarnation = subst (λ j. j < 2 ^ 32) (sym (o.incarnation ∙ own.incarnation)) own.fits;
+            cut = goes_cut o.of.packet o.goes;
+            known = elim (s.sends o.of.packet o.has) [ inl t ↦ inl t | inr i ↦ inr (s.leaves.new o.of.packet i) ];
+            among = among_right (message_of o.of) k.wires.all (messages_in new) (in_messages new x o.of h o.is);
+            piece = o.piece;
+          })
 
-      later : d.number ≤ next
-      later = after_le d.number (stepped f d.core e).sends
-
-      apart : (m l : Message) → Among m (messages_in net.wire) → Among l (messages_in new) → SameKey m l → ⊥
-      apart m l hm hl same =
-          let o : IsOneMessage d.me d.incarnation d.number next l = each_message d.me d.incarnation d.number (stepped f d.core e).sends l hl in
-          let less : m.number < d.number = own_before m (wire_past net w k.wires m hm) (same.sender ∙ o.sender ∙ own_up.me) (same.incarnation ∙ o.incarnation) in
-          let from : d.number ≤ l.number = o.from in
-          let eq : m.number ≡ l.number = same.number in
-          absurd (omega (arith, less, from, eq))
-
-      distinct_on : (m l : Message) → Among m (messages_in (net.wire ++ new)) → Among l (messages_in (net.wire ++ new)) → SameKey m l → m ≡ l
-      distinct_on m l hm hl =
-          distinct_both (messages_in net.wire) (messages_in new) k.wires.distinct (own_distinct d.me d.incarnation d.number (stepped f d.core e).sends) apart m l (subst (Among m) (messages_both net.wire new) hm) (subst (Among l) (messages_both net.wire new) hl)
-
-      module _ (e' : Daemon) (inc : e'.incarnation ≡ d.incarnation) (number : e'.number ≡ next) (after : Net) (ds : after.daemons ≡ at_node net.daemons n (Some e')) (is : after.incarnations ≡ net.incarnations) where
-        old_past : (m : Message) → IsPast net m → IsPast after m
-        old_past m p =
+      module _ (g : Daemon) (t : StepsTo f e d g) where
+        step_goes : GoesTo net w k.wires n d at (goes_on w a) g
+        step_goes =
+            let le : d.number ≤ number_after d.number sends = after_le d.number sends in
             record {
-              incarnation = subst (λ (g : ℕ → ℕ). m.incarnation ≤ g m.sender) (sym is) p.incarnation;
-              before = subst (λ (g : ℕ → Option Daemon). IsBefore m (g m.sender)) (sym ds) (each_set (λ j o. m.sender ≡ j → IsBefore m o) net.daemons n (Some e') (λ at_n same. within at_n (same ∙ inc)) (λ j ne at_j. subst (λ i. IsBefore m (net.daemons i)) at_j p.before) m.sender refl);
+              old = s.leaves.old;
+              me = t.me;
+              incarnation = t.incarnation;
+              later = subst (λ i. d.number ≤ i) (sym t.number) le;
+              rests = subst Resting (sym t.core) (step_rests f d.core e own.rests);
+              joined = subst (IsJoinedOf k.wires.messages) (sym t.joining) own.joined;
+              new = messages_in new;
+              each = λ m h. subst (λ i. IsOneMessage d.me d.incarnation d.number i m) (sym t.number) (each_message d.me d.incarnation d.number sends m h);
+              distinct = own_distinct d.me d.incarnation d.number sends;
+              made = λ x h. new_made x (subst (Among x) (made_is d g new t.calls) h);
             }
-          where
-            within : m.sender ≡ n → m.incarnation ≡ d.incarnation → m.number < e'.number
-            within at_n same =
-                let less : m.number < d.number = own_before m p at_n same in
-                omega (arith, less, later, number)
 
-        new_past : (a : Numbered) → a.sender ≡ d.me → a.incarnation ≡ d.incarnation → a.number < next → IsPast after (message_of a)
-        new_past a sender incarnation less =
-            let at_n : a.sender ≡ n = sender ∙ own_up.me in
-            let below : a.number < e'.number = subst (λ i. a.number < i) (sym number) less in
-            let here : IsBefore (message_of a) (after.daemons a.sender) = subst (λ j. IsBefore (message_of a) (after.daemons j)) (sym at_n) (subst (λ (g : ℕ → Option Daemon). IsBefore (message_of a) (g n)) (sym ds) (subst (IsBefore (message_of a)) (sym (set_here net.daemons n (Some e'))) (λ same. below))) in
-            let eq : a.incarnation ≡ after.incarnations a.sender = incarnation ∙ own_up.incarnation ∙ ap net.incarnations (sym at_n) ∙ ap (λ (g : ℕ → ℕ). g a.sender) (sym is) in
-            record { incarnation = omega (arith, eq); before = here }
-
-        new_made : (x : Exchange) → Among x new → IsMade after (goes_on w a) x.call x.of
-        new_made x h =
-            let o : IsOne d.me d.incarnation d.number next (stepped f d.core e).sends x = each_one d.me d.incarnation d.number (stepped f d.core e).sends x h in
-            subst (IsMade after (goes_on w a) x.call) (sym o.is) (record {
-              sender = subst (λ j. j ≤ 32) (sym (o.sender ∙ own_up.me)) own_up.most;
-              incarnation = subst (λ j. j < 2 ^ 32) (sym (o.incarnation ∙ own_up.incarnation)) own_up.fits;
-              cut = goes_cut o.of.packet o.goes;
-              known = elim (s.sends o.of.packet o.has) [ inl t ↦ inl t | inr i ↦ inr (s.leaves.new o.of.packet i) ];
-              past = new_past o.of o.sender o.incarnation o.below;
-              piece = o.piece;
-            })
-
-        made_on : (x : Exchange) → Among x (net.wire ++ new) → IsMade after (goes_on w a) x.call x.of
-        made_on x h = elim (among_append x net.wire new h) [
-          | inl i ↦ made_later net after w (goes_on w a) s.leaves.old old_past x.call x.of (k.wires.made x i)
-          | inr i ↦ new_made x i
-        ]
-
-      -- the wire, said otherwise
-      module _ (wire : List Exchange) (same : wire ≡ net.wire ++ new) where
-        distinct_as : (m l : Message) → Among m (messages_in wire) → Among l (messages_in wire) → SameKey m l → m ≡ l
-        distinct_as m l hm hl = distinct_on m l (subst (λ xs. Among m (messages_in xs)) same hm) (subst (λ xs. Among l (messages_in xs)) same hl)
-
-        sent_as : (m : Message) → Among m k.wires.messages → Among m (messages_in wire)
-        sent_as m h = subst (λ xs. Among m (messages_in xs)) (sym same) (subst (Among m) (sym (messages_both net.wire new)) (among_left m (messages_in net.wire) (messages_in new) (k.wires.sent m h)))
-
-      pub step_stands : Stand c (went_on n d (stepped_by f e d) net) (es ++ a ∷ []) (goes_on w a)
-      unfolding went_on stepped_for left_for
-      step_stands =
-          record {
-            world = stands_on c net es w k.world a s.may n (Some (stepped_by f e d)) (Some y) (inc_at w.starts n) y.records y.sends s.leaves s.core (went_on n d (stepped_by f e d) net) refl (k.world.incs n) (λ m ne. refl) (ap (λ xs. net.records ++ xs) (noted_is d (stepped_by f e d) t.records refl ∙ sym s.records));
-            wires = record {
-              made = λ x h. made_on (stepped_by f e d) refl refl (went_on n d (stepped_by f e d) net) refl refl x (subst (Among x) wire h);
-              distinct = distinct_as (net.wire ++ made_since d (stepped_by f e d)) wire;
-              messages = k.wires.messages;
-              sent = sent_as (net.wire ++ made_since d (stepped_by f e d)) wire;
-              fits = k.wires.fits;
-              known = λ m h. known_later w (goes_on w a) s.leaves.old m.bytes (k.wires.known m h);
-              up = each_set (λ m o. IsUpIf k.wires.messages m (net.incarnations m) o) net.daemons n (Some (stepped_by f e d)) (record { most = own_up.most; fits = own_up.fits; me = own_up.me; incarnation = own_up.incarnation; rests = step_rests f d.core e own_up.rests; joined = own_up.joined; alone = stepped_alone None f e d own_up.alone }) (λ m ne. k.wires.up m);
-            };
-          }
-        where
-          t : Core
-          t = stepped f d.core e
-
-          wire : net.wire ++ made_since d (stepped_by f e d) ≡ net.wire ++ new
-          wire = ap (λ xs. net.wire ++ xs) (made_is d (stepped_by f e d) new refl)
+        pub step_stands : Stand c (went_on n d g net) (es ++ a ∷ []) (goes_on w a)
+        unfolding went_on
+        step_stands =
+            record {
+              world = stands_on c net es w k.world a s.may n (Some g) (Some y) (inc_at w.starts n) y.records y.sends s.leaves (s.core ∙ sym t.core) (went_on n d g net) refl (k.world.incs n) (λ m ne. refl) (ap (λ xs. net.records ++ xs) (noted_is d g (stepped f d.core e).records t.records ∙ sym s.records));
+              wires = wires_on net w k.wires n d at (goes_on w a) g step_goes;
+            }
 
   -- ---- only the daemon changes
 
-  module _ (e : Daemon) (core : e.core ≡ d.core) (me : e.me ≡ d.me) (inc : e.incarnation ≡ d.incarnation) (number : e.number ≡ d.number) (joined : IsJoinedOf k.wires.messages e.joining) (alone : IsAlone e) (quiet : (x : Exchange) → Among x (made_since d e) → IsNoSend x) (still : noted_since d e ≡ []) where
-    abbrev more : List Exchange
-    more = made_since d e
-
-    no_message : (m : Message) → Among m (messages_in more) → ⊥
-    no_message m h =
-        let i : IsMessageIn more m = message_in more m h in
-        let none : i.send.of ≡ None = (quiet i.send i.among).0 in
-        absurd (let q : Some i.of ≡ None = sym i.is ∙ none in cc)
-
-    keeps_distinct : (m l : Message) → Among m (messages_in (net.wire ++ more)) → Among l (messages_in (net.wire ++ more)) → SameKey m l → m ≡ l
-    keeps_distinct m l hm hl =
-        distinct_both (messages_in net.wire) (messages_in more) k.wires.distinct (λ m l h i same. absurd (no_message m h)) (λ m l h i same. no_message l i) m l (subst (Among m) (messages_both net.wire more) hm) (subst (Among l) (messages_both net.wire more) hl)
-
-    pub keeps_stands : Stand c (went_on n d e net) es w
+  module _ (e : Daemon) (core : e.core ≡ d.core) (still : noted_since d e ≡ []) (goes : GoesTo net w k.wires n d at w e) where
+    only_stands : Stand c (went_on n d e net) es w
     unfolding went_on
-    keeps_stands =
+    only_stands =
         record {
           world = record {
             may = k.world.may;
@@ -183,18 +270,7 @@ module _ (c : Config) (net : Net) (es : List Answered) (w : World) (k : Stand c 
             trace = k.world.trace ∙ ap (λ zs. reverse_onto zs []) (sym (ap (λ xs. net.records ++ xs) still ∙ append-nil net.records));
             paired = k.world.paired;
           };
-          wires = record {
-            made = λ x h. elim (among_append x net.wire more h) [
-              | inl i ↦ made_later net (went_on n d e net) w w (λ p has. has) past x.call x.of (k.wires.made x i)
-              | inr i ↦ (let q = quiet x i in subst (IsMade (went_on n d e net) w x.call) (sym q.0) q.1)
-            ];
-            distinct = keeps_distinct;
-            messages = k.wires.messages;
-            sent = λ m h. subst (Among m) (sym (messages_both net.wire more)) (among_left m (messages_in net.wire) (messages_in more) (k.wires.sent m h));
-            fits = k.wires.fits;
-            known = k.wires.known;
-            up = each_set (λ m o. IsUpIf k.wires.messages m (net.incarnations m) o) net.daemons n (Some e) (record { most = own_up.most; fits = own_up.fits; me = me ∙ own_up.me; incarnation = inc ∙ own_up.incarnation; rests = subst Resting (sym core) own_up.rests; joined = joined; alone = alone }) (λ m ne. k.wires.up m);
-          };
+          wires = wires_on net w k.wires n d at w e goes;
         }
       where
         here : IsCore (Some e) (core_at w.nodes n)
@@ -204,6 +280,9 @@ module _ (c : Config) (net : Net) (es : List Answered) (w : World) (k : Stand c 
             same None h = absurd h
             same (Some s) h = h ∙ sym core
 
-        past : (m : Message) → IsPast net m → IsPast (went_on n d e net) m
-        past m p =
-            record { incarnation = p.incarnation; before = each_set (λ j o. m.sender ≡ j → IsBefore m o) net.daemons n (Some e) (λ at_n same. subst (λ i. m.number < i) (sym number) (own_before m p at_n (same ∙ inc))) (λ j ne at_j. subst (λ i. IsBefore m (net.daemons i)) at_j p.before) m.sender refl }
+  pub keeps_stands : (e : Daemon) → e.core ≡ d.core → e.me ≡ d.me → e.incarnation ≡ d.incarnation → e.number ≡ d.number → IsJoinedOf k.wires.messages e.joining → ((x : Exchange) → Among x (made_since d e) → IsNoSend x) → noted_since d e ≡ []
+      → Stand c (went_on n d e net) es w
+  keeps_stands e core me inc number joined quiet still = only_stands e core still (quiet_goes net w k.wires n d at e core me inc number joined quiet)
+
+  pub says_stands : (network : ℕ) (bytes : List ℕ) → packet_of bytes ≡ None → (e : Daemon) → Says net w k.wires n d at network bytes e → e.number ≤ 2 ^ 64 → noted_since d e ≡ [] → Stand c (went_on n d e net) es w
+  says_stands network bytes none e says room still = only_stands e says.core still (says_goes net w k.wires n d at network bytes none e says room)

@@ -1,5 +1,5 @@
 -- A turn of a daemon: a tick where one is due, a receive, and the message that is whole by it.
-use Rattle.std.proofs.Common.{◌≡◌, ◌<◌, ◌^◌, ℕ, List, [], ◌∷◌, ◌++◌, Bool, true, false, Option, Some, None, refl, sym, ap, ◌∙◌, subst, inl, inr, append-nil, append_assoc}
+use Rattle.std.proofs.Common.{◌≡◌, ◌≤◌, ◌^◌, ℕ, List, [], ◌∷◌, ◌++◌, Bool, true, false, Option, Some, None, refl, sym, ◌∙◌, subst, inl, inr, append-nil, append_assoc}
 use Rattle.std.specs.Prelude.{◌⊎◌}
 use Rattle.rsct_packet.specs.Search.{Has}
 use Rattle.hags_io.specs.declared.link.LinkCall.{LinkCall}
@@ -14,29 +14,24 @@ use Rattle.node_state.specs.Step.{Ticks, Calls, stepped}
 use Rattle.world_model.specs.World.{World}
 use Rattle.world_model.specs.declared.event.Event.TheVariants as event
 use Rattle.world_laws.specs.world_answers.Answers.{Answered, goes_on}
-use Rattle.step_refinement.proofs.Changed.{set_here}
-use Rattle.piece_link.specs.Pieces.{Message, Piece, piece_at, can_cut, pieces_of}
+use Rattle.piece_link.specs.Pieces.{Message, Piece, piece_at, pieces_of}
 use Rattle.piece_link.specs.Joining.{Joining, Joined, taken}
 use Rattle.piece_link.specs.Answers.{Among, CanBeCut, SameKey}
 use Rattle.piece_link.proofs.UnchangedLaw.{unchanged, answered_at_once}
-use Rattle.daemon_model.specs.Sent.{Numbered, Exchange, plain, as_sent, IsSpelled, IsSpelledIf}
-use Rattle.daemon_model.specs.Daemon.{Daemon, Opening, Turn, stepped_by, opened, is_due, ticked_if, ticked, joined_by, received, given, heard, turned, left_for, stepped_for}
-use Rattle.daemon_model.proofs.AloneLaws.{IsAlone, tick_alone, heard_alone}
+use Rattle.daemon_model.specs.Sent.{Numbered, Exchange, plain, as_sent, IsSpelledIf}
+use Rattle.daemon_model.specs.Daemon.{Daemon, Opening, Turn, stepped_by, opened, is_due, ticked_if, ticked, joined_by, received, given_on, network_of, heard, turned, left_for, stepped_for}
+use Rattle.daemon_model.proofs.AloneLaws.{IsAlone, tick_alone}
 use Rattle.network_model.specs.Network.{Net, made_since, went_on}
-use Rattle.network_model.specs.Fits.{IsQuestion, AsksAtMost, IsOfClient, IsSend, WasSent, MayCome, IsSpelledSend, MayTurn}
-use Rattle.network_safety.specs.Safe.{answered_by, tick_events, TurnEvents}
-use Rattle.network_safety.proofs.Messages.{message_of, messages_in, in_messages, one_fits}
+use Rattle.network_model.specs.Fits.{IsQuestion, AsksAtMost, IsOfClient, IsSend, MayCome, IsSpelledSend, MayTurn}
+use Rattle.network_safety.specs.Safe.{answered_by, tick_events, GivenEvents, TurnEvents}
+use Rattle.network_safety.proofs.Messages.{message_of, one_fits}
 use Rattle.network_safety.proofs.Quiet.{IsTalk}
 use Rattle.network_safety.proofs.Joins.{IsJoinedOf, more_joined, joined_on, whole_sent}
 use Rattle.network_safety.proofs.Going.{More, more_on, made_is, noted_is, goes_twice}
-use Rattle.network_safety.proofs.Standing.{IsKnown, IsUp, IsUpIf, IsPiece, IsMade, Wires, Stand, node_of}
-use Rattle.network_safety.proofs.Stepping.{own_up, step_stands, IsNoSend, keeps_stands, step_more}
-use Rattle.network_safety.proofs.Acts.{nothing_sent, ticks, Gives, IsKnownIf, none_given, message_gives}
-
--- the daemon that went on is the node's
-pub went_here : (n : ℕ) (d e : Daemon) (net : Net) → (went_on n d e net).daemons n ≡ Some e
-unfolding went_on
-went_here n d e net = set_here net.daemons n (Some e)
+use Rattle.network_safety.proofs.Standing.{IsKnown, IsUpIf, IsPiece, IsOther, IsMade, Wires, Stand, node_of}
+use Rattle.network_safety.proofs.Stepping.{step_more, steps_to, IsNoSend, own_up, step_stands, keeps_stands}
+use Rattle.network_safety.proofs.Acts.{nothing_sent, ticks, Gives, IsKnownIf, none_given}
+use Rattle.network_safety.proofs.Bringing.{went_here, given_on_more, given_on_gives}
 
 -- ---- the tick
 
@@ -58,9 +53,9 @@ tick_goes c net es w k n d at false moment f =
     record { world = w; stand = subst (λ zs. Stand c (went_on n d d net) zs w) (sym (append-nil es)) (none_given c net es w k n d at) }
 tick_goes c net es w k n d at true moment f =
     let e : Daemon = record d { last = moment } in
-    let k1 : Stand c (went_on n d e net) es w = keeps_stands c net es w k n d at e refl refl refl refl (own_up c net es w k n d at).joined (own_up c net es w k n d at).alone (nothing_sent d e refl) (noted_is d e [] (sym (append-nil d.records))) in
+    let k1 : Stand c (went_on n d e net) es w = keeps_stands c net es w k n d at e refl refl refl refl (own_up net w k.wires n d at).joined (nothing_sent d e refl) (noted_is d e [] (sym (append-nil d.records))) in
     let up = went_here n d e net in
-    let k2 = step_stands c (went_on n d e net) es w k1 n e up f Ticks (answered_by f (event.Tick n)) (stepped f (node_of c (went_on n d e net) es w k1.world n e up).node.core Ticks) (ticks c (went_on n d e net) es w k1 n e up f) in
+    let k2 = step_stands c (went_on n d e net) es w k1 n e up f Ticks (answered_by f (event.Tick n)) (stepped f (node_of c (went_on n d e net) es w k1.world n e up).node.core Ticks) (ticks c (went_on n d e net) es w k1 n e up f) (stepped_by f Ticks e) (steps_to f Ticks e) in
     record { world = goes_on w (answered_by f (event.Tick n)); stand = subst (λ z. Stand c z (es ++ answered_by f (event.Tick n) ∷ []) (goes_on w (answered_by f (event.Tick n)))) (goes_twice n d e (stepped_by f Ticks e) net (due_more moment d) (step_more f Ticks e)) k2 }
 
 -- ---- the receive
@@ -84,25 +79,22 @@ piece_known w n known read p is =
     let same : n.packet ≡ p = (let q : Some n.packet ≡ Some p = sym read ∙ is in cc) in
     subst (λ (z : Packet). IsTalk z.body ⊎ Has z w.sent) same known
 
--- a piece of a packet that is spelled: its message is one more of those of which pieces came
-module _ (net : Net) (w : World) (k : Wires net w) (x : Exchange) (among : Among x net.wire) (n : Numbered) (is : x.of ≡ Some n) (spelled : IsSpelled n) where
-  of_packet : IsPiece net w n x.call
-  of_packet = subst (IsMade net w x.call) is (k.made x among)
-
+-- a message that is known is one more of those of which pieces came
+module _ (net : Net) (w : World) (k : Wires net w) (m : Message) (among : Among m k.all) (fits : CanBeCut m) (known : IsKnown w m.bytes) where
   learned : Wires net w
   learned =
       record k {
-        messages = message_of n ∷ k.messages;
-        sent = λ m h. elim h [ inl e ↦ subst (λ z. Among z (messages_in net.wire)) (sym e) (in_messages net.wire x n among is) | inr i ↦ k.sent m i ];
-        fits = λ m h. elim h [ inl e ↦ subst CanBeCut (sym e) (one_fits n of_packet.sender of_packet.incarnation spelled.fits of_packet.cut) | inr i ↦ k.fits m i ];
-        known = λ m h. elim h [ inl e ↦ subst (λ (z : Message). IsKnown w z.bytes) (sym e) (piece_known w n of_packet.known spelled.read) | inr i ↦ k.known m i ];
+        messages = m ∷ k.messages;
+        sent = λ l h. elim h [ inl e ↦ subst (λ z. Among z k.all) (sym e) among | inr i ↦ k.sent l i ];
+        fits = λ l h. elim h [ inl e ↦ subst CanBeCut (sym e) fits | inr i ↦ k.fits l i ];
+        known = λ l h. elim h [ inl e ↦ subst (λ (z : Message). IsKnown w z.bytes) (sym e) known | inr i ↦ k.known l i ];
         up = λ i. wider i (net.daemons i) (k.up i);
       }
     where
-      wider : (i : ℕ) (o : Option Daemon) → IsUpIf k.messages i (net.incarnations i) o → IsUpIf (message_of n ∷ k.messages) i (net.incarnations i) o
+      wider : (i : ℕ) (o : Option Daemon) → IsUpIf k.messages i (net.incarnations i) o → IsUpIf (m ∷ k.messages) i (net.incarnations i) o
       wider i None u = tt
       wider i (Some g) u =
-          record { most = u.most; fits = u.fits; me = u.me; incarnation = u.incarnation; rests = u.rests; joined = more_joined (message_of n ∷ []) k.messages g.joining u.joined; alone = u.alone }
+          record { most = u.most; fits = u.fits; me = u.me; incarnation = u.incarnation; rests = u.rests; joined = more_joined (m ∷ []) k.messages g.joining u.joined }
 
 module _ (net : Net) (w : World) (k : Wires net w) where
   its_distinct : (m l : Message) → Among m k.messages → Among l k.messages → SameKey m l → m ≡ l
@@ -124,13 +116,18 @@ module _ (net : Net) (w : World) (k : Wires net w) (j : Joining) (own_joined : I
   client_comes b (Some q) e h =
       subst (Comes net w) (sym (answered_at_once j b q e h.0)) (record { wires = k; joined = own_joined; known = asks_known w q.text h.1 })
 
-  sent_comes : (b : List ℕ) (x : Exchange) → Among x net.wire → IsSend b x.call → (o : Option Numbered) → x.of ≡ o → IsSpelledIf o → Comes net w (taken j b)
+  message_comes : (b : List ℕ) (m : Message) → Among m k.all → CanBeCut m → IsKnown w m.bytes → Among b (pieces_of m) → Comes net w (taken j b)
   unfolding learned
-  sent_comes b x among send None e spelled = absurd (subst (IsMade net w x.call) e (k.made x among) b send)
+  message_comes b m among fits known piece =
+      piece_comes net w (learned net w k m among fits known) j (more_joined (m ∷ []) k.messages j own_joined) b m (inl refl) piece
+
+  sent_comes : (b : List ℕ) (x : Exchange) → Among x net.wire → IsSend b x.call → (o : Option Numbered) → x.of ≡ o → IsSpelledIf o → Comes net w (taken j b)
+  sent_comes b x among send None e spelled =
+      let o : IsOther k.all b = subst (IsMade k.all w x.call) e (k.made x among) b send in
+      message_comes b o.message o.among o.fits (λ p is. absurd (let z : None ≡ Some p = sym o.none ∙ is in cc)) o.piece
   sent_comes b x among send (Some n) e spelled =
-      let piece : IsPiece net w n x.call = subst (IsMade net w x.call) e (k.made x among) in
-      let more : Wires net w = learned net w k x among n e spelled in
-      piece_comes net w more j (more_joined (message_of n ∷ []) k.messages j own_joined) b (message_of n) (inl refl) (piece.piece b send)
+      let piece : IsPiece k.all w n x.call = subst (IsMade k.all w x.call) e (k.made x among) in
+      message_comes b (message_of n) piece.among (one_fits (message_of n) piece.sender piece.incarnation spelled.fits piece.cut) (piece_known w n piece.known spelled.read) (piece.piece b send)
 
   comes : (got : LinkCall) → MayCome IsSpelledSend net.wire got → Comes net w (joined_by got j)
   comes (call.Received network b) (inl sent) = sent_comes b sent.send sent.among sent.is sent.send.of refl sent.holds
@@ -158,37 +155,34 @@ received_only wire got may x (inr h) = absurd h
 receives : (c : Config) (net : Net) (es : List Answered) (w : World) (k : Stand c net es w) (n : ℕ) (d : Daemon) → net.daemons n ≡ Some d → (got : LinkCall) → MayCome IsSpelledSend net.wire got → Stand c (went_on n d (received got d) net) es w × IsKnownIf w (joined_by got d.joining).message
 unfolding received
 receives c net es w k n d at got may =
-    let r : Comes net w (joined_by got d.joining) = comes net w k.wires d.joining (own_up c net es w k n d at).joined got may in
+    let r : Comes net w (joined_by got d.joining) = comes net w k.wires d.joining (own_up net w k.wires n d at).joined got may in
     let more : Stand c net es w = record { world = k.world; wires = r.wires } in
-    (keeps_stands c net es w more n d at (received got d) refl refl refl refl r.joined (own_up c net es w k n d at).alone quiet (noted_is d (received got d) [] (sym (append-nil d.records))), r.known)
+    (keeps_stands c net es w more n d at (received got d) refl refl refl refl r.joined quiet (noted_is d (received got d) [] (sym (append-nil d.records))), r.known)
   where
     quiet : (x : Exchange) → Among x (made_since d (received got d)) → IsNoSend x
     quiet x h = received_only net.wire got may x (subst (Among x) (made_is d (received got d) (plain (as_sent got) ∷ []) refl) h)
 
 -- ---- the turn
 
-given_more : (message : Option (List ℕ)) (f : Answering) (d : Daemon) → More d (given message f d)
-unfolding given
-given_more None f d = due_more d.last d
-given_more (Some message) f d = step_more f _ d
-
 pub open_more : (d : Daemon) (o : Opening) → More d (opened d o)
 unfolding opened
 open_more d o = step_more o.answers (Calls o.call) d
 
--- a turn of a daemon that serves no clients on other machines: its message is the node's
-abbrev last_of : Daemon → Turn → Daemon
-last_of d t = given (joined_by t.got (ticked t.moment t.tick d).joining).message t.answers (received t.got (ticked t.moment t.tick d))
+heard_more : (got : LinkCall) (f : Answering) (d : Daemon) → More d (heard got f d)
+unfolding heard
+heard_more got f d =
+    more_on d (received got d) (heard got f d) (received_more got d) (given_on_more (network_of got) (joined_by got d.joining).message f (received got d))
 
-turned_is : (d : Daemon) (t : Turn) → IsAlone d → turned d t ≡ last_of d t
+pub turn_more : (d : Daemon) (t : Turn) → More d (turned d t)
 unfolding turned
-turned_is d t alone = heard_alone (ticked t.moment t.tick d) t.got t.answers (tick_alone (is_due d.last t.moment) t.moment t.tick d alone)
-
-pub turn_more : (d : Daemon) (t : Turn) → IsAlone d → More d (turned d t)
-turn_more d t alone =
+turn_more d t =
     let e : Daemon = ticked t.moment t.tick d in
-    let last : More e (last_of d t) = more_on e (received t.got e) (last_of d t) (received_more t.got e) (given_more (joined_by t.got e.joining).message t.answers (received t.got e)) in
-    subst (More d) (sym (turned_is d t alone)) (more_on d e (last_of d t) (tick_more (is_due d.last t.moment) t.moment t.tick d) last)
+    more_on d e (heard t.got t.answers e) (tick_more (is_due d.last t.moment) t.moment t.tick d) (heard_more t.got t.answers e)
+
+-- one that serves no clients on other machines does not begin to
+alone_after : (got : LinkCall) (d : Daemon) → IsAlone d → IsAlone (received got d)
+unfolding received
+alone_after got d alone = alone
 
 pub record TurnGoes (c : Config) (net : Net) (es : List Answered) (n : ℕ) (d : Daemon) (t : Turn) : Type 0 where
   pub events : List Answered
@@ -197,13 +191,13 @@ pub record TurnGoes (c : Config) (net : Net) (es : List Answered) (n : ℕ) (d :
   pub stand : Stand c (went_on n d (turned d t) net) (es ++ events) world
 
 pub turn_goes : (c : Config) (net : Net) (es : List Answered) (w : World) → Stand c net es w → (n : ℕ) (d : Daemon) → net.daemons n ≡ Some d → (t : Turn) → MayTurn IsSpelledSend net t d → TurnGoes c net es n d t
-unfolding went_on
+unfolding went_on turned heard
 turn_goes c net es w k n d at t may =
     record {
       events = tick_events due n t.tick ++ g.events;
       are = record { given = g.events; gives = g.are; are = refl };
       world = g.world;
-      stand = subst (λ z. Stand c (went_on n d z net) (es ++ (tick_events due n t.tick ++ g.events)) g.world) (sym is) (subst (λ zs. Stand c (went_on n d last net) zs g.world) (append_assoc es (tick_events due n t.tick) g.events) (subst (λ z. Stand c z ((es ++ tick_events due n t.tick) ++ g.events) g.world) whole g.stand));
+      stand = subst (λ zs. Stand c (went_on n d last net) zs g.world) (append_assoc es (tick_events due n t.tick) g.events) (subst (λ z. Stand c z ((es ++ tick_events due n t.tick) ++ g.events) g.world) whole g.stand);
     }
   where
     due : Bool
@@ -219,22 +213,23 @@ turn_goes c net es w k n d at t may =
     message = (joined_by t.got e.joining).message
 
     last : Daemon
-    last = given message t.answers got
-
-    is : turned d t ≡ last
-    is = turned_is d t (own_up c net es w k n d at).alone
+    last = given_on (network_of t.got) message t.answers got
 
     first : Went c (went_on n d e net) (es ++ tick_events due n t.tick)
     first =
         tick_goes c net es w k n d at due t.moment t.tick
 
     r : Stand c (went_on n e got (went_on n d e net)) (es ++ tick_events due n t.tick) first.world × IsKnownIf first.world message
-    r = receives c (went_on n d e net) (es ++ tick_events due n t.tick) first.world first.stand n e (went_here n d e net) t.got may
+    r = receives c (went_on n d e net) (es ++ tick_events due n t.tick) first.world first.stand n e (went_here n d e net) t.got may.comes
 
-    g : Gives c (went_on n e got (went_on n d e net)) (es ++ tick_events due n t.tick) first.world n got last message t.answers
+    room : (got.sessions ≡ None) ⊎ (last.number ≤ 2 ^ 64)
+    room = elim may.numbers [ inl alone ↦ inl (alone_after t.got e (tick_alone due t.moment t.tick d alone)) | inr few ↦ inr few ]
+
+    g : Gives c (went_on n e got (went_on n d e net)) (es ++ tick_events due n t.tick) n got last (GivenEvents n got message t.answers)
     g =
-        message_gives c (went_on n e got (went_on n d e net)) (es ++ tick_events due n t.tick) first.world r.0 n got (went_here n e got (went_on n d e net)) t.answers message r.1
+        given_on_gives c (went_on n e got (went_on n d e net)) (es ++ tick_events due n t.tick) first.world r.0 n got (went_here n e got (went_on n d e net)) (network_of t.got) t.answers message r.1 room
 
     whole : went_on n got last (went_on n e got (went_on n d e net)) ≡ went_on n d last net
     whole =
-        goes_twice n e got last (went_on n d e net) (received_more t.got e) (given_more message t.answers got) ∙ goes_twice n d e last net (tick_more due t.moment t.tick d) (more_on e got last (received_more t.got e) (given_more message t.answers got))
+        let more : More got last = given_on_more (network_of t.got) message t.answers got in
+        goes_twice n e got last (went_on n d e net) (received_more t.got e) more ∙ goes_twice n d e last net (tick_more due t.moment t.tick d) (more_on e got last (received_more t.got e) more)

@@ -1,5 +1,5 @@
 -- A network of daemons that `serve` ran.
-use Rattle.std.specs.Prelude.{ℕ, ◌≡◌, false, List, Option, Some, map}
+use Rattle.std.specs.Prelude.{ℕ, ◌≡◌, Bool, List, Option, Some, map}
 use Rattle.hags_io.specs.declared.link.LinkCall.{LinkCall}
 use Rattle.node_state.specs.declared.config.Config.{Config}
 use Rattle.node_state.specs.declared.state.Core.{Core}
@@ -13,17 +13,18 @@ use Rattle.network_model.specs.Lives.{LifeIn, AreLives, records_at, lives_record
 use Rattle.network_model.specs.Fits.{NetworkRun}
 use Rattle.network_safety.specs.Safe.{IsSafeNetwork}
 
--- what the clauses of `serve` say of a daemon that it ran for no clients on other machines: its status was 0, or 6 after the link was open, or 3 or 5
-pub data IsServed (script : Script) (me incarnation turns : ℕ) (a b : Option (List LinkCall)) (x y : Option (List ℕ)) (u v : Option (List ℕ)) : Type 0 where
-  Done : (core : Core) → ServesAs script me incarnation false turns core a b x y u v → IsServed script me incarnation turns a b x y u v
-  Ended : ServesTo script me incarnation false turns a b x y u v → IsServed script me incarnation turns a b x y u v
-  Broken : ServesFront script me incarnation false turns a b x y u v → IsServed script me incarnation turns a b x y u v
+-- what the clauses of `serve` say of a daemon that it ran, for clients on other machines or not: its status was 0, or 6 after the link was open, or 3 or 5
+pub data IsServed (script : Script) (me incarnation : ℕ) (remote : Bool) (turns : ℕ) (a b : Option (List LinkCall)) (x y : Option (List ℕ)) (u v : Option (List ℕ)) : Type 0 where
+  Done : (core : Core) → ServesAs script me incarnation remote turns core a b x y u v → IsServed script me incarnation remote turns a b x y u v
+  Ended : ServesTo script me incarnation remote turns a b x y u v → IsServed script me incarnation remote turns a b x y u v
+  Broken : ServesFront script me incarnation remote turns a b x y u v → IsServed script me incarnation remote turns a b x y u v
 
 -- a daemon of a node, in the domain of these settings, over a link that tells: what link, sink and clock told before and after
 pub record Served (c : Config) (n : ℕ) : Type 0 where
   pub script : Script
   pub settings : script.config ≡ c
   pub incarnation : ℕ
+  pub remote : Bool
   pub turns : ℕ
   pub calls : List LinkCall
   pub calls_after : List LinkCall
@@ -31,37 +32,29 @@ pub record Served (c : Config) (n : ℕ) : Type 0 where
   pub held_after : Option (List ℕ)
   pub moments : Option (List ℕ)
   pub moments_after : Option (List ℕ)
-  pub is : IsServed script n incarnation turns (Some calls) (Some calls_after) held held_after moments moments_after
+  pub is : IsServed script n incarnation remote turns (Some calls) (Some calls_after) held held_after moments moments_after
 
-abbrev pub life_served : (script : Script) (me incarnation turns : ℕ) (a b : Option (List LinkCall)) (x y : Option (List ℕ)) (u v : Option (List ℕ)) → IsServed script me incarnation turns a b x y u v → Life
-life_served script me incarnation turns a b x y u v (Done core s) = s.life
-life_served script me incarnation turns a b x y u v (Ended s) = s.life
-life_served script me incarnation turns a b x y u v (Broken s) = s.life
+abbrev pub life_served : (script : Script) (me incarnation : ℕ) (remote : Bool) (turns : ℕ) (a b : Option (List LinkCall)) (x y : Option (List ℕ)) (u v : Option (List ℕ)) → IsServed script me incarnation remote turns a b x y u v → Life
+life_served script me incarnation remote turns a b x y u v (Done core s) = s.life
+life_served script me incarnation remote turns a b x y u v (Ended s) = s.life
+life_served script me incarnation remote turns a b x y u v (Broken s) = s.life
 
 -- what it sent and received, as its link told it: all that its life gives, or a front of that where it broke off
-abbrev pub served_calls : (script : Script) (me incarnation turns : ℕ) (a b : Option (List LinkCall)) (x y : Option (List ℕ)) (u v : Option (List ℕ)) → IsServed script me incarnation turns a b x y u v → List Exchange
-served_calls script me incarnation turns a b x y u v (Done core s) = (last_of script me incarnation s.life).calls
-served_calls script me incarnation turns a b x y u v (Ended s) = (last_of script me incarnation s.life).calls
-served_calls script me incarnation turns a b x y u v (Broken s) = s.lived.made.front
-
--- in none of them were clients on other machines served
-abbrev pub served_alone : (script : Script) (me incarnation turns : ℕ) (a b : Option (List LinkCall)) (x y : Option (List ℕ)) (u v : Option (List ℕ)) (s : IsServed script me incarnation turns a b x y u v)
-    → (life_served script me incarnation turns a b x y u v s).remote ≡ false
-served_alone script me incarnation turns a b x y u v (Done core s) = s.lived.serves
-served_alone script me incarnation turns a b x y u v (Ended s) = s.lived.serves
-served_alone script me incarnation turns a b x y u v (Broken s) = s.lived.serves
+abbrev pub served_calls : (script : Script) (me incarnation : ℕ) (remote : Bool) (turns : ℕ) (a b : Option (List LinkCall)) (x y : Option (List ℕ)) (u v : Option (List ℕ)) → IsServed script me incarnation remote turns a b x y u v → List Exchange
+served_calls script me incarnation remote turns a b x y u v (Done core s) = (last_of script me incarnation s.life).calls
+served_calls script me incarnation remote turns a b x y u v (Ended s) = (last_of script me incarnation s.life).calls
+served_calls script me incarnation remote turns a b x y u v (Broken s) = s.lived.made.front
 
 -- the life that the clauses give
 abbrev pub life_of : (c : Config) (n : ℕ) → Served c n → LifeIn
 life_of c n r =
     record {
       incarnation = r.incarnation;
-      life = life_served r.script n r.incarnation r.turns (Some r.calls) (Some r.calls_after) r.held r.held_after r.moments r.moments_after r.is;
-      alone = served_alone r.script n r.incarnation r.turns (Some r.calls) (Some r.calls_after) r.held r.held_after r.moments r.moments_after r.is;
+      life = life_served r.script n r.incarnation r.remote r.turns (Some r.calls) (Some r.calls_after) r.held r.held_after r.moments r.moments_after r.is;
     }
 
 abbrev pub calls_of : (c : Config) (n : ℕ) → Served c n → List Exchange
-calls_of c n r = served_calls r.script n r.incarnation r.turns (Some r.calls) (Some r.calls_after) r.held r.held_after r.moments r.moments_after r.is
+calls_of c n r = served_calls r.script n r.incarnation r.remote r.turns (Some r.calls) (Some r.calls_after) r.held r.held_after r.moments r.moments_after r.is
 
 -- the link of one of these daemons told that this was sent
 pub record WasTold (c : Config) (served : (n : ℕ) → List (Served c n)) (x : Exchange) : Type 0 where
