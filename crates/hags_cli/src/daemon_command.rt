@@ -84,11 +84,11 @@ fn run_daemon<C: Callbacks, H: Hosts<C>, K: Sink, L: Link, M: Clock>(
         (L.calls link.new) (K.held out.old) (K.held out.new) (M.moments clock.old)
         (M.moments clock.new) }
     ensures memory { result ≡ Ending.NoMemory → ServesFront script.now serving.me
-        serving.incarnation serving.remote serving.turns (L.calls link.old) (L.calls link.new) (K.held out.old)
-        (K.held out.new) (M.moments clock.old) (M.moments clock.new) }
+        serving.incarnation serving.remote serving.turns (L.calls link.old) (L.calls link.new)
+        (K.held out.old) (K.held out.new) (M.moments clock.old) (M.moments clock.new) }
     ensures write { result ≡ Ending.WriteFault → ServesFront script.now serving.me
-        serving.incarnation serving.remote serving.turns (L.calls link.old) (L.calls link.new) (K.held out.old)
-        (K.held out.new) (M.moments clock.old) (M.moments clock.new) }
+        serving.incarnation serving.remote serving.turns (L.calls link.old) (L.calls link.new)
+        (K.held out.old) (K.held out.new) (M.moments clock.old) (M.moments clock.new) }
     ensures write_fault { result ≡ Ending.WriteFault → Rose (K.faults out.old) (K.faults out.new) }
     ensures link_fault { result ≡ Ending.LinkFault → Rose (L.faults link.old) (L.faults link.new) }
     ensures endings { ServedAs result }

@@ -4,3 +4,4 @@ pub mod GivenLaws
 pub mod OptionLaws
 pub mod NumberLaws
 pub mod SpelledLaws
+pub mod FlagLaws

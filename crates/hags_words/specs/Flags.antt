@@ -25,12 +25,16 @@ is_long _ = false
 unfoldable pub waits : List ℕ → Bool
 waits word = is_long word && not (list_any (λ b. b == 61) word)
 
+-- with a word that is not the flag behind them
+abbrev pub kept : Split → List ℕ → Split
+kept s word = record s { waiting = waits word; ended = s.ended || is_end word; left = s.left ++ word ∷ [] }
+
 -- a second one has no place, and none where a value is to stand
 unfoldable pub after_flag : Split → List ℕ → Option Split
 after_flag s word =
     if not s.ended && is_flag word
     then (if s.given || s.waiting then None else Some (record s { given = true }))
-    else Some (record s { waiting = waits word; ended = s.ended || is_end word; left = s.left ++ word ∷ [] })
+    else Some (kept s word)
 
 unfoldable pub flag_from : Split → List (List ℕ) → Option Split
 flag_from s [] = Some s

@@ -1,13 +1,12 @@
 //! The flag `--remote` among the words after a command.
-ghost use Rattle.std.specs.Prelude.{◌≡◌, IfOk, map, string_bytes, option_map};
-ghost use Rattle.hags_words.specs.Flags.{is_long, waits, flag_of};
+ghost use Rattle.std.specs.Prelude.{◌≡◌, ◌==◌, IfOk, OnOk, Some, None, map, string_bytes, option_map, if◌then◌else◌};
+ghost use Rattle.std.specs.List.{list_any};
+ghost use Rattle.hags_words.specs.Flags.{is_flag, is_long, waits, kept, after_flag, flag_of};
 ghost use Rattle.hags_words.specs.Splits.{split_seen};
 
 use crate::options::is_end;
 use rsct_packet::NoMemory;
 use std::alloc::Global;
-
-const FLAG: &[u8] = b"--remote";
 
 /// Words without the flag: whether it was among them, whether the last of them is an option whose value is the next one,
 /// and whether `--` is among them.
@@ -17,6 +16,12 @@ pub struct Split {
     pub waiting: bool,
     pub ended: bool,
     pub left: Vec<String>,
+}
+
+fn is_flag(word: &[u8]) -> bool
+    ensures { result ≡ is_flag word.now }
+{
+    word == b"--remote".as_slice()
 }
 
 /// Does it begin with two hyphens, and have more behind them?
@@ -29,12 +34,49 @@ fn is_long(word: &[u8]) -> bool
     }
 }
 
+fn has_equals(word: &[u8]) -> bool
+    ensures { result ≡ list_any (λ b. b == 61) word.now }
+{
+    word.iter().any(|b| *b == b'=')
+}
+
 /// Is it an option without its value, which is to be the next word?
 #[tactic(auto, unfolding(crate::specs::Flags::waits))]
 fn waits(word: &[u8]) -> bool
     ensures { result ≡ waits word.now }
 {
-    is_long(word) && !word.iter().any(|b| *b == b'=')
+    is_long(word) && !has_equals(word)
+}
+
+impl Split {
+    /// A word that is not the flag.
+    fn keep(&mut self, word: &String) -> Result<(), NoMemory>
+        ensures { OnOk result (split_seen self.new
+            ≡ kept (split_seen self.old) (string_bytes word.now)) }
+    {
+        let bytes = word.as_bytes();
+        self.waiting = waits(bytes);
+        self.ended = self.ended || is_end(bytes);
+        self.left.push(word.clone()?)?;
+        Ok(())
+    }
+
+    /// The next word; false where it is the flag and has no place here.
+    #[tactic(auto, unfolding(crate::specs::Flags::after_flag))]
+    fn take(&mut self, word: &String) -> Result<bool, NoMemory>
+        ensures { IfOk result (λ placed. after_flag (split_seen self.old) (string_bytes word.now)
+            ≡ (if placed then Some (split_seen self.new) else None)) }
+    {
+        if !self.ended && is_flag(word.as_bytes()) {
+            if self.given || self.waiting {
+                return Ok(false);
+            }
+            self.given = true;
+        } else {
+            self.keep(word)?;
+        }
+        Ok(true)
+    }
 }
 
 /// Takes the flag `--remote` out of the words before `--`; none where it is there twice, or where a value is to stand.
@@ -49,16 +91,8 @@ pub fn take_flag(alloc: Global, words: &[String]) -> Result<Option<Split>, NoMem
         left: Vec::new(alloc),
     };
     for word in words {
-        let bytes = word.as_bytes();
-        if !split.ended && bytes == FLAG {
-            if split.given || split.waiting {
-                return Ok(None);
-            }
-            split.given = true;
-        } else {
-            split.waiting = waits(bytes);
-            split.ended = split.ended || is_end(bytes);
-            split.left.push(word.clone()?)?;
+        if !split.take(word)? {
+            return Ok(None);
         }
     }
     Ok(Some(split))

@@ -184,7 +184,6 @@ fn faulty_lines_are_usage(rt: HostRuntime) -> Result<(), Fail> {
         "status Hats --node 1",
         "status hats hats --node 1",
         "status hats --node 1 --inc 1",
-        "client --node 1",
     ] {
         assert!(rt; line_reads(rt.alloc(), line, "usage")?, "{line}");
     }
@@ -200,6 +199,7 @@ fn help_is_of_each_command(rt: HostRuntime) {
         Some(CommandName::Load),
         Some(CommandName::Daemon),
         Some(CommandName::Status),
+        Some(CommandName::Client),
     ] {
         assert!(rt; help_text(about).starts_with(b"hags".as_slice()));
     }

@@ -23,7 +23,7 @@ fn answering_link(alloc: Global, recvs: &[u32]) -> Result<MemLink, AllocError> {
 }
 
 /// What a call with these words and these settings wrote on out and said on err, with its status.
-fn called(
+pub fn called(
     alloc: Global,
     line: &str,
     settings: &[u8],
@@ -70,6 +70,9 @@ fn a_daemon_alone_is_in_its_first_view(rt: HostRuntime) -> Result<(), Fail> {
         )?
     );
     assert!(rt; ends(alloc, line, 0, silent_link(alloc, &[1], &[])?, 6, b"")?);
+    let remote = "daemon --node 1 --inc 5 --remote --turns 2";
+    let link = silent_link(alloc, &[], &[])?;
+    assert!(rt; ends(alloc, remote, 0, link, 0, ALONE_RECORDS)?);
     Ok(())
 }
 

@@ -20,3 +20,5 @@ mod nodes;
 mod objects;
 #[cfg(test)]
 mod runs;
+#[cfg(test)]
+mod users;

@@ -5,3 +5,4 @@ pub mod ReadLaws
 pub mod ScriptLaws
 pub mod SettingsLaws
 pub mod ClientLines
+pub mod CallTexts

@@ -4,3 +4,4 @@ pub mod Faults
 pub mod Reading
 pub mod CallLines
 pub mod ClientScript
+pub mod CallTexts

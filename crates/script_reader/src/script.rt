@@ -3,6 +3,7 @@ ghost use Rattle.std.specs.Prelude.{◌≡◌, ◌≤◌, ◌∷◌, [], None, S
 ghost use Rattle.std.specs.List.{list_any};
 ghost use Rattle.world_model.specs.Reading.{is_bad_byte, is_comment, is_extra, skipped_line, taken_unless, said_line, counted_line, formed_line, worded_line, words_in, texted, read_line, read_from, input_limit, read_for, script_of};
 ghost use Rattle.world_model.specs.Settings.{aim_of, daemon_script, KeepsFor, HasTexts};
+ghost use Rattle.script_reader.specs.CallTexts.{HandsTexts};
 ghost use Rattle.script_reader.specs.ClientScript.{line_by, lines_from, lines_for, client_script};
 ghost use Rattle.script_words.specs.Heads.{form_seen};
 ghost use Rattle.script_reader.specs.Said.{said_seen};
@@ -293,11 +294,14 @@ pub fn read_daemon(
 ///
 /// - A line of words after `begin` that has more than 1,100 bytes is long.
 /// - A line after `begin` that is no such call is out of place.
-#[tactic(auto, unfolding(crate::specs::ClientScript::client_script), using(crate::proofs::ClientLines::keeps_client, crate::proofs::ClientLines::client_texts))]
+///
+/// So each of its `texts` has 1 to 1,100 bytes.
+#[tactic(auto, unfolding(crate::specs::ClientScript::client_script), using(crate::proofs::ClientLines::keeps_client, crate::proofs::ClientLines::client_texts, crate::proofs::CallTexts::client_hands))]
 pub fn read_client(alloc: Global, bytes: &[u8], me: u8) -> Result<Script, ScriptFault>
     ensures read { GivesScript result (client_script me bytes.now) }
     ensures keeps { IfOk result (KeepsFor me None) }
     ensures texts { IfOk result HasTexts }
+    ensures hands { IfOk result HandsTexts }
 {
     read_lines(alloc, bytes, Aim::Asks(me), true)
 }

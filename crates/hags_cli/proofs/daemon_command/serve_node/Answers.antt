@@ -28,6 +28,6 @@ returns g c =
       moments = g.M.Clock.moments c.args.clock.now;
       moments_now = g.M.Clock.moments c.run_daemon.new.clock;
     })
-    c.in-Ok.script (record { me = c.args.service.node; incarnation = c.incarnation_of.result; turns = c.args.service.turns }) (g.M.Clock.moments c.incarnation_of.new.clock)
-    count refl refl c.incarnation_of.ensures c.in-Ok.ensures.read c.in-Ok.ensures.end c.run_daemon.ensures.places c.run_daemon.ensures.opened
+    c.in-Ok.script (record { me = c.args.service.node; incarnation = c.incarnation_of.result; turns = c.args.service.turns; remote = c.args.service.remote }) (g.M.Clock.moments c.incarnation_of.new.clock)
+    count refl refl refl c.incarnation_of.ensures c.in-Ok.ensures.read c.in-Ok.ensures.end c.run_daemon.ensures.places c.run_daemon.ensures.opened
     c.run_daemon.ensures.done c.run_daemon.ensures.memory c.run_daemon.ensures.write c.run_daemon.ensures.write_fault c.run_daemon.ensures.link_fault c.run_daemon.ensures.endings

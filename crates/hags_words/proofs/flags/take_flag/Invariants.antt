@@ -5,4 +5,4 @@ use Rattle.hags_words.specs.Splits.{split_seen}
 use Rattle.hags_words.proofs.flags.take_flag.Given as goal
 
 abbrev pub invariant-loop-word : goal.invariant-loop-word
-invariant-loop-word l = flag_from (split_seen l.split) (drop l.word-index (map string_bytes l.words)) ≡ flag_of (map string_bytes l.words)
+invariant-loop-word l = flag_from (split_seen l.split) (map string_bytes (drop l.word-index l.words)) ≡ flag_of (map string_bytes l.words)
