@@ -1,9 +1,10 @@
 -- Each scene that events lead to.
-use Rattle.std.proofs.Common.{◌≡◌, ℕ, ◌+◌, List, [], ◌∷◌, length, Option, Some, None, refl, sym, ap, ◌∙◌, subst, inl, inr}
+use Rattle.std.proofs.Common.{◌≡◌, ◌⊎◌, ℕ, ◌+◌, List, [], ◌∷◌, ◌++◌, length, Option, Some, None, true, false, refl, sym, ap, ◌∙◌, subst, inl, inr}
 use Rattle.std.specs.Prelude.{fold, reverse}
 use Rattle.rsct_packet.specs.declared.ids.ViewId.{ViewId}
 use Rattle.rsct_packet.specs.Search.{Has}
 use Rattle.rsct_packet.specs.Mask.{nodes_of}
+use Rattle.rsct_packet.proofs.HasLaws.{append_has_right}
 use Rattle.proposal_core.specs.declared.entry.Entry.{Entry}
 use Rattle.proposal_core.specs.Fold.{empty_state}
 use Rattle.proposal_core.specs.Lists.{list_or_new, state_in}
@@ -11,8 +12,9 @@ use Rattle.view_state.specs.Views.{views_new}
 use Rattle.node_state.specs.declared.config.Config.{Config}
 use Rattle.node_state.specs.declared.happened.Happened.{Happened}
 use Rattle.node_state.specs.declared.happened.Happened.TheVariants as happened
+use Rattle.node_state.specs.declared.packet.Packet.{Packet}
 use Rattle.node_state.specs.declared.state.Core.{Core}
-use Rattle.node_state.specs.State.{row_of, led_of, list_of, state_of, with_sessions}
+use Rattle.node_state.specs.State.{row_of, led_of, list_of, state_of, with_sessions, leads, leads_in, leader_in}
 use Rattle.node_state.specs.HandOn.{Answering}
 use Rattle.node_state.specs.Applying.{level_set}
 use Rattle.node_state.specs.Step.{NodeEvent, at_work, started, stepped}
@@ -32,14 +34,14 @@ use Rattle.step_refinement.proofs.Changed.{each_set}
 use Rattle.step_refinement.proofs.Begins.{begin_tied}
 use Rattle.step_refinement.proofs.RowWorks.{keeps_of}
 use Rattle.step_refinement.proofs.RunLaw.{reached_rests}
-use Rattle.entry_laws.specs.closing_rows.Rows.{RowsAreAlwaysVoters, TallyFits, TalliesAreOfVoters}
+use Rattle.entry_laws.specs.closing_rows.Rows.{RowsAreAlwaysVoters, TallyFits, TalliesAreOfVoters, start_in, EveryListStartsAsTold}
 use Rattle.entry_laws.proofs.closing_rows.Told.{Told, told_of, within_told, within_all}
 use Rattle.entry_laws.proofs.closing_rows.Lists.{puts_all, fresh_before, state_rest}
 use Rattle.entry_laws.proofs.closing_rows.Entered.{since_within, PutsNone, note_puts_none, started_puts_none, within_nothing, with_nothing}
 use Rattle.entry_laws.proofs.closing_rows.Evident.{Evident, ToldNow, told_less, rows_right, again_evident}
-use Rattle.entry_laws.proofs.closing_rows.At.{found, leads_row, RowIs, FreshIn, Fresh, RecordFact, Facts, StateIs, At}
+use Rattle.entry_laws.proofs.closing_rows.At.{found, leads_row, RowIs, StartIs, ToldOf, told_more, FreshIn, Fresh, RecordFact, Facts, StateIs, At}
 use Rattle.entry_laws.proofs.closing_rows.Ending.{Every, NoGroup}
-use Rattle.entry_laws.proofs.closing_rows.Steps.{at_stepped}
+use Rattle.entry_laws.proofs.closing_rows.Steps.{frame_of, at_stepped}
 
 -- ---- what a step has recorded
 
@@ -125,33 +127,42 @@ module _ (bases : List ℕ → Bases) (log : List ℕ → ViewId → List Entry)
 
 -- ---- the invariant
 
-abbrev CoreIs : Option Core → Type 0
-CoreIs None = Unit {0}
-CoreIs (Some s) = (g : List ℕ) → RowIs (leads_row s (found s g)) (found s g)
+abbrev CoreIs : List Packet → Option Core → Type 0
+CoreIs sent None = Unit {0}
+CoreIs sent (Some s) = (g : List ℕ) → RowIs (leads_row s (found s g)) (found s g) × StartIs (ToldOf sent s g) (leads_row s (found s g)) (found s g).list
+
+core_more : (sent more : List Packet) → ((p : Packet) → Has p sent → Has p more) → (o : Option Core) → CoreIs sent o → CoreIs more o
+core_more sent more all None k = tt
+core_more sent more all (Some s) k = λ g. ((k g).0, by g (k g).1)
+  where
+    by : (g : List ℕ) → StartIs (ToldOf sent s g) (leads_row s (found s g)) (found s g).list → StartIs (ToldOf more s g) (leads_row s (found s g)) (found s g).list
+    by g (inl e) = inl e
+    by g (inr (inl led)) = inr (inl led)
+    by g (inr (inr t)) = inr (inr (told_more sent more all t))
 
 record Holds (w : Scene) : Type 0 where
   evident : EachRecord Evident w.before
-  nodes : (m : ℕ) → CoreIs (w.cores m)
+  nodes : (m : ℕ) → CoreIs w.sent (w.cores m)
 
 none_evident : (r : Happened) (now : List Happened) (before : History) → PutsNone r → Evident now before r
 none_evident (happened.Put n v g i e) now before z = absurd z
 none_evident _ now before z = tt
 
 -- a node that starts
-started_is : (c : Config) (n j : ℕ) → CoreIs (Some (started c n j))
+started_is : (sent : List Packet) (c : Config) (n j : ℕ) → CoreIs sent (Some (started c n j))
 unfolding started with_sessions level_set views_new
-started_is c n j = λ g. inl refl
+started_is sent c n j = λ g. (inl refl, inl refl)
 
 start_holds : (w : Scene) (n : ℕ) (v : Event) → Holds w → Holds (start_with w n v (started w.config n (w.incs n + 1)))
 start_holds w n v k =
     let s : Core = started w.config n (w.incs n + 1) in
     record {
       evident = (within_nothing Evident none_evident w.before s.records (started_puts_none w.config n (w.incs n + 1)), k.evident);
-      nodes = each_set (λ m o. CoreIs o) w.cores n (Some s) (started_is w.config n (w.incs n + 1)) (λ m ne. k.nodes m);
+      nodes = each_set (λ m o. CoreIs (s.sends ++ w.sent) o) w.cores n (Some s) (started_is (s.sends ++ w.sent) w.config n (w.incs n + 1)) (λ m ne. core_more w.sent (s.sends ++ w.sent) (λ p i. append_has_right p s.sends w.sent i) (w.cores m) (k.nodes m));
     }
 
 stop_holds : (w : Scene) (n : ℕ) (v : Event) → Holds w → Holds (stopped w n v)
-stop_holds w n v k = record { evident = ((tt, tt), k.evident); nodes = each_set (λ m o. CoreIs o) w.cores n None tt (λ m ne. k.nodes m) }
+stop_holds w n v k = record { evident = ((tt, tt), k.evident); nodes = each_set (λ m o. CoreIs w.sent o) w.cores n None tt (λ m ne. k.nodes m) }
 
 note_holds : (w : Scene) (v : Event) (rs : List Happened) → ((r : Happened) → Has r rs → IsNote r) → Holds w → Holds (noted w v rs)
 note_holds w v rs notes k =
@@ -164,7 +175,7 @@ module _ (w : Scene) (n : ℕ) where
   too_holds None k =
       record {
         evident = with_nothing Evident none_evident w.before (started w.config n (w.incs n + 1)).records (started_puts_none w.config n (w.incs n + 1)) k.evident;
-        nodes = each_set (λ m o. CoreIs o) w.cores n (Some (started w.config n (w.incs n + 1))) (started_is w.config n (w.incs n + 1)) (λ m ne. k.nodes m);
+        nodes = each_set (λ m o. CoreIs w.sent o) w.cores n (Some (started w.config n (w.incs n + 1))) (started_is w.sent w.config n (w.incs n + 1)) (λ m ne. k.nodes m);
       }
 
 fold_holds : (ns : List ℕ) (w : Scene) → Holds w → Holds (fold (λ (w : Scene) n. starts_too w n (w.cores n)) w ns)
@@ -175,16 +186,16 @@ fold_holds (n ∷ ns) w k = fold_holds ns (starts_too w n (w.cores n)) (too_hold
 step_holds : (w : Scene) (n : ℕ) (f : Answering) (s : Core) (e : NodeEvent) (v : Event) → w.cores n ≡ Some s → ((g : List ℕ) → Rests g w) → ((g : List ℕ) → Rests g (ended w n v (stepped f s e))) → Arises w e → Holds w → Holds (ended w n v (stepped f s e))
 step_holds w n f s e v up rests after arises k =
     let now : Scene = ended w n v (stepped f s e) in
-    let a : At w.before Every NoGroup (stepped f s e) = at_stepped w n f s e (λ h. begin_tied h w n s up (rests h)) arises begin in
+    let a : At (frame_of w) Every NoGroup (stepped f s e) = at_stepped w n f s e (λ h. begin_tied h w n s up (rests h)) arises begin in
     record {
       evident = (facts_evident (bases_in now after) (logs_in now after) w.before (reverse (stepped f s e).records) (λ g. told_in now after g) a.facts, k.evident);
-      nodes = each_set (λ m o. CoreIs o) w.cores n (Some (stepped f s e)) (λ g. a.rows.tallies g tt) (λ m ne. k.nodes m);
+      nodes = each_set (λ m o. CoreIs now.sent o) w.cores n (Some (stepped f s e)) (core_more w.sent now.sent (λ p i. append_has_right p (stepped f s e).sends w.sent i) (Some (stepped f s e)) (λ g. (a.rows.tallies g tt, a.rows.starts g))) (λ m ne. core_more w.sent now.sent (λ p i. append_has_right p (stepped f s e).sends w.sent i) (w.cores m) (k.nodes m));
     }
   where
-    begin : At w.before Every NoGroup (at_work s)
+    begin : At (frame_of w) Every NoGroup (at_work s)
     begin =
         record {
-          rows = record { order = (subst (NodeIsIf w.config (rests []).ghost [] n (w.incs n)) up ((rests []).nodes n)).0.order; tallies = λ g t. (subst CoreIs up (k.nodes n)) g; led = λ g z. absurd z };
+          rows = record { order = (subst (NodeIsIf w.config (rests []).ghost [] n (w.incs n)) up ((rests []).nodes n)).0.order; starts = λ g. ((subst (CoreIs w.sent) up (k.nodes n)) g).1; tallies = λ g t. ((subst (CoreIs w.sent) up (k.nodes n)) g).0; led = λ g z. absurd z };
           facts = tt;
           states = λ fresh. states_rest w rests n s up;
         }
@@ -206,8 +217,17 @@ rows_are_voters c w k =
 
 pub tallies_are_of_voters : TalliesAreOfVoters
 unfolding led_of state_of list_of row_of
-tallies_are_of_voters c w k n s up g = by ((subst CoreIs up ((reached_holds c w k).nodes n)) g)
+tallies_are_of_voters c w k n s up g = by ((subst (CoreIs w.sent) up ((reached_holds c w k).nodes n)) g).0
   where
     by : RowIs (leads_row s (found s g)) (found s g) → TallyFits (found s g).led.tally (state_in (found s g).list)
     by (inl none) = subst (λ o. TallyFits o (state_in (found s g).list)) (sym none) tt
     by (inr j) = j.1
+
+pub lists_start_as_told : EveryListStartsAsTold
+unfolding leads leads_in leader_in row_of
+lists_start_as_told c w k n s up g away = by ((subst (CoreIs w.sent) up ((reached_holds c w k).nodes n)) g).1
+  where
+    by : StartIs (ToldOf w.sent s g) (leads_row s (found s g)) (found s g).list → (start_in (found s g).list ≡ 0) ⊎ ToldOf w.sent s g (start_in (found s g).list)
+    by (inl e) = inl e
+    by (inr (inl led)) = absurd (let q : true ≡ false = sym led ∙ away in cc)
+    by (inr (inr told)) = inr told
