@@ -7,7 +7,7 @@ use Rattle.node_state.specs.declared.packet.Body.TheVariants.{Entry}
 use Rattle.node_state.specs.declared.packet.Packet.{Packet}
 use Rattle.run_safety.proofs.Tests.{has_any}
 use Rattle.entry_laws.specs.closing_rows.Rows.{WasTold}
-use Rattle.world_safety.specs.Samples.{db, hello, one_view, pair, two_entries, second_entry, sent_after, start_after, first_joiner}
+use Rattle.world_safety.specs.Samples.{db, one_view, pair, two_entries, second_entry, sent_after, start_after}
 use Rattle.world_safety.specs.Opens.{all_opens}
 
 pub member_starts : start_after pair two_entries 2 db ≡ 1
