@@ -1,10 +1,8 @@
 -- Each scene that events lead to.
-use Rattle.std.proofs.Common.{◌≡◌, ◌⊎◌, ℕ, ◌+◌, List, [], ◌∷◌, ◌++◌, Option, Some, None, refl, sym, subst, inl, inr, append_assoc}
-use Rattle.std.specs.Prelude.{fold, reverse}
+use Rattle.std.proofs.Common.{◌≡◌, ℕ, List, [], ◌∷◌, Some, refl, sym, subst, inl, inr}
+use Rattle.std.specs.Prelude.{reverse}
 use Rattle.rsct_packet.specs.declared.ids.ViewId.{ViewId}
 use Rattle.rsct_packet.specs.Search.{Has}
-use Rattle.rsct_packet.specs.Mask.{nodes_of}
-use Rattle.rsct_packet.proofs.HasLaws.{has_append, append_has_right}
 use Rattle.proposal_core.specs.declared.entry.Entry.{Entry}
 use Rattle.session_state.specs.declared.state.KeptBallot.{KeptBallot}
 use Rattle.view_state.specs.Views.{views_new}
@@ -21,13 +19,12 @@ use Rattle.world_model.specs.declared.event.Event.{Event}
 use Rattle.run_safety.specs.Past.{History, records_of, earlier, Within, EachRecord}
 use Rattle.run_safety.specs.Bases.{Bases}
 use Rattle.step_refinement.specs.Tied.{Scene, NodeIsIf, Rests}
-use Rattle.step_refinement.specs.Rules.{ended, start_with, stopped, nothing_yet, with_records, starts_too, Arises}
-use Rattle.step_refinement.specs.Runs.{IsNote, noted, Reached, Nothing, AllStart, Starts, Stops, Steps, Notes}
-use Rattle.step_refinement.proofs.Changed.{each_set}
+use Rattle.step_refinement.specs.Rules.{ended, Arises}
+use Rattle.step_refinement.specs.Runs.{Reached}
 use Rattle.step_refinement.proofs.Begins.{begin_tied}
-use Rattle.step_refinement.proofs.RunLaw.{reached_rests}
-use Rattle.step_refinement.proofs.Turns.{has_turned}
-use Rattle.entry_laws.proofs.closing_rows.Entered.{since_within, PutsNone, note_puts_none, started_puts_none, within_nothing, with_nothing}
+use Rattle.run_induction.proofs.Invariants.{Holds, Done, Invariant, reached_holds, node_holds}
+use Rattle.run_induction.proofs.Quiet.{PutsNone}
+use Rattle.entry_laws.proofs.closing_rows.Entered.{since_within}
 use Rattle.entry_laws.proofs.closing_rows.Evident.{ToldNow, told_less, AgainIn, again_each}
 use Rattle.entry_laws.proofs.closing_rows.At.{found, leads_row}
 use Rattle.entry_laws.proofs.closing_rows.Law.{bases_in, logs_in, told_in}
@@ -99,19 +96,9 @@ record CoreTold (rs : List Happened) (s : Core) : Type 0 where
   kept : (k : KeptBallot) → Has k s.sessions.kept → KeptTold rs k
   tallies : (g : List ℕ) → RowIs rs (leads_row s (found s g)) (found s g)
 
-abbrev CoreIfTold : List Happened → Option Core → Type 0
-CoreIfTold rs None = Unit {0}
-CoreIfTold rs (Some s) = CoreTold rs s
-
-record Holds (w : Scene) : Type 0 where
-  sent : (p : Packet) → Has p w.sent → BodyTold (records_of w.before) p.body
-  nodes : (m : ℕ) → CoreIfTold (records_of w.before) (w.cores m)
-  evident : EachRecord Evident w.before
-
 module _ (rs ts : List Happened) (more : (r : Happened) → Has r rs → Has r ts) where
-  core_if_on : (o : Option Core) → CoreIfTold rs o → CoreIfTold ts o
-  core_if_on None k = tt
-  core_if_on (Some s) k =
+  core_on : (s : Core) → CoreTold rs s → CoreTold ts s
+  core_on s k =
       record {
         kept = λ x i. ballot_on rs ts more x.p x.proto x.phase x.ballot.filled (k.kept x i);
         tallies = λ g. row_is_on rs ts more (leads_row s (found s g)) (found s g) (k.tallies g);
@@ -126,90 +113,26 @@ started_told : (rs : List Happened) (c : Config) (n j : ℕ) → CoreTold rs (st
 unfolding started with_sessions level_set views_new
 started_told rs c n j = record { kept = λ k i. absurd i; tallies = λ g. inl refl }
 
-started_sends : (c : Config) (n j : ℕ) → (started c n j).sends ≡ []
-unfolding started with_sessions
-started_sends c n j = refl
+-- nothing is said of what was sent
+abbrev Node : List Packet → List Happened → Core → Type 0
+Node ps rs s = CoreTold rs s
 
--- a node comes to this, in an event that is over
-ended_holds : (w : Scene) (n : ℕ) (v : Event) (s : Core) → ((p : Packet) → Has p s.sends → BodyTold (s.records ++ records_of w.before) p.body) → CoreTold (s.records ++ records_of w.before) s → Within Evident (reverse s.records) w.before → Holds w → Holds (ended w n v s)
-ended_holds w n v s sends core puts k =
-    record {
-      sent = λ p i. by p (has_append p s.sends w.sent i);
-      nodes = each_set (λ m o. CoreIfTold ts o) w.cores n (Some s) (core_if_on now ts turned (Some s) core) (λ m ne. core_if_on (records_of w.before) ts (λ r i. append_has_right r (reverse s.records) (records_of w.before) i) (w.cores m) (k.nodes m));
-      evident = (puts, k.evident);
-    }
-  where
-    now : List Happened
-    now = s.records ++ records_of w.before
-
-    ts : List Happened
-    ts = reverse s.records ++ records_of w.before
-
-    turned : (r : Happened) → Has r now → Has r ts
-    turned r i = has_turned r s.records (records_of w.before) i
-
-    by : (p : Packet) → Has p s.sends ⊎ Has p w.sent → BodyTold ts p.body
-    by p (inl i) = body_on now ts turned p.body (sends p i)
-    by p (inr i) = body_on (records_of w.before) ts (λ r j. append_has_right r (reverse s.records) (records_of w.before) j) p.body (k.sent p i)
-
-start_holds : (w : Scene) (n : ℕ) (v : Event) → Holds w → Holds (start_with w n v (started w.config n (w.incs n + 1)))
-start_holds w n v k =
-    let s : Core = started w.config n (w.incs n + 1) in
-    let a = ended_holds w n v s (λ p i. absurd (subst (Has p) (started_sends w.config n (w.incs n + 1)) i)) (started_told (s.records ++ records_of w.before) w.config n (w.incs n + 1)) (within_nothing Evident none_evident w.before s.records (started_puts_none w.config n (w.incs n + 1))) k in
-    record { sent = a.sent; nodes = a.nodes; evident = a.evident }
-
-stop_holds : (w : Scene) (n : ℕ) (v : Event) → Holds w → Holds (stopped w n v)
-stop_holds w n v k =
-    record {
-      sent = λ p i. body_on (records_of w.before) (happened.Down n ∷ records_of w.before) (λ r j. inr j) p.body (k.sent p i);
-      nodes = each_set (λ m o. CoreIfTold (happened.Down n ∷ records_of w.before) o) w.cores n None tt (λ m ne. core_if_on (records_of w.before) (happened.Down n ∷ records_of w.before) (λ r j. inr j) (w.cores m) (k.nodes m));
-      evident = ((tt, tt), k.evident);
-    }
-
-note_holds : (w : Scene) (v : Event) (rs : List Happened) → ((r : Happened) → Has r rs → IsNote r) → Holds w → Holds (noted w v rs)
-note_holds w v rs notes k =
-    record {
-      sent = λ p i. body_on (records_of w.before) (reverse rs ++ records_of w.before) more p.body (k.sent p i);
-      nodes = λ m. core_if_on (records_of w.before) (reverse rs ++ records_of w.before) more (w.cores m) (k.nodes m);
-      evident = (within_nothing Evident none_evident w.before rs (λ r i. note_puts_none r (notes r i)), k.evident);
-    }
-  where
-    more : (r : Happened) → Has r (records_of w.before) → Has r (reverse rs ++ records_of w.before)
-    more r j = append_has_right r (reverse rs) (records_of w.before) j
-
--- every node starts, in one event
-module _ (w : Scene) (n : ℕ) where
-  abbrev first_records : List Happened
-  first_records = (started w.config n (w.incs n + 1)).records
-
-  with_more : (before : History) (r : Happened) → Has r (records_of before) → Has r (records_of (with_records before first_records))
-  with_more [] r i = absurd i
-  with_more (h ∷ before) r i =
-      subst (Has r) (sym (append_assoc (reverse first_records) h.records (records_of before))) (append_has_right r (reverse first_records) (h.records ++ records_of before) i)
-
-  too_holds : (o : Option Core) → Holds w → Holds (starts_too w n o)
-  too_holds (Some s) k = k
-  too_holds None k =
-      let ts : List Happened = records_of (with_records w.before first_records) in
-      record {
-        sent = λ p i. body_on (records_of w.before) ts (with_more w.before) p.body (k.sent p i);
-        nodes = each_set (λ m o. CoreIfTold ts o) w.cores n (Some (started w.config n (w.incs n + 1))) (started_told ts w.config n (w.incs n + 1)) (λ m ne. core_if_on (records_of w.before) ts (with_more w.before) (w.cores m) (k.nodes m));
-        evident = with_nothing Evident none_evident w.before first_records (started_puts_none w.config n (w.incs n + 1)) k.evident;
-      }
-
-fold_holds : (ns : List ℕ) (w : Scene) → Holds w → Holds (fold (λ (w : Scene) n. starts_too w n (w.cores n)) w ns)
-fold_holds [] w k = k
-fold_holds (n ∷ ns) w k = fold_holds ns (starts_too w n (w.cores n)) (too_holds w n (w.cores n) k)
+abbrev Sent : List Happened → Packet → Type 0
+Sent rs p = BodyTold rs p.body
 
 -- a step
-step_holds : (w : Scene) (n : ℕ) (f : Answering) (s : Core) (e : NodeEvent) (v : Event) → w.cores n ≡ Some s → ((g : List ℕ) → Rests g w) → ((g : List ℕ) → Rests g (ended w n v (stepped f s e))) → Arises w e → Holds w → Holds (ended w n v (stepped f s e))
-step_holds w n f s e v up rests after arises k =
+step_done : (w : Scene) (n : ℕ) (f : Answering) (s : Core) (e : NodeEvent) (v : Event) → w.cores n ≡ Some s → ((g : List ℕ) → Rests g w) → ((g : List ℕ) → Rests g (ended w n v (stepped f s e))) → Arises w e → Holds Sent Node Evident w → CoreTold (records_of w.before) s → Done Sent Node Evident w (stepped f s e)
+step_done w n f s e v up rests after arises k c =
     let now : Scene = ended w n v (stepped f s e) in
-    let a : At (course w) Every NoGroup (stepped f s e) = at_stepped w n f s e k.sent (λ h. begin_tied h w n s up (rests h)) arises (begin (subst (CoreIfTold (records_of w.before)) up (k.nodes n))) in
-    ended_holds w n v (stepped f s e) a.sends (record { kept = a.kept; tallies = λ g. a.tallies g tt }) (facts_evident (bases_in now after) (logs_in now after) w.before (reverse (stepped f s e).records) (λ g. told_in now after g) (a.facts refl)) k
+    let a : At (course w) Every NoGroup (stepped f s e) = at_stepped w n f s e k.sent (λ h. begin_tied h w n s up (rests h)) arises begin in
+    record {
+      sends = a.sends;
+      node = record { kept = a.kept; tallies = λ g. a.tallies g tt };
+      lines = facts_evident (bases_in now after) (logs_in now after) w.before (reverse (stepped f s e).records) (λ g. told_in now after g) (a.facts refl);
+    }
   where
-    begin : CoreTold (records_of w.before) s → At (course w) Every NoGroup (at_work s)
-    begin c =
+    begin : At (course w) Every NoGroup (at_work s)
+    begin =
         record {
           sends = λ p i. absurd i;
           kept = c.kept;
@@ -219,21 +142,27 @@ step_holds w n f s e v up rests after arises k =
           led = λ g z. absurd z;
         }
 
-reached_holds : (c : Config) (w : Scene) → Reached c w → Holds w
-reached_holds c _ Nothing = record { sent = λ p i. absurd i; nodes = λ m. tt; evident = tt }
-reached_holds c _ (AllStart fixed) =
-    fold_holds (nodes_of c.nodes) (record (nothing_yet c) { before = record { event = None; records = [] } ∷ [] }) (record { sent = λ p i. absurd i; nodes = λ m. tt; evident = (tt, tt) })
-reached_holds c _ (Starts w n e k free real down) = start_holds w n e (reached_holds c w k)
-reached_holds c _ (Stops w n e s k up) = stop_holds w n e (reached_holds c w k)
-reached_holds c _ (Steps w n f s e v k up arises) =
-    step_holds w n f s e v up (λ g. reached_rests c w k g) (λ g. reached_rests c (ended w n v (stepped f s e)) (Steps w n f s e v k up arises) g) arises (reached_holds c w k)
-reached_holds c _ (Notes w e rs k notes) = note_holds w e rs notes (reached_holds c w k)
+carried : Invariant Sent Node Evident
+carried =
+    record {
+      sent_on = λ rs ts more p k. body_on rs ts more p.body k;
+      node_on = λ ps qs sent. core_on;
+      starts = λ ps. started_told;
+      quiet = none_evident;
+      steps = step_done;
+    }
+
+told : (c : Config) (w : Scene) → Reached c w → Holds Sent Node Evident w
+told = reached_holds Sent Node Evident carried
+
+core_told : (c : Config) (w : Scene) → Reached c w → (n : ℕ) (s : Core) → w.cores n ≡ Some s → CoreTold (records_of w.before) s
+core_told = node_holds Sent Node Evident carried
 
 pub first_ballots_carry : FirstBallotsAlwaysCarry
-first_ballots_carry c w k = (all_carry w.before (reached_holds c w k).evident).0
+first_ballots_carry c w k = (all_carry w.before (told c w k).lines).0
 
 pub sent_ballots : SentBallotsAreTold
-sent_ballots c w k = (reached_holds c w k).sent
+sent_ballots c w k = (told c w k).sent
 
 pub kept_ballots : KeptBallotsAreTold
-kept_ballots c w k n s up = (subst (CoreIfTold (records_of w.before)) up ((reached_holds c w k).nodes n)).kept
+kept_ballots c w k n s up = (core_told c w k n s up).kept

@@ -1,9 +1,8 @@
 -- Each scene that events lead to.
-use Rattle.std.proofs.Common.{◌≡◌, ◌⊎◌, ℕ, ◌+◌, List, [], ◌∷◌, ◌++◌, length, Option, Some, None, true, false, refl, sym, ap, ◌∙◌, subst, inl, inr}
-use Rattle.std.specs.Prelude.{fold, reverse}
+use Rattle.std.proofs.Common.{◌≡◌, ◌⊎◌, ℕ, List, [], ◌∷◌, ◌++◌, length, Some, true, false, refl, sym, ap, ◌∙◌, subst, inl, inr}
+use Rattle.std.specs.Prelude.{reverse}
 use Rattle.rsct_packet.specs.declared.ids.ViewId.{ViewId}
 use Rattle.rsct_packet.specs.Search.{Has}
-use Rattle.rsct_packet.specs.Mask.{nodes_of}
 use Rattle.rsct_packet.proofs.HasLaws.{append_has_right}
 use Rattle.proposal_core.specs.declared.entry.Entry.{Entry}
 use Rattle.proposal_core.specs.Fold.{empty_state}
@@ -19,7 +18,7 @@ use Rattle.node_state.specs.HandOn.{Answering}
 use Rattle.node_state.specs.Applying.{level_set}
 use Rattle.node_state.specs.Step.{NodeEvent, at_work, started, stepped}
 use Rattle.world_model.specs.declared.event.Event.{Event}
-use Rattle.run_safety.specs.Past.{History, records_of, earlier, Within, EachRecord, puts_of, base_of}
+use Rattle.run_safety.specs.Past.{History, records_of, earlier, Within, puts_of, base_of}
 use Rattle.run_safety.specs.Sight.{lines_with, lines_of}
 use Rattle.run_safety.specs.Group.{Origin, Based, Noted, kept}
 use Rattle.run_safety.specs.GroupLists as lists
@@ -28,16 +27,16 @@ use Rattle.run_safety.proofs.Whole.{Whole}
 use Rattle.run_safety.proofs.Lives.{whole}
 use Rattle.step_refinement.specs.Ghost.{Ghost, Keeps}
 use Rattle.step_refinement.specs.Tied.{Scene, opening_of, NodeIs, NodeIsIf, Rests}
-use Rattle.step_refinement.specs.Rules.{ended, start_with, stopped, nothing_yet, starts_too, Arises}
-use Rattle.step_refinement.specs.Runs.{IsNote, noted, Reached, Nothing, AllStart, Starts, Stops, Steps, Notes}
-use Rattle.step_refinement.proofs.Changed.{each_set}
+use Rattle.step_refinement.specs.Rules.{ended, Arises}
 use Rattle.step_refinement.proofs.Begins.{begin_tied}
 use Rattle.step_refinement.proofs.RowWorks.{keeps_of}
 use Rattle.step_refinement.proofs.RunLaw.{reached_rests}
 use Rattle.entry_laws.specs.closing_rows.Rows.{RowsAreAlwaysVoters, TallyFits, TalliesAreOfVoters, start_in, EveryListStartsAsTold}
 use Rattle.entry_laws.proofs.closing_rows.Told.{Told, told_of, within_told, within_all}
 use Rattle.entry_laws.proofs.closing_rows.Lists.{puts_all, fresh_before, state_rest}
-use Rattle.entry_laws.proofs.closing_rows.Entered.{since_within, PutsNone, note_puts_none, started_puts_none, within_nothing, with_nothing}
+use Rattle.run_induction.proofs.Invariants.{Among, Sends, Holds, Done, Invariant, reached_holds, node_holds}
+use Rattle.run_induction.proofs.Quiet.{PutsNone}
+use Rattle.entry_laws.proofs.closing_rows.Entered.{since_within}
 use Rattle.entry_laws.proofs.closing_rows.Evident.{Evident, ToldNow, told_less, rows_right, again_evident}
 use Rattle.entry_laws.proofs.closing_rows.At.{found, leads_row, RowIs, StartIs, ToldOf, told_more, FreshIn, Fresh, RecordFact, Facts, StateIs, At}
 use Rattle.entry_laws.proofs.closing_rows.Ending.{Every, NoGroup}
@@ -127,97 +126,69 @@ module _ (bases : List ℕ → Bases) (log : List ℕ → ViewId → List Entry)
 
 -- ---- the invariant
 
-abbrev CoreIs : List Packet → Option Core → Type 0
-CoreIs sent None = Unit {0}
-CoreIs sent (Some s) = (g : List ℕ) → RowIs (leads_row s (found s g)) (found s g) × StartIs (ToldOf sent s g) (leads_row s (found s g)) (found s g).list
+-- what holds of a node, by what was sent, whatever was recorded
+abbrev CoreIs : List Packet → List Happened → Core → Type 0
+CoreIs ps rs s = (g : List ℕ) → RowIs (leads_row s (found s g)) (found s g) × StartIs (ToldOf ps s g) (leads_row s (found s g)) (found s g).list
 
-core_more : (sent more : List Packet) → ((p : Packet) → Has p sent → Has p more) → (o : Option Core) → CoreIs sent o → CoreIs more o
-core_more sent more all None k = tt
-core_more sent more all (Some s) k = λ g. ((k g).0, by g (k g).1)
+-- what was told stays told
+core_on : (ps qs : List Packet) → Sends ps qs → (rs ts : List Happened) → Among rs ts → (s : Core) → CoreIs ps rs s → CoreIs qs ts s
+core_on ps qs more rs ts old s k g = ((k g).0, by (k g).1)
   where
-    by : (g : List ℕ) → StartIs (ToldOf sent s g) (leads_row s (found s g)) (found s g).list → StartIs (ToldOf more s g) (leads_row s (found s g)) (found s g).list
-    by g (inl e) = inl e
-    by g (inr (inl led)) = inr (inl led)
-    by g (inr (inr t)) = inr (inr (told_more sent more all t))
+    by : StartIs (ToldOf ps s g) (leads_row s (found s g)) (found s g).list → StartIs (ToldOf qs s g) (leads_row s (found s g)) (found s g).list
+    by (inl e) = inl e
+    by (inr (inl led)) = inr (inl led)
+    by (inr (inr t)) = inr (inr (told_more ps qs more t))
 
-record Holds (w : Scene) : Type 0 where
-  evident : EachRecord Evident w.before
-  nodes : (m : ℕ) → CoreIs w.sent (w.cores m)
+-- nothing is said of packets
+abbrev Sent : List Happened → Packet → Type 0
+Sent rs p = Unit {0}
 
 none_evident : (r : Happened) (now : List Happened) (before : History) → PutsNone r → Evident now before r
 none_evident (happened.Put n v g i e) now before z = absurd z
 none_evident _ now before z = tt
 
 -- a node that starts
-started_is : (sent : List Packet) (c : Config) (n j : ℕ) → CoreIs sent (Some (started c n j))
+started_is : (ps : List Packet) (rs : List Happened) (c : Config) (n j : ℕ) → CoreIs ps rs (started c n j)
 unfolding started with_sessions level_set views_new
-started_is sent c n j = λ g. (inl refl, inl refl)
-
-start_holds : (w : Scene) (n : ℕ) (v : Event) → Holds w → Holds (start_with w n v (started w.config n (w.incs n + 1)))
-start_holds w n v k =
-    let s : Core = started w.config n (w.incs n + 1) in
-    record {
-      evident = (within_nothing Evident none_evident w.before s.records (started_puts_none w.config n (w.incs n + 1)), k.evident);
-      nodes = each_set (λ m o. CoreIs (s.sends ++ w.sent) o) w.cores n (Some s) (started_is (s.sends ++ w.sent) w.config n (w.incs n + 1)) (λ m ne. core_more w.sent (s.sends ++ w.sent) (λ p i. append_has_right p s.sends w.sent i) (w.cores m) (k.nodes m));
-    }
-
-stop_holds : (w : Scene) (n : ℕ) (v : Event) → Holds w → Holds (stopped w n v)
-stop_holds w n v k = record { evident = ((tt, tt), k.evident); nodes = each_set (λ m o. CoreIs w.sent o) w.cores n None tt (λ m ne. k.nodes m) }
-
-note_holds : (w : Scene) (v : Event) (rs : List Happened) → ((r : Happened) → Has r rs → IsNote r) → Holds w → Holds (noted w v rs)
-note_holds w v rs notes k =
-    record { evident = (within_nothing Evident none_evident w.before rs (λ r i. note_puts_none r (notes r i)), k.evident); nodes = k.nodes }
-
--- every node starts, in one event
-module _ (w : Scene) (n : ℕ) where
-  too_holds : (o : Option Core) → Holds w → Holds (starts_too w n o)
-  too_holds (Some s) k = k
-  too_holds None k =
-      record {
-        evident = with_nothing Evident none_evident w.before (started w.config n (w.incs n + 1)).records (started_puts_none w.config n (w.incs n + 1)) k.evident;
-        nodes = each_set (λ m o. CoreIs w.sent o) w.cores n (Some (started w.config n (w.incs n + 1))) (started_is w.sent w.config n (w.incs n + 1)) (λ m ne. k.nodes m);
-      }
-
-fold_holds : (ns : List ℕ) (w : Scene) → Holds w → Holds (fold (λ (w : Scene) n. starts_too w n (w.cores n)) w ns)
-fold_holds [] w k = k
-fold_holds (n ∷ ns) w k = fold_holds ns (starts_too w n (w.cores n)) (too_holds w n (w.cores n) k)
+started_is ps rs c n j = λ g. (inl refl, inl refl)
 
 -- a step
-step_holds : (w : Scene) (n : ℕ) (f : Answering) (s : Core) (e : NodeEvent) (v : Event) → w.cores n ≡ Some s → ((g : List ℕ) → Rests g w) → ((g : List ℕ) → Rests g (ended w n v (stepped f s e))) → Arises w e → Holds w → Holds (ended w n v (stepped f s e))
-step_holds w n f s e v up rests after arises k =
+step_done : (w : Scene) (n : ℕ) (f : Answering) (s : Core) (e : NodeEvent) (v : Event) → w.cores n ≡ Some s → ((g : List ℕ) → Rests g w) → ((g : List ℕ) → Rests g (ended w n v (stepped f s e))) → Arises w e → Holds Sent CoreIs Evident w → CoreIs w.sent (records_of w.before) s → Done Sent CoreIs Evident w (stepped f s e)
+step_done w n f s e v up rests after arises k c =
     let now : Scene = ended w n v (stepped f s e) in
     let a : At (frame_of w) Every NoGroup (stepped f s e) = at_stepped w n f s e (λ h. begin_tied h w n s up (rests h)) arises begin in
     record {
-      evident = (facts_evident (bases_in now after) (logs_in now after) w.before (reverse (stepped f s e).records) (λ g. told_in now after g) a.facts, k.evident);
-      nodes = each_set (λ m o. CoreIs now.sent o) w.cores n (Some (stepped f s e)) (core_more w.sent now.sent (λ p i. append_has_right p (stepped f s e).sends w.sent i) (Some (stepped f s e)) (λ g. (a.rows.tallies g tt, a.rows.starts g))) (λ m ne. core_more w.sent now.sent (λ p i. append_has_right p (stepped f s e).sends w.sent i) (w.cores m) (k.nodes m));
+      sends = λ p i. tt;
+      node = core_on w.sent ((stepped f s e).sends ++ w.sent) (λ p i. append_has_right p (stepped f s e).sends w.sent i) (records_of w.before) ((stepped f s e).records ++ records_of w.before) (λ r i. append_has_right r (stepped f s e).records (records_of w.before) i) (stepped f s e) (λ g. (a.rows.tallies g tt, a.rows.starts g));
+      lines = facts_evident (bases_in now after) (logs_in now after) w.before (reverse (stepped f s e).records) (λ g. told_in now after g) a.facts;
     }
   where
     begin : At (frame_of w) Every NoGroup (at_work s)
     begin =
         record {
-          rows = record { order = (subst (NodeIsIf w.config (rests []).ghost [] n (w.incs n)) up ((rests []).nodes n)).0.order; starts = λ g. ((subst (CoreIs w.sent) up (k.nodes n)) g).1; tallies = λ g t. ((subst (CoreIs w.sent) up (k.nodes n)) g).0; led = λ g z. absurd z };
+          rows = record { order = (subst (NodeIsIf w.config (rests []).ghost [] n (w.incs n)) up ((rests []).nodes n)).0.order; starts = λ g. (c g).1; tallies = λ g t. (c g).0; led = λ g z. absurd z };
           facts = tt;
           states = λ fresh. states_rest w rests n s up;
         }
 
-reached_holds : (c : Config) (w : Scene) → Reached c w → Holds w
-reached_holds c _ Nothing = record { evident = tt; nodes = λ m. tt }
-reached_holds c _ (AllStart fixed) =
-    fold_holds (nodes_of c.nodes) (record (nothing_yet c) { before = record { event = None; records = [] } ∷ [] }) (record { evident = (tt, tt); nodes = λ m. tt })
-reached_holds c _ (Starts w n e k free real down) = start_holds w n e (reached_holds c w k)
-reached_holds c _ (Stops w n e s k up) = stop_holds w n e (reached_holds c w k)
-reached_holds c _ (Steps w n f s e v k up arises) =
-    step_holds w n f s e v up (λ g. reached_rests c w k g) (λ g. reached_rests c (ended w n v (stepped f s e)) (Steps w n f s e v k up arises) g) arises (reached_holds c w k)
-reached_holds c _ (Notes w e rs k notes) = note_holds w e rs notes (reached_holds c w k)
+fitting : Invariant Sent CoreIs Evident
+fitting =
+    record {
+      sent_on = λ rs ts more p k. tt;
+      node_on = core_on;
+      starts = started_is;
+      quiet = none_evident;
+      steps = step_done;
+    }
 
 pub rows_are_voters : RowsAreAlwaysVoters
 rows_are_voters c w k =
     let rests : (g : List ℕ) → Rests g w = λ g. reached_rests c w k g in
-    rows_right (bases_in w rests) (logs_in w rests) w.before (λ g. told_in w rests g) (reached_holds c w k).evident
+    rows_right (bases_in w rests) (logs_in w rests) w.before (λ g. told_in w rests g) (reached_holds Sent CoreIs Evident fitting c w k).lines
 
 pub tallies_are_of_voters : TalliesAreOfVoters
 unfolding led_of state_of list_of row_of
-tallies_are_of_voters c w k n s up g = by ((subst (CoreIs w.sent) up ((reached_holds c w k).nodes n)) g).0
+tallies_are_of_voters c w k n s up g = by (node_holds Sent CoreIs Evident fitting c w k n s up g).0
   where
     by : RowIs (leads_row s (found s g)) (found s g) → TallyFits (found s g).led.tally (state_in (found s g).list)
     by (inl none) = subst (λ o. TallyFits o (state_in (found s g).list)) (sym none) tt
@@ -225,7 +196,7 @@ tallies_are_of_voters c w k n s up g = by ((subst (CoreIs w.sent) up ((reached_h
 
 pub lists_start_as_told : EveryListStartsAsTold
 unfolding leads leads_in leader_in row_of
-lists_start_as_told c w k n s up g away = by ((subst (CoreIs w.sent) up ((reached_holds c w k).nodes n)) g).1
+lists_start_as_told c w k n s up g away = by (node_holds Sent CoreIs Evident fitting c w k n s up g).1
   where
     by : StartIs (ToldOf w.sent s g) (leads_row s (found s g)) (found s g).list → (start_in (found s g).list ≡ 0) ⊎ ToldOf w.sent s g (start_in (found s g).list)
     by (inl e) = inl e

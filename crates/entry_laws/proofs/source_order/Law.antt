@@ -39,7 +39,8 @@ use Rattle.step_refinement.proofs.Changed.{each_set}
 use Rattle.step_refinement.proofs.RunLaw.{reached_rests}
 use Rattle.entry_laws.proofs.closing_rows.Told.{Told, told_of, less_many, within_all}
 use Rattle.entry_laws.proofs.closing_rows.Evident.{again_within, put_back}
-use Rattle.entry_laws.proofs.closing_rows.Entered.{Since, since_within, PutsNone, note_puts_none, started_puts_none, within_none, within_nothing}
+use Rattle.run_induction.proofs.Quiet.{PutsNone, note_puts_none, started_puts_none, within_none, within_nothing}
+use Rattle.entry_laws.proofs.closing_rows.Entered.{Since, since_within}
 use Rattle.entry_laws.specs.source_order.Meant.{Decided, DeliveryNoted, DeliveriesAreNoted}
 use Rattle.entry_laws.specs.source_order.Sources.{ReflectionsRise, ReflectionsClimb, JoinsCarryLengths, JoinsOverSources, RecordedBase, RecordRises, RecordCarries, RecordClimbs, OverSource, ReflectionsAlwaysRise, ReflectionsAlwaysClimb, OfBegun, Rises, JoinsAlwaysCarryLengths, FirstsAlwaysFollowSources, JoinsAlwaysOverSources}
 use Rattle.entry_laws.proofs.source_order.Holding as held

@@ -1,0 +1,3 @@
+//! One induction over runs: what holds of each packet that was sent, of each node that is up and of each record holds of every
+//! scene, where a step keeps it. The laws that stand on it say these three things, and what a step does. No code is here.
+#![tactic(auto)]
