@@ -1,5 +1,5 @@
 -- A daemon that serves no clients on other machines.
-use Rattle.std.proofs.Common.{◌≡◌, ℕ, Bool, true, false, List, [], ◌∷◌, Option, Some, None, refl, sym, ◌∙◌, ap}
+use Rattle.std.proofs.Common.{◌≡◌, ℕ, Bool, true, false, List, [], ◌∷◌, Option, Some, None, refl, ◌∙◌, ap}
 use Rattle.std.specs.Prelude.{option_map}
 use Rattle.hags_io.specs.declared.link.LinkCall.{LinkCall}
 use Rattle.node_state.specs.declared.config.Config.{Config}
@@ -8,8 +8,8 @@ use Rattle.node_state.specs.Bytes.{event_of}
 use Rattle.node_state.specs.HandOn.{Answering}
 use Rattle.node_state.specs.Step.{NodeEvent, Ticks, Calls, stepped}
 use Rattle.remote_clients.specs.declared.sessions.Sessions.{Sessions}
-use Rattle.remote_clients.specs.Sessions.{sessions_new, noted_all}
-use Rattle.daemon_model.specs.Daemon.{Daemon, Opening, Turn, Life, left_for, stepped_for, stepped_by, sessions_if, begun_for, opened, opened_all, is_due, ticked_if, ticked, joined_by, received, given, up_in, brought, given_on, network_of, heard, turned, turned_all, lived}
+use Rattle.remote_clients.specs.Sessions.{noted_all}
+use Rattle.daemon_model.specs.Daemon.{Daemon, Opening, Turn, Life, left_for, stepped_for, sessions_if, begun_for, opened, opened_all, is_due, ticked_if, ticked, joined_by, received, given, up_in, brought, given_on, network_of, heard, turned, turned_all, lived}
 
 abbrev pub IsAlone : Daemon → Type 0
 IsAlone d = d.sessions ≡ None

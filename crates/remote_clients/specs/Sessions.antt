@@ -1,5 +1,5 @@
 -- A daemon's end of all remote sessions, with their clients.
-use Rattle.std.specs.Prelude.{ℕ, Bool, true, false, not, List, [], ◌∷◌, fold, Option, Some, None, if◌then◌else◌}
+use Rattle.std.specs.Prelude.{ℕ, Bool, true, false, List, fold, Option, Some, None}
 use Rattle.std.specs.List.{list_any}
 use Rattle.node_state.specs.declared.call.CallLine.{CallLine}
 use Rattle.node_state.specs.declared.happened.Happened.{Happened}
