@@ -22,7 +22,7 @@ use Rattle.piece_link.specs.Answers.{Among}
 use Rattle.daemon_model.specs.Sent.{Exchange, AllSpelled}
 use Rattle.daemon_model.specs.Daemon.{Daemon, Opening, Turn, opened, ticked, turned, left_for, stepped_for}
 use Rattle.network_model.specs.Network.{Act, Begins, Opens, Turns, Ends, Net, no_net, made_since, skipped, begins, idles, starts, does_if, acted, net_after}
-use Rattle.network_model.specs.Fits.{WasSent, MayCome, IsSpelledSend, MayBegin, MayTurn, OfUp, MayAct, AllMayAct, NetworkRun}
+use Rattle.network_model.specs.Fits.{MayCome, IsSpelledSend, MayBegin, MayTurn, OfUp, MayAct, AllMayAct, NetworkRun}
 use Rattle.network_safety.specs.Safe.{answered_by, silent, idle_events, TurnEvents, ActEvents, AreEventsOf, NetworksOfDaemonsAreSafe}
 use Rattle.network_safety.specs.Served.{IsServed, Done, Ended, Broken, served_calls, Served, life_of, calls_of, WasTold, ServedDaemonsAreSafe}
 use Rattle.network_safety.proofs.Apart.{nodes_record_their_lives}

@@ -16,7 +16,7 @@ use Rattle.step_refinement.proofs.Changed.{set_here, set_there, each_set}
 use Rattle.world_safety.specs.Mirrors.{inc_at}
 use Rattle.piece_link.specs.Pieces.{Message}
 use Rattle.piece_link.specs.Answers.{Among, AreDistinct}
-use Rattle.daemon_model.specs.Sent.{Exchange, sent_calls}
+use Rattle.daemon_model.specs.Sent.{sent_calls}
 use Rattle.daemon_model.specs.Daemon.{Daemon, begun, left_for, begun_for}
 use Rattle.network_model.specs.Network.{Net, starts, ends, idles}
 use Rattle.network_safety.specs.Safe.{silent, idle_events}

@@ -28,7 +28,7 @@ use Rattle.network_safety.proofs.Messages.{among_left, message_of, messages_in, 
 use Rattle.network_safety.proofs.Joins.{IsJoinedOf}
 use Rattle.network_safety.proofs.WorldSteps.{Leaves}
 use Rattle.network_safety.proofs.Going.{More, made_is, noted_is}
-use Rattle.network_safety.proofs.Standing.{IsCore, stands_on, IsBefore, IsPast, IsUp, IsUpIf, IsPiece, IsMade, made_later, known_later, wire_past, Stand}
+use Rattle.network_safety.proofs.Standing.{IsCore, stands_on, IsBefore, IsPast, IsUp, IsUpIf, IsMade, made_later, known_later, wire_past, Stand}
 
 -- what a step adds
 pub step_more : (f : Answering) (e : NodeEvent) (d : Daemon) → More d (stepped_by f e d)

@@ -1,5 +1,5 @@
 -- A turn of a daemon: a tick where one is due, a receive, and the message that is whole by it.
-use Rattle.std.proofs.Common.{◌≡◌, ◌<◌, ◌^◌, ℕ, List, [], ◌∷◌, ◌++◌, Bool, true, false, Option, Some, None, refl, sym, ap, ◌∙◌, subst, inl, inr, append-nil, append_assoc}
+use Rattle.std.proofs.Common.{◌≡◌, ℕ, List, [], ◌∷◌, ◌++◌, Bool, true, false, Option, Some, None, refl, sym, ◌∙◌, subst, inl, inr, append-nil, append_assoc}
 use Rattle.std.specs.Prelude.{◌⊎◌}
 use Rattle.rsct_packet.specs.Search.{Has}
 use Rattle.hags_io.specs.declared.link.LinkCall.{LinkCall}
@@ -15,7 +15,7 @@ use Rattle.world_model.specs.World.{World}
 use Rattle.world_model.specs.declared.event.Event.TheVariants as event
 use Rattle.world_laws.specs.world_answers.Answers.{Answered, goes_on}
 use Rattle.step_refinement.proofs.Changed.{set_here}
-use Rattle.piece_link.specs.Pieces.{Message, Piece, piece_at, can_cut, pieces_of}
+use Rattle.piece_link.specs.Pieces.{Message, Piece, piece_at, pieces_of}
 use Rattle.piece_link.specs.Joining.{Joining, Joined, taken}
 use Rattle.piece_link.specs.Answers.{Among, CanBeCut, SameKey}
 use Rattle.piece_link.proofs.UnchangedLaw.{unchanged, answered_at_once}
@@ -23,13 +23,13 @@ use Rattle.daemon_model.specs.Sent.{Numbered, Exchange, plain, as_sent, IsSpelle
 use Rattle.daemon_model.specs.Daemon.{Daemon, Opening, Turn, stepped_by, opened, is_due, ticked_if, ticked, joined_by, received, given, heard, turned, left_for, stepped_for}
 use Rattle.daemon_model.proofs.AloneLaws.{IsAlone, tick_alone, heard_alone}
 use Rattle.network_model.specs.Network.{Net, made_since, went_on}
-use Rattle.network_model.specs.Fits.{IsQuestion, AsksAtMost, IsOfClient, IsSend, WasSent, MayCome, IsSpelledSend, MayTurn}
+use Rattle.network_model.specs.Fits.{IsQuestion, AsksAtMost, IsOfClient, IsSend, MayCome, IsSpelledSend, MayTurn}
 use Rattle.network_safety.specs.Safe.{answered_by, tick_events, TurnEvents}
 use Rattle.network_safety.proofs.Messages.{message_of, messages_in, in_messages, one_fits}
 use Rattle.network_safety.proofs.Quiet.{IsTalk}
 use Rattle.network_safety.proofs.Joins.{IsJoinedOf, more_joined, joined_on, whole_sent}
 use Rattle.network_safety.proofs.Going.{More, more_on, made_is, noted_is, goes_twice}
-use Rattle.network_safety.proofs.Standing.{IsKnown, IsUp, IsUpIf, IsPiece, IsMade, Wires, Stand, node_of}
+use Rattle.network_safety.proofs.Standing.{IsKnown, IsUpIf, IsPiece, IsMade, Wires, Stand, node_of}
 use Rattle.network_safety.proofs.Stepping.{own_up, step_stands, IsNoSend, keeps_stands, step_more}
 use Rattle.network_safety.proofs.Acts.{nothing_sent, ticks, Gives, IsKnownIf, none_given, message_gives}
 
