@@ -14,4 +14,4 @@ returns-in-Err-NoMemory-clause-memory g c = λ e.
 pub returns-then-self-ge-MOST_FAILED-clause-ended : goal.returns-then-self-ge-MOST_FAILED-clause-ended
 returns-then-self-ge-MOST_FAILED-clause-ended g c = λ e.
     let above : 16 ≤ c.turn.new.self.failed = omega arith in
-    turns_ended c.args.self.now c.loop.self c.turn.new.self c.loop.counter c.args.turns _ _ _ _ _ _ _ _ _ c.loop-test.true c.loop.invariant.done c.in-Ok.ensures.done above
+    turns_ended c.args.self.now c.loop.self c.turn.new.self c.loop.counter c.args.turns _ _ _ _ _ _ _ _ _ c.loop-test.true c.loop.invariant.done c.in-Ok-turn.ensures.done above
