@@ -62,16 +62,16 @@ module _ {C : Type 0} (calling : Option ℕ) where
     front = h.front;
   }
 
-  left_same : (r : Running C) (n : NodeView C) (before : List Exchange) (noted : List Happened) → left_for calling (daemon_of r before noted) n.core ≡ left_for calling (daemon_of (record r { node = n }) before noted) n.core
+  left_same : (r : Running C) (n : NodeView (Hosted C)) (before : List Exchange) (noted : List Happened) → left_for calling (daemon_of r before noted) n.core ≡ left_for calling (daemon_of (record r { node = n }) before noted) n.core
   unfolding left_for
   left_same r n before noted = refl
 
-  done_at : (r s : Running C) (n : NodeView C) (a b : Option (List LinkCall)) (x y : Option (List ℕ)) (e : NodeEvent) (f : Answering) → n.core ≡ stepped f r.node.core e → Settles calling (record r { node = n }) s a b x y → Goes r s a b x y (stepped_for calling f e)
+  done_at : (r s : Running C) (n : NodeView (Hosted C)) (a b : Option (List LinkCall)) (x y : Option (List ℕ)) (e : NodeEvent) (f : Answering) → n.core ≡ stepped f r.node.core e → Settles calling (record r { node = n }) s a b x y → Goes r s a b x y (stepped_for calling f e)
   done_at r s n a b x y e f core h =
       let g = settled_goes (record r { node = n }) s a b x y h in
       record { calls = g.calls; records = g.records; is = λ before noted. step_is r f n.core e before noted core ∙ (left_same r n before noted ∙ g.is before noted); made = g.made; written = g.written }
 
-  broke_at : (r : Running C) (n : NodeView C) (a b : Option (List LinkCall)) (x y : Option (List ℕ)) (e : NodeEvent) (f : Answering) → n.core ≡ stepped f r.node.core e → SettlesFront (record r { node = n }) a b x y → StepBreaks calling r a b x y e
+  broke_at : (r : Running C) (n : NodeView (Hosted C)) (a b : Option (List LinkCall)) (x y : Option (List ℕ)) (e : NodeEvent) (f : Answering) → n.core ≡ stepped f r.node.core e → SettlesFront (record r { node = n }) a b x y → StepBreaks calling r a b x y e
   broke_at r n a b x y e f core h = record {
     answers = f;
     breaks = λ before noted. subst (Broke before noted a b x y) (sym (step_is r f n.core e before noted core ∙ left_same r n before noted)) (settled_breaks (record r { node = n }) a b x y h before noted);

@@ -1,4 +1,4 @@
--- How a client of a daemon on another machine ends. Not checked yet.
+-- How a client of a daemon on another machine ends.
 use Rattle.std.proofs.Common.{◌≡◌, ℕ, List, length, ◌≤◌, true, Option, Some, None, IfSome, ◌∙◌, inr}
 use Rattle.std.specs.Io.KnownBytes.{IsAtEnd}
 use Rattle.hags_io.specs.Edges.{Rose}
@@ -10,11 +10,10 @@ use Rattle.world_model.specs.Reading.{IsScript, IsNone, input_limit}
 use Rattle.daemon_model.specs.Settings.{all_places}
 use Rattle.script_reader.specs.ClientScript.{client_script}
 use Rattle.client_run.specs.declared.serving.Usage.{Usage}
-use Rattle.client_run.specs.Running.{IsLost, IsFull}
 use Rattle.hags_cli.specs.declared.ending.Ending.{Ending}
 use Rattle.hags_cli.specs.declared.ending.Ending.TheVariants as ending
 use Rattle.hags_cli.specs.Run.{ReadsAs}
-use Rattle.hags_cli.specs.Tasks.{uses, Seen, Untouched, CallsEnd, UsesBy, UsesOver, UsesAll, WaitsOn, EndsSession, UsesPart, UsesNoMore, EndsAs}
+use Rattle.hags_cli.specs.Tasks.{uses, Seen, Untouched, CallsEnd, UsesBy, UsesOver, UsesAll, WaitsOn, LosesSession, FindsFull, UsesPart, UsesNoMore, EndsAs}
 use Rattle.hags_cli.proofs.LongInputs.{script_within_for}
 use Rattle.hags_cli.proofs.TaskLaws.{keeps_same, memory_ends}
 
@@ -61,11 +60,11 @@ module _ (u : Usage) (x : Seen) (s : Script) (spelled : IfSome x.left (λ b. cli
   pub uses_no_reply : UsesOver x u (WaitsOn x u) s → EndsAs ending.NoReply (Some (uses u)) x
   uses_no_reply h = used_by (UsesOver x u (WaitsOn x u)) h
 
-  pub uses_lost : UsesOver x u (EndsSession IsLost x u) s → EndsAs ending.SessionLost (Some (uses u)) x
-  uses_lost h = used_by (UsesOver x u (EndsSession IsLost x u)) h
+  pub uses_lost : UsesOver x u (LosesSession x u) s → EndsAs ending.SessionLost (Some (uses u)) x
+  uses_lost h = used_by (UsesOver x u (LosesSession x u)) h
 
-  pub uses_full : UsesOver x u (EndsSession IsFull x u) s → EndsAs ending.DaemonFull (Some (uses u)) x
-  uses_full h = used_by (UsesOver x u (EndsSession IsFull x u)) h
+  pub uses_full : UsesOver x u (FindsFull x u) s → EndsAs ending.DaemonFull (Some (uses u)) x
+  uses_full h = used_by (UsesOver x u (FindsFull x u)) h
 
   pub uses_no_more : Rose x.faults x.faults_now → UsesNoMore x u s → EndsAs ending.LinkFault (Some (uses u)) x
   uses_no_more rose h = (rose, used_by (UsesNoMore x u) h)

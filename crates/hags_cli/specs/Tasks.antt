@@ -31,7 +31,6 @@ use Rattle.client_run.specs.declared.serving.Usage.{Usage}
 use Rattle.client_run.specs.Running as used
 use Rattle.client_run.specs.Using as usage
 use Rattle.script_reader.specs.ClientScript.{client_script}
-use Rattle.remote_session.specs.declared.far.DownSeen.{DownSeen}
 use Rattle.hags_words.specs.declared.command.Command.{Command}
 use Rattle.hags_words.specs.declared.command.Command.TheVariants as command
 use Rattle.hags_words.specs.declared.help.TheConstants.{VERSION}
@@ -305,9 +304,13 @@ UsesAll x u lines c start = used.Answered lines c u.turns start x.calls_now x.he
 abbrev pub WaitsOn : Seen → Usage → List (List ℕ) → Client → Option (List LinkCall) → Type 0
 WaitsOn x u lines c start = used.Unanswered lines c u.turns start x.calls_now x.held x.now
 
--- the last turn ended its session so
-abbrev pub EndsSession : (DownSeen → Type 0) → Seen → Usage → List (List ℕ) → Client → Option (List LinkCall) → Type 0
-EndsSession P x u lines c start = used.Ended P lines c u.turns start x.calls_now x.held x.now
+-- the last turn brought word of another incarnation of the daemon
+abbrev pub LosesSession : Seen → Usage → List (List ℕ) → Client → Option (List LinkCall) → Type 0
+LosesSession x u lines c start = used.Ended used.IsLost lines c u.turns start x.calls_now x.held x.now
+
+-- the last turn brought word that the daemon keeps no more clients
+abbrev pub FindsFull : Seen → Usage → List (List ℕ) → Client → Option (List LinkCall) → Type 0
+FindsFull x u lines c start = used.Ended used.IsFull lines c u.turns start x.calls_now x.held x.now
 
 abbrev pub FailsOften : Seen → Usage → List (List ℕ) → Client → Option (List LinkCall) → Type 0
 FailsOften x u lines c start = used.Failing lines c u.turns start x.calls_now x.held x.now
@@ -408,12 +411,12 @@ NoReplyAs x _ = ⊥
 
 -- the daemon was started anew
 abbrev pub LostAs : Seen → Task → Type 0
-LostAs x (uses u) = UsesBy x u (UsesOver x u (EndsSession used.IsLost x u))
+LostAs x (uses u) = UsesBy x u (UsesOver x u (LosesSession x u))
 LostAs x _ = ⊥
 
 -- the daemon keeps no more clients
 abbrev pub FullAs : Seen → Task → Type 0
-FullAs x (uses u) = UsesBy x u (UsesOver x u (EndsSession used.IsFull x u))
+FullAs x (uses u) = UsesBy x u (UsesOver x u (FindsFull x u))
 FullAs x _ = ⊥
 
 -- the source tells what is left, and it is settings of the node

@@ -101,18 +101,6 @@ posted_paired (p ∷ ps) w k = posted_paired ps (posted w p) (record { counted =
     each q (inl e) = subst (λ (z : Packet). IsPaired z (pairs_with p w.pairs)) (sym e) (new_paired p w.pairs)
     each q (inr h) = old_paired p q w.pairs (k.paired q h)
 
--- what was sent before stays sent, and what is sent is
-pub posted_more : (ps : List Packet) (w : World) (p : Packet) → Has p w.sent → Has p (fold posted w ps).sent
-unfolding posted
-posted_more [] w p h = h
-posted_more (q ∷ ps) w p h = posted_more ps (posted w q) p (inr h)
-
-pub posted_new : (ps : List Packet) (w : World) (p : Packet) → Has p ps → Has p (fold posted w ps).sent
-unfolding posted
-posted_new [] w p h = absurd h
-posted_new (q ∷ ps) w p (inl e) = posted_more ps (posted w q) p (inl e)
-posted_new (q ∷ ps) w p (inr h) = posted_new ps (posted w q) p h
-
 -- ---- its number
 
 has_place : {A : Type 0} (x : A) (xs : List A) → Has x xs → (i : ℕ) × (i < length xs) × (slice_get xs i ≡ Some x)

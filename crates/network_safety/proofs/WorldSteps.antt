@@ -18,8 +18,8 @@ use Rattle.world_model.specs.World.{Script, Node, World, is_node, node_at, nodes
 use Rattle.world_laws.proofs.world_runs.Traces.{after_records}
 use Rattle.world_safety.specs.Mirrors.{core_in, core_at, inc_at, Once}
 use Rattle.world_safety.proofs.Finding.{is_me, not_me, with_here, with_there, put_here, put_there, out_here, out_there, starts_here, starts_there}
-use Rattle.world_safety.proofs.Posting.{posted_nodes, posted_starts}
-use Rattle.network_safety.proofs.Pairs.{AllPaired, posted_paired, posted_more, posted_new}
+use Rattle.world_safety.proofs.Posting.{posted_nodes, posted_starts, posted_more, posted_new}
+use Rattle.network_safety.proofs.Pairs.{AllPaired, posted_paired}
 
 -- a node comes to this core and incarnation, with these records more, and these packets sent; all else stays
 pub record Leaves (w v : World) (n : ℕ) (o : Option Core) (inc : ℕ) (rs : List Happened) (ps : List Packet) : Type 0 where

@@ -44,7 +44,7 @@ module _ (c : Config) (n : ℕ) where
     unfolding started_at traced
     first_start down =
         record {
-          mirrors = start_mirrors c w s o.mirrors n down s.sent (with_records s.before y.records) (λ p h. h);
+          mirrors = start_mirrors c w s o.mirrors n down s.sent (with_records s.before y.records) (λ p h. h) (λ p h. h);
           fresh = each_set (λ j q. q ≡ None → at_node s.incs n (s.incs n + 1) j ≡ 0) s.cores n (Some y) (λ e. absurd (cc)) (λ j ne e. set_there s.incs n (s.incs n + 1) j ne ∙ o.fresh j e);
           before = ap (λ b. with_records b y.records) o.before ∙ ap at_first (sym (onto_is y.records w.trace) ∙ ap (λ (z : Core). reverse_onto z.records w.trace) (same_start c w s o.mirrors n));
         }
@@ -73,7 +73,7 @@ all_open c (n ∷ ns) w s o = all_open c ns (node_starts w n) (starts_too s n (s
 none_open : (c : Config) → Opens c (empty_world c) (record (nothing_yet c) { before = at_first [] })
 none_open c =
     record {
-      mirrors = record { config = refl; scene_config = refl; cores = λ n. refl; incs = λ n. refl; once = tt; sent = λ p h. absurd h; paired = λ x h. absurd h };
+      mirrors = record { config = refl; scene_config = refl; cores = λ n. refl; incs = λ n. refl; once = tt; sent = λ p h. absurd h; came = λ p h. absurd h; paired = λ x h. absurd h };
       fresh = λ n e. refl;
       before = refl;
     }
@@ -90,7 +90,7 @@ pub record Begun (c : Config) (w : World) (mode : Mode) : Type 0 where
   pub before : scene.before ≡ history_of (beginning w mode)
 
 empty_begun : (c : Config) → Mirrors c (empty_world c) (nothing_yet c)
-empty_begun c = record { config = refl; scene_config = refl; cores = λ n. refl; incs = λ n. refl; once = tt; sent = λ p h. absurd h; paired = λ x h. absurd h }
+empty_begun c = record { config = refl; scene_config = refl; cores = λ n. refl; incs = λ n. refl; once = tt; sent = λ p h. absurd h; came = λ p h. absurd h; paired = λ x h. absurd h }
 
 begun_in : (c : Config) (mode : Mode) → c.mode ≡ mode → Begun c (world_of c mode) mode
 unfolding world_of

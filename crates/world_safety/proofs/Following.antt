@@ -39,7 +39,7 @@ use Rattle.step_refinement.proofs.RunLaw.{reached_rests}
 use Rattle.world_laws.specs.world_answers.Answers.{step_by, step_by_if, calls_by_if, delivers_by_if, happens_by}
 use Rattle.world_safety.specs.Events.{MayHappen}
 use Rattle.world_safety.specs.Mirrors.{core_in, inc_at, Mirrors}
-use Rattle.world_safety.proofs.Mirroring.{later_mirrors, handled_mirrors, step_mirrors, stop_mirrors, same_start, start_mirrors}
+use Rattle.world_safety.proofs.Mirroring.{started_sends, later_mirrors, handled_mirrors, step_mirrors, stop_mirrors, same_start, start_mirrors}
 use Rattle.world_safety.proofs.Posting.{kth_is}
 
 -- the packet that a node is given is that which the event names
@@ -108,7 +108,7 @@ module _ (c : Config) (w : World) (s : Scene) (k : Reached c s) (m : Mirrors c w
         given = λ z. z;
         played = λ z. played.Notes s e rs z notes;
         recounted = λ z. recounted.Notes s e rs z notes down;
-        mirrors = record { config = m.config; scene_config = m.scene_config; cores = m.cores; incs = m.incs; once = m.once; sent = m.sent; paired = m.paired };
+        mirrors = record { config = m.config; scene_config = m.scene_config; cores = m.cores; incs = m.incs; once = m.once; sent = m.sent; came = m.came; paired = m.paired };
         records = rs;
         before = refl;
         trace = refl;
@@ -184,7 +184,7 @@ module _ (c : Config) (w : World) (s : Scene) (k : Reached c s) (m : Mirrors c w
           given = λ z. z;
           played = λ z. played.Starts s n v z (free_there free) real (m.cores n ∙ ap core_in down);
           recounted = λ z. recounted.Starts s n v z (free_there free) real (m.cores n ∙ ap core_in down) uncalled;
-          mirrors = start_mirrors c w s m n down (y.sends ++ s.sent) (over v y ∷ s.before) (λ p h. append_has_right p y.sends s.sent h);
+          mirrors = start_mirrors c w s m n down (y.sends ++ s.sent) (over v y ∷ s.before) (λ p h. append_has_right p y.sends s.sent h) (λ p h. subst (λ l. Has p (l ++ s.sent)) (started_sends s.config n (s.incs n + 1)) h);
           records = y.records;
           before = refl;
           trace = ap (λ (z : Core). reverse_onto z.records w.trace) (sym (same_start c w s m n));

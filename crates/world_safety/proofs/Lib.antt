@@ -17,3 +17,4 @@ pub mod SteadyRuns
 pub mod HeardStates
 pub mod Samples
 pub mod Asking
+pub mod Forgetting

@@ -1,9 +1,9 @@
 -- The scene goes on standing for the world: a node starts, stops, takes a step.
-use Rattle.std.proofs.Common.{◌≡◌, ℕ, ◌+◌, List, [], ◌++◌, Some, None, Bool, refl, sym, ap, ◌∙◌, subst}
-use Rattle.std.specs.Prelude.{find, nat_lt}
+use Rattle.std.proofs.Common.{◌≡◌, ◌⊎◌, ℕ, ◌+◌, List, [], ◌++◌, Some, None, Bool, refl, sym, ap, ◌∙◌, subst, inl, inr}
+use Rattle.std.specs.Prelude.{find, fold, nat_lt}
 use Rattle.rsct_packet.specs.Lists.{drop_where}
 use Rattle.rsct_packet.specs.Search.{Has, insert_before}
-use Rattle.rsct_packet.proofs.HasLaws.{append_has_left, append_has_right}
+use Rattle.rsct_packet.proofs.HasLaws.{has_append, append_has_left, append_has_right}
 use Rattle.node_state.specs.declared.config.Config.{Config}
 use Rattle.node_state.specs.declared.happened.Happened.{Happened}
 use Rattle.node_state.specs.declared.packet.Packet.{Packet}
@@ -12,25 +12,30 @@ use Rattle.node_state.specs.State.{with_sessions}
 use Rattle.node_state.specs.Applying.{level_set}
 use Rattle.node_state.specs.Step.{started}
 use Rattle.view_state.specs.Views.{views_new}
-use Rattle.world_model.specs.World.{Script, Node, World, is_node, nodes_with, handled, traced, after_step, starts_with, started_at}
+use Rattle.world_model.specs.World.{posted, Script, Node, World, is_node, nodes_with, handled, traced, after_step, starts_with, started_at}
 use Rattle.run_safety.specs.Past.{History}
 use Rattle.step_refinement.specs.Tied.{Scene}
 use Rattle.step_refinement.specs.Rules.{at_node}
 use Rattle.step_refinement.proofs.Changed.{each_set}
 use Rattle.world_safety.specs.Mirrors.{core_in, core_at, inc_at, Once, Mirrors}
 use Rattle.world_safety.proofs.Finding.{is_me, not_me, with_here, with_there, once_with, put_here, put_there, once_put, out_here, out_there, once_out, starts_here, starts_there}
-use Rattle.world_safety.proofs.Posting.{posted_config, posted_nodes, posted_starts, posted_sent, posted_pairs}
+use Rattle.world_safety.proofs.Posting.{posted_config, posted_nodes, posted_starts, posted_sent, posted_more, posted_new, posted_pairs}
+
+-- a node that starts has sent nothing yet
+pub started_sends : (c : Config) (n j : ℕ) → (started c n j).sends ≡ []
+unfolding started with_sessions
+started_sends c n j = refl
 
 module _ (c : Config) (w : World) (s : Scene) (m : Mirrors c w s) where
   -- the event's place in the history says nothing of the world
   pub later_mirrors : (before : History) → Mirrors c w (record s { before = before })
   later_mirrors before =
-      record { config = m.config; scene_config = m.scene_config; cores = m.cores; incs = m.incs; once = m.once; sent = m.sent; paired = m.paired }
+      record { config = m.config; scene_config = m.scene_config; cores = m.cores; incs = m.incs; once = m.once; sent = m.sent; came = m.came; paired = m.paired }
 
   pub handled_mirrors : (a b k : ℕ) → Mirrors c (handled w a b k) s
   unfolding handled
   handled_mirrors a b k =
-      record { config = m.config; scene_config = m.scene_config; cores = m.cores; incs = m.incs; once = m.once; sent = m.sent; paired = m.paired }
+      record { config = m.config; scene_config = m.scene_config; cores = m.cores; incs = m.incs; once = m.once; sent = m.sent; came = m.came; paired = m.paired }
 
   module _ (n : ℕ) where
     -- a step is over
@@ -44,6 +49,7 @@ module _ (c : Config) (w : World) (s : Scene) (m : Mirrors c w s) where
           incs = λ j. m.incs j ∙ ap (λ ss. inc_at ss j) (sym (posted_starts y.sends mid));
           once = subst Once (sym (posted_nodes y.sends mid)) (once_with z w.nodes m.once);
           sent = posted_sent (λ p. Has p (y.sends ++ s.sent)) y.sends mid (λ p h. append_has_left p y.sends s.sent h) (λ p h. append_has_right p y.sends s.sent (m.sent p h));
+          came = λ p h. brought p (has_append p y.sends s.sent h);
           paired = posted_pairs (λ p. Has p (y.sends ++ s.sent)) y.sends mid (λ p h. append_has_left p y.sends s.sent h) (λ a i p h. append_has_right p y.sends s.sent (m.paired a i p h));
         }
       where
@@ -56,6 +62,10 @@ module _ (c : Config) (w : World) (s : Scene) (m : Mirrors c w s) where
         mid : World
         mid = traced (record w { nodes = nodes }) y.records
 
+        brought : (p : Packet) → Has p y.sends ⊎ Has p s.sent → Has p (fold posted mid y.sends).sent
+        brought p (inl h) = posted_new y.sends mid p h
+        brought p (inr h) = posted_more y.sends mid p (m.came p h)
+
     -- the node stops
     pub stop_mirrors : (rs : List Happened) (before : History) → Mirrors c (traced (record w { nodes = drop_where (is_node n) w.nodes }) rs) (record s { cores = at_node s.cores n None; before = before })
     unfolding traced
@@ -67,6 +77,7 @@ module _ (c : Config) (w : World) (s : Scene) (m : Mirrors c w s) where
           incs = m.incs;
           once = once_out n w.nodes m.once;
           sent = m.sent;
+          came = m.came;
           paired = m.paired;
         }
 
@@ -79,9 +90,9 @@ module _ (c : Config) (w : World) (s : Scene) (m : Mirrors c w s) where
     same_start =
         ap (λ k. started k n (s.incs n + 1)) (m.scene_config ∙ sym m.config) ∙ ap (λ i. started w.config n (i + 1)) (m.incs n)
 
-    pub start_mirrors : find (is_node n) w.nodes ≡ None → (sent : List Packet) (before : History) → ((p : Packet) → Has p s.sent → Has p sent) → Mirrors c (started_at w n (inc_at w.starts n + 1)) (record s { cores = at_node s.cores n (Some (started s.config n (s.incs n + 1))); incs = at_node s.incs n (s.incs n + 1); sent = sent; before = before })
+    pub start_mirrors : find (is_node n) w.nodes ≡ None → (sent : List Packet) (before : History) → ((p : Packet) → Has p s.sent → Has p sent) → ((p : Packet) → Has p sent → Has p s.sent) → Mirrors c (started_at w n (inc_at w.starts n + 1)) (record s { cores = at_node s.cores n (Some (started s.config n (s.incs n + 1))); incs = at_node s.incs n (s.incs n + 1); sent = sent; before = before })
     unfolding started_at traced
-    start_mirrors down sent before more =
+    start_mirrors down sent before more less =
         record {
           config = m.config;
           scene_config = m.scene_config;
@@ -89,6 +100,7 @@ module _ (c : Config) (w : World) (s : Scene) (m : Mirrors c w s) where
           incs = each_set (λ j i. i ≡ inc_at (starts_with w.starts n inc) j) s.incs n (s.incs n + 1) (ap (λ i. i + 1) (m.incs n) ∙ sym (starts_here n inc w.starts)) (λ j ne. m.incs j ∙ sym (starts_there n inc j ne w.starts));
           once = once_put z test w.nodes (subst (λ k. find (is_node k) w.nodes ≡ None) (sym me) down) m.once;
           sent = λ p h. more p (m.sent p h);
+          came = λ p h. m.came p (less p h);
           paired = λ x i p h. more p (m.paired x i p h);
         }
       where

@@ -21,6 +21,18 @@ unfolding posted
 posted_starts [] w = refl
 posted_starts (p ∷ ps) w = posted_starts ps (posted w p)
 
+-- what was sent before stays sent, and what is sent is
+pub posted_more : (ps : List Packet) (w : World) (p : Packet) → Has p w.sent → Has p (fold posted w ps).sent
+unfolding posted
+posted_more [] w p h = h
+posted_more (q ∷ ps) w p h = posted_more ps (posted w q) p (inr h)
+
+pub posted_new : (ps : List Packet) (w : World) (p : Packet) → Has p ps → Has p (fold posted w ps).sent
+unfolding posted
+posted_new [] w p h = absurd h
+posted_new (q ∷ ps) w p (inl e) = posted_more ps (posted w q) p (inl e)
+posted_new (q ∷ ps) w p (inr h) = posted_new ps (posted w q) p h
+
 -- what holds of each packet between two nodes
 abbrev pub OfPairs : (Packet → Type 0) → List Pair → Type 0
 OfPairs K pairs = (x : Pair) → Has x pairs → (p : Packet) → Has p x.packets → K p

@@ -24,7 +24,7 @@ abbrev pub Once : List Node → Type 0
 Once [] = Unit {0}
 Once (x ∷ xs) = (find (is_node x.core.views.me) xs ≡ None) × Once xs
 
--- the scene has each node as it is in the world, each incarnation, and all packets, also those between two nodes
+-- the scene has each node as it is in the world, each incarnation, and all packets, also those between two nodes; and no others
 pub record Mirrors (c : Config) (w : World) (s : Scene) : Type 0 where
   pub config : w.config ≡ c
   pub scene_config : s.config ≡ c
@@ -32,4 +32,5 @@ pub record Mirrors (c : Config) (w : World) (s : Scene) : Type 0 where
   pub incs : (n : ℕ) → s.incs n ≡ inc_at w.starts n
   pub once : Once w.nodes
   pub sent : (p : Packet) → Has p w.sent → Has p s.sent
+  pub came : (p : Packet) → Has p s.sent → Has p w.sent
   pub paired : (x : Pair) → Has x w.pairs → (p : Packet) → Has p x.packets → Has p s.sent

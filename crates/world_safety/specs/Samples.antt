@@ -5,6 +5,7 @@ use Rattle.rsct_packet.specs.declared.ids.Member.{Member}
 use Rattle.rsct_packet.specs.declared.ids.ProviderId.{ProviderId}
 use Rattle.group_attr.specs.Attrs.{empty_attrs}
 use Rattle.group_attr.specs.declared.attrs.Attrs.{Attrs}
+use Rattle.group_attr.specs.declared.attrs.Phases.TheVariants.{One}
 use Rattle.proposal_core.specs.declared.proposal.Proposal.{Proposal}
 use Rattle.proposal_core.specs.declared.proposal.Proposal.TheVariants as proposal
 use Rattle.proposal_core.specs.declared.entry.Entry.{Entry}
@@ -14,15 +15,19 @@ use Rattle.node_state.specs.declared.config.Config.{Config}
 use Rattle.node_state.specs.declared.config.Mode.TheVariants.{Fixed, Asked}
 use Rattle.node_state.specs.declared.happened.Happened.{Happened}
 use Rattle.node_state.specs.declared.happened.Happened.TheVariants as happened
-use Rattle.node_state.specs.declared.packet.Body.TheVariants.{Lookup}
+use Rattle.node_state.specs.declared.packet.Body.TheVariants as body
 use Rattle.node_state.specs.declared.packet.Packet.{Packet}
+use Rattle.node_state.specs.declared.state.Core.{Core}
+use Rattle.node_state.specs.State.{row_of}
 use Rattle.world_model.specs.declared.event.Event.{Event}
 use Rattle.world_model.specs.declared.event.Event.TheVariants as event
 use Rattle.world_model.specs.Run.{Happening}
 use Rattle.world_model.specs.Load.{settings_of, mask_of}
 use Rattle.run_safety.specs.Past.{History, history_of}
-use Rattle.world_laws.specs.world_answers.Answers.{all_worded}
+use Rattle.world_laws.specs.world_answers.Answers.{answered_after, all_worded}
+use Rattle.entry_laws.specs.closing_rows.Rows.{start_in}
 use Rattle.world_safety.specs.Events.{run_of_events}
+use Rattle.world_safety.specs.Mirrors.{core_at}
 
 -- what is recorded, the latest event first, where the clients vote by their words
 unfoldable pub history_after : Config → List Event → History
@@ -152,7 +157,7 @@ two_view = record { number = 2; coord = 1; inc = 1 }
 
 -- a node asks node 1 who leads the group
 abbrev pub lookup_of : ℕ → Packet
-lookup_of asker = record { network = 1; from = asker; to = 1; inc = 1; level = 1; domain = 0; body = Lookup two_view db }
+lookup_of asker = record { network = 1; from = asker; to = 1; inc = 1; level = 1; domain = 0; body = body.Lookup two_view db }
 
 -- node 1 asks for a view of both; a client of node 2 joins, and node 2 asks who leads
 unfoldable pub until_asked : List Event
@@ -209,7 +214,36 @@ two_asked leader follower =
     ∷ alone 1
     ∷ []
 
+-- ---- what a member forgets: two nodes, in mode fixed
+
+abbrev pub pair : Config
+pair = settings_of Fixed (1 ∷ 2 ∷ [])
+
+abbrev pub hello : List ℕ
+hello = codes "hello"
+
+-- a client of node 1 joins; node 2 takes the entry and acknowledges it; then the client sends a message, which node 2 takes
+unfoldable pub two_entries : List Event
+two_entries =
+    comes 1 (codes "a") ∷ joins 1 (codes "a") db 7 empty_attrs ∷ event.Deliver 1 1 1 ∷ event.Deliver 1 2 1 ∷ event.Deliver 2 1 1 ∷ event.Call 1 (call.SendMessage (codes "a") db One hello) ∷ event.Deliver 1 1 2 ∷ event.Deliver 1 2 2 ∷ []
+
+-- the entry at place 1, with the place below which all have acknowledged
+abbrev pub second_entry : Packet
+second_entry =
+    record { network = 1; from = 1; to = 2; inc = 1; level = 1; domain = 0; body = body.Entry one_view db 1 1 (Once (proposal.Message first_joiner 2 hello)) }
+
+unfoldable pub sent_after : Config → List Event → List Packet
+sent_after c es = (answered_after c (all_worded c es)).sent
+
+abbrev pub start_of_node : Option Core → List ℕ → ℕ
+start_of_node None g = 0
+start_of_node (Some s) g = start_in (row_of s g).list
+
+-- where the node's list of the group starts then
+unfoldable pub start_after : Config → List Event → ℕ → List ℕ → ℕ
+start_after c es n g = start_of_node (core_at (answered_after c (all_worded c es)).nodes n) g
+
 -- opens each word of this file, for a computation
 unfoldable pub samples_opens : Unit {0}
-unfolding history_after two_join two_joined target_joins target_joined until_asked after_asked two_ask two_asked
+unfolding history_after two_join two_joined target_joins target_joined until_asked after_asked two_ask two_asked two_entries sent_after start_after
 samples_opens = tt

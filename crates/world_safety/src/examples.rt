@@ -3,10 +3,11 @@
 ghost use Rattle.std.specs.Prelude.{◌≡◌, Some, None};
 ghost use Rattle.group_attr.specs.Attrs.{empty_attrs};
 ghost use Rattle.run_safety.specs.Past.{EachRecord};
+ghost use Rattle.entry_laws.specs.closing_rows.Rows.{WasTold};
 ghost use Rattle.entry_laws.specs.source_order.Sources.{FirstsFollowSources};
 ghost use Rattle.world_laws.specs.world_answers.Answers.{all_worded};
 ghost use Rattle.world_safety.specs.Askers.{FirstAsks, RecordLed};
-ghost use Rattle.world_safety.specs.Samples.{history_after, db, one, two_join, two_joined, limited, target_joins, target_joined, sourced, two, two_view, two_ask, two_asked};
+ghost use Rattle.world_safety.specs.Samples.{history_after, db, one, two_join, two_joined, limited, target_joins, target_joined, sourced, two, two_view, two_ask, two_asked, pair, one_view, two_entries, sent_after, start_after};
 
 /// Two clients join a group, one after the other: the entry of the first has the attributes that it asked for, since the group
 /// was empty and idle, and that of the second has the group's.
@@ -47,4 +48,17 @@ pub fn first_asker_leads()
 #[tactic(auto, using(crate::proofs::Asking::first_node_leads))]
 pub fn another_leader_is_refused()
     ensures { EachRecord (RecordLed 2 two_view db) (two_asked 1 2) → ⊥ }
+{}
+
+/// A member takes two entries. With the second one it is told that all members hold the first, and that one it forgets.
+#[tactic(auto, using(crate::proofs::Forgetting::member_starts, crate::proofs::Forgetting::member_was_told))]
+pub fn member_forgets_what_it_was_told()
+    ensures starts { start_after pair two_entries 2 db ≡ 1 }
+    ensures accepted { WasTold (sent_after pair two_entries) 2 one_view db 1 }
+{}
+
+/// Where it forgot at its own length, it forgot what it was not told to.
+#[tactic(auto, using(crate::proofs::Forgetting::own_length_was_not_told))]
+pub fn forgetting_at_its_length_is_refused()
+    ensures { WasTold (sent_after pair two_entries) 2 one_view db 2 → ⊥ }
 {}

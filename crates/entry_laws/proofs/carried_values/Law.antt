@@ -113,11 +113,15 @@ started_told : (rs : List Happened) (c : Config) (n j : ℕ) → CoreTold rs (st
 unfolding started with_sessions level_set views_new
 started_told rs c n j = record { kept = λ k i. absurd i; tallies = λ g. inl refl }
 
+-- nothing is said of what was sent
+abbrev Node : List Packet → List Happened → Core → Type 0
+Node ps rs s = CoreTold rs s
+
 abbrev Sent : List Happened → Packet → Type 0
 Sent rs p = BodyTold rs p.body
 
 -- a step
-step_done : (w : Scene) (n : ℕ) (f : Answering) (s : Core) (e : NodeEvent) (v : Event) → w.cores n ≡ Some s → ((g : List ℕ) → Rests g w) → ((g : List ℕ) → Rests g (ended w n v (stepped f s e))) → Arises w e → Holds Sent CoreTold Evident w → CoreTold (records_of w.before) s → Done Sent CoreTold Evident w (stepped f s e)
+step_done : (w : Scene) (n : ℕ) (f : Answering) (s : Core) (e : NodeEvent) (v : Event) → w.cores n ≡ Some s → ((g : List ℕ) → Rests g w) → ((g : List ℕ) → Rests g (ended w n v (stepped f s e))) → Arises w e → Holds Sent Node Evident w → CoreTold (records_of w.before) s → Done Sent Node Evident w (stepped f s e)
 step_done w n f s e v up rests after arises k c =
     let now : Scene = ended w n v (stepped f s e) in
     let a : At (course w) Every NoGroup (stepped f s e) = at_stepped w n f s e k.sent (λ h. begin_tied h w n s up (rests h)) arises begin in
@@ -138,21 +142,21 @@ step_done w n f s e v up rests after arises k c =
           led = λ g z. absurd z;
         }
 
-carried : Invariant Sent CoreTold Evident
+carried : Invariant Sent Node Evident
 carried =
     record {
       sent_on = λ rs ts more p k. body_on rs ts more p.body k;
-      node_on = core_on;
-      starts = started_told;
+      node_on = λ ps qs sent. core_on;
+      starts = λ ps. started_told;
       quiet = none_evident;
       steps = step_done;
     }
 
-told : (c : Config) (w : Scene) → Reached c w → Holds Sent CoreTold Evident w
-told = reached_holds Sent CoreTold Evident carried
+told : (c : Config) (w : Scene) → Reached c w → Holds Sent Node Evident w
+told = reached_holds Sent Node Evident carried
 
 core_told : (c : Config) (w : Scene) → Reached c w → (n : ℕ) (s : Core) → w.cores n ≡ Some s → CoreTold (records_of w.before) s
-core_told = node_holds Sent CoreTold Evident carried
+core_told = node_holds Sent Node Evident carried
 
 pub first_ballots_carry : FirstBallotsAlwaysCarry
 first_ballots_carry c w k = (all_carry w.before (told c w k).lines).0

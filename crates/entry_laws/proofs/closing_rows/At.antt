@@ -1,5 +1,5 @@
 -- In the middle of a step: the tallies of a node are of the voters of the states that its lists have, these states are those
--- of its records, and the rows of what it put are right.
+-- of its records, the rows of what it put are right, and its lists lack at their front what it was told to forget.
 use Rattle.std.proofs.Common.{◌≡◌, ◌⊎◌, ℕ, ◌+◌, suc, List, [], ◌∷◌, ◌++◌, length, take, Option, Some, None, Bool, true, false, refl, sym, ap, ◌∙◌, subst, inl, inr, append_assoc, append-nil, length-append, arith}
 use Rattle.std.specs.Prelude.{◌==◌, ◌&&◌, fold, find, reverse, if◌then◌else◌}
 use Rattle.std.specs.Str.{bytes_eq}
@@ -26,7 +26,7 @@ use Rattle.node_state.specs.State.{InNameOrder, row_found, row_of, with_row, lis
 use Rattle.node_state.specs.Leading.{put}
 use Rattle.run_safety.specs.Past.{History, earlier, Within, is_list, puts_of, base_of, fold_from, state_at, state_now}
 use Rattle.node_state.proofs.NameOrder.{KeepsName, cases_text, text_self, text_other, row_here, row_there, rows_ordered}
-use Rattle.entry_laws.specs.closing_rows.Rows.{HasRows, TallyFits}
+use Rattle.entry_laws.specs.closing_rows.Rows.{HasRows, TallyFits, start_in, WasTold}
 use Rattle.entry_laws.proofs.closing_rows.Entered.{Since}
 
 -- the node leads a group with this row
@@ -44,9 +44,27 @@ leads_is s g = refl
 abbrev pub RowIs : Bool → GroupRow → Type 0
 RowIs led row = (row.led.tally ≡ None) ⊎ ((led ≡ true) × TallyFits row.led.tally (state_in row.list))
 
+-- a list starts at 0, or the node leads the group, or it was told the place
+abbrev pub StartIs : (ℕ → Type 0) → Bool → Option GroupView → Type 0
+StartIs told led l = (start_in l ≡ 0) ⊎ ((led ≡ true) ⊎ told (start_in l))
+
+-- what the node was told of the group in its view, by what was sent
+abbrev pub ToldOf : List Packet → Core → List ℕ → ℕ → Type 0
+ToldOf sent s g = WasTold sent s.views.me s.views.view g
+
+-- what was told stays told
+pub told_more : (sent more : List Packet) → ((p : Packet) → Has p sent → Has p more) → {n : ℕ} {v : ViewId} {g : List ℕ} {k : ℕ} → WasTold sent n v g k → WasTold more n v g k
+told_more sent more all t = record { packet = t.packet; there = all t.packet t.there; to = t.to; place = t.place; entry = t.entry; says = t.says }
+
+-- what was sent before a step, and the history until then
+pub record Frame : Type 0 where
+  pub history : History
+  pub sent : List Packet
+
 -- T: the groups whose tally is of the phase that runs; G: those that the node leads
-pub record Rows (T G : List ℕ → Type 0) (s : Core) : Type 0 where
+pub record Rows (sent : List Packet) (T G : List ℕ → Type 0) (s : Core) : Type 0 where
   pub order : InNameOrder s.groups
+  pub starts : (g : List ℕ) → StartIs (ToldOf sent s g) (leads_row s (found s g)) (found s g).list
   pub tallies : (g : List ℕ) → T g → RowIs (leads_row s (found s g)) (found s g)
   pub led : (g : List ℕ) → G g → leads_row s (found s g) ≡ true
 
@@ -78,10 +96,10 @@ pub record StateIs (n : ℕ) (v : ViewId) (g : List ℕ) (l : Option GroupView) 
   pub state : state_in l ≡ state_now n v g rs
   pub len : len_in l ≡ length (puts_of n v g rs)
 
-pub record At (h : History) (T G : List ℕ → Type 0) (s : Core) : Type 0 where
-  pub rows : Rows T G s
-  pub facts : Facts h (reverse s.records)
-  pub states : Fresh (reverse s.records) h → (g : List ℕ) → StateIs s.views.me s.views.view g (found s g).list (earlier (reverse s.records) h)
+pub record At (h : Frame) (T G : List ℕ → Type 0) (s : Core) : Type 0 where
+  pub rows : Rows h.sent T G s
+  pub facts : Facts h.history (reverse s.records)
+  pub states : Fresh (reverse s.records) h.history → (g : List ℕ) → StateIs s.views.me s.views.view g (found s g).list (earlier (reverse s.records) h.history)
 
 -- what changes no list and enters no view
 abbrev pub Silent : Happened → Type 0
@@ -177,10 +195,10 @@ calm_fold f one [] c = calm_self c
 calm_fold f one (x ∷ xs) c = calm_then c (f c x) (fold f (f c x) xs) (one c x) (calm_fold f one xs (f c x))
 
 -- a row changes
-pub rows_for : (T G U : List ℕ → Type 0) (s : Core) (g : List ℕ) (f : GroupRow → GroupRow) → KeepsName f → ((x : GroupRow) → (f x).leader ≡ x.leader) → ((k : List ℕ) → U k → (g ≡ k → ⊥) → T k) → (U g → RowIs (leads_row s (found s g)) (f (found s g))) → Rows T G s → Rows U G (with_row s g f)
+pub rows_for : (sent : List Packet) (T G U : List ℕ → Type 0) (s : Core) (g : List ℕ) (f : GroupRow → GroupRow) → KeepsName f → ((x : GroupRow) → (f x).leader ≡ x.leader) → ((k : List ℕ) → U k → (g ≡ k → ⊥) → T k) → (U g → RowIs (leads_row s (found s g)) (f (found s g))) → StartIs (ToldOf sent s g) (leads_row s (found s g)) (f (found s g)).list → Rows sent T G s → Rows sent U G (with_row s g f)
 unfolding with_row row_of
-rows_for T G U s g f keeps leader others own a =
-    record { order = rows_ordered g f keeps s a.order; tallies = λ k u. tally k u (cases_text g k); led = λ k i. leads k i (cases_text g k) }
+rows_for sent T G U s g f keeps leader others own begins a =
+    record { order = rows_ordered g f keeps s a.order; starts = λ k. start k (cases_text g k); tallies = λ k u. tally k u (cases_text g k); led = λ k i. leads k i (cases_text g k) }
   where
     here : found (with_row s g f) g ≡ f (found s g)
     here = row_here g f keeps s a.order
@@ -196,6 +214,11 @@ rows_for T G U s g f keeps leader others own a =
         subst (λ z. RowIs (leads_row s (found (with_row s g f) z)) (found (with_row s g f) z)) e (subst (λ z. RowIs (leads_row s z) z) (sym here) (subst (λ b. RowIs b (f (found s g))) (sym lead) (own (subst U (sym e) u))))
     tally k u (inr ne) = subst (λ z. RowIs (leads_row s z) z) (sym (there k ne)) (a.tallies k (others k u ne))
 
+    start : (k : List ℕ) → (g ≡ k) ⊎ (g ≡ k → ⊥) → StartIs (ToldOf sent s k) (leads_row s (found (with_row s g f) k)) (found (with_row s g f) k).list
+    start k (inl e) =
+        subst (λ z. StartIs (ToldOf sent s z) (leads_row s (found (with_row s g f) z)) (found (with_row s g f) z).list) e (subst (λ (z : GroupRow). StartIs (ToldOf sent s g) (leads_row s z) z.list) (sym here) (subst (λ b. StartIs (ToldOf sent s g) b (f (found s g)).list) (sym lead) begins))
+    start k (inr ne) = subst (λ (z : GroupRow). StartIs (ToldOf sent s k) (leads_row s z) z.list) (sym (there k ne)) (a.starts k)
+
     leads : (k : List ℕ) → G k → (g ≡ k) ⊎ (g ≡ k → ⊥) → leads_row s (found (with_row s g f) k) ≡ true
     leads k i (inl e) = subst (λ z. leads_row s (found (with_row s g f) z) ≡ true) e (ap (leads_row s) here ∙ lead ∙ a.led g (subst G (sym e) i))
     leads k i (inr ne) = ap (leads_row s) (there k ne) ∙ a.led k i
@@ -209,22 +232,22 @@ list_with P s g f keeps order here there k = by (cases_text g k)
     by (inl e) = subst (λ z. P z (found (with_row s g f) z).list) e (subst (λ (z : GroupRow). P g z.list) (sym (row_here g f keeps s order)) here)
     by (inr ne) = subst (λ (z : GroupRow). P k z.list) (sym (row_there g f keeps s k ne)) (there k ne)
 
-module _ (h : History) where
+module _ (h : Frame) where
   -- other groups
   pub at_for : (T G U V : List ℕ → Type 0) (s : Core) → ((g : List ℕ) → U g → T g) → ((g : List ℕ) → V g → leads_row s (found s g) ≡ true) → At h T G s → At h U V s
   at_for T G U V s less led a =
-      record { rows = record { order = a.rows.order; tallies = λ g t. a.rows.tallies g (less g t); led = led }; facts = a.facts; states = a.states }
+      record { rows = record { order = a.rows.order; starts = a.rows.starts; tallies = λ g t. a.rows.tallies g (less g t); led = led }; facts = a.facts; states = a.states }
 
   -- the entry is put at the end of a list
-  pub at_put_for : (T G U : List ℕ → Type 0) (s : Core) (g : List ℕ) (e : Entry) → PutFact (reverse s.records) h s.views.me s.views.view g (len_in (found s g).list) e → ((k : List ℕ) → U k → (g ≡ k → ⊥) → T k) → (U g → RowIs (leads_row s (found s g)) (record (found s g) { list = Some (with_entry (list_or_new (found s g).list) s.views.view e) })) → At h T G s → At h U G (put s g e)
-  unfolding put recorded with_row row_of len_of list_of
+  pub at_put_for : (T G U : List ℕ → Type 0) (s : Core) (g : List ℕ) (e : Entry) → PutFact (reverse s.records) h.history s.views.me s.views.view g (len_in (found s g).list) e → ((k : List ℕ) → U k → (g ≡ k → ⊥) → T k) → (U g → RowIs (leads_row s (found s g)) (record (found s g) { list = Some (with_entry (list_or_new (found s g).list) s.views.view e) })) → At h T G s → At h U G (put s g e)
+  unfolding put recorded with_row row_of len_of list_of with_entry
   at_put_for T G U s g e fact others own a =
       let f : GroupRow → GroupRow = λ row. record row { list = Some (with_entry (list_or_new row.list) s.views.view e) } in
-      let rows : Rows U G (with_row s g f) = rows_for T G U s g f (λ x. refl) (λ x. refl) others own a.rows in
+      let rows : Rows h.sent U G (with_row s g f) = rows_for h.sent T G U s g f (λ x. refl) (λ x. refl) others own (a.rows.starts g) a.rows in
       record {
-        rows = record { order = rows.order; tallies = rows.tallies; led = rows.led };
-        facts = subst (Facts h) (sym turned) (fact, a.facts);
-        states = λ fresh. subst (λ rs. (k : List ℕ) → StateIs s.views.me s.views.view k (found (with_row s g f) k).list (earlier rs h)) (sym turned) (new (subst (λ rs. Fresh rs h) turned fresh).1);
+        rows = record { order = rows.order; starts = rows.starts; tallies = rows.tallies; led = rows.led };
+        facts = subst (Facts h.history) (sym turned) (fact, a.facts);
+        states = λ fresh. subst (λ rs. (k : List ℕ) → StateIs s.views.me s.views.view k (found (with_row s g f) k).list (earlier rs h.history)) (sym turned) (new (subst (λ rs. Fresh rs h.history) turned fresh).1);
       }
     where
       r : Happened
@@ -233,9 +256,9 @@ module _ (h : History) where
       turned : reverse (s.records ++ r ∷ []) ≡ r ∷ reverse s.records
       turned = reverse-append s.records (r ∷ [])
 
-      new : Fresh (reverse s.records) h → (k : List ℕ) → StateIs s.views.me s.views.view k (found (with_row s g (λ row. record row { list = Some (with_entry (list_or_new row.list) s.views.view e) })) k).list (r ∷ earlier (reverse s.records) h)
+      new : Fresh (reverse s.records) h.history → (k : List ℕ) → StateIs s.views.me s.views.view k (found (with_row s g (λ row. record row { list = Some (with_entry (list_or_new row.list) s.views.view e) })) k).list (r ∷ earlier (reverse s.records) h.history)
       new fresh =
-          list_with (λ k l. StateIs s.views.me s.views.view k l (r ∷ earlier (reverse s.records) h)) s g (λ row. record row { list = Some (with_entry (list_or_new row.list) s.views.view e) }) (λ x. refl) a.rows.order (state_pushed s.views.me s.views.view g (found s g).list (earlier (reverse s.records) h) (len_in (found s g).list) e (a.states fresh g)) (λ k ne. state_beside s.views.me s.views.view k (found s k).list (earlier (reverse s.records) h) s.views.me s.views.view g (len_in (found s g).list) e ne (a.states fresh k))
+          list_with (λ k l. StateIs s.views.me s.views.view k l (r ∷ earlier (reverse s.records) h.history)) s g (λ row. record row { list = Some (with_entry (list_or_new row.list) s.views.view e) }) (λ x. refl) a.rows.order (state_pushed s.views.me s.views.view g (found s g).list (earlier (reverse s.records) h.history) (len_in (found s g).list) e (a.states fresh g)) (λ k ne. state_beside s.views.me s.views.view k (found s k).list (earlier (reverse s.records) h.history) s.views.me s.views.view g (len_in (found s g).list) e ne (a.states fresh k))
 
   module _ (T G : List ℕ → Type 0) where
     pub at_fold : {A : Type 0} (f : Core → A → Core) (xs : List A) → ((s : Core) (x : A) → Has x xs → At h T G s → At h T G (f s x)) → (s : Core) → At h T G s → At h T G (fold f s xs)
@@ -245,21 +268,21 @@ module _ (h : History) where
     pub at_calm : (c d : Core) → Calm c d → At h T G c → At h T G d
     at_calm c d k a =
         let x : At h T G (record c { groups = d.groups; views = d.views; config = d.config; records = d.records }) = subst (λ (z : List GroupRow × Views × Config × List Happened). At h T G (record c { groups = z.0; views = z.1; config = z.2; records = z.3 })) (λ i. (sym k.groups i, sym k.views i, sym k.config i, sym k.records i)) a in
-        record { rows = record { order = x.rows.order; tallies = x.rows.tallies; led = x.rows.led }; facts = x.facts; states = x.states }
+        record { rows = record { order = x.rows.order; starts = x.rows.starts; tallies = x.rows.tallies; led = x.rows.led }; facts = x.facts; states = x.states }
 
     -- the coordinator's table changes
     pub at_table : (s : Core) (table : List Leader) → At h T G s → At h T G (record s { names = table })
     at_table s table a =
-        record { rows = record { order = a.rows.order; tallies = a.rows.tallies; led = a.rows.led }; facts = a.facts; states = a.states }
+        record { rows = record { order = a.rows.order; starts = a.rows.starts; tallies = a.rows.tallies; led = a.rows.led }; facts = a.facts; states = a.states }
 
     pub at_recorded : (s : Core) (r : Happened) → Silent r → At h T G s → At h T G (recorded s r)
     unfolding recorded
     at_recorded s r silent a =
         let turned : reverse (s.records ++ r ∷ []) ≡ r ∷ reverse s.records = reverse-append s.records (r ∷ []) in
         record {
-          rows = record { order = a.rows.order; tallies = a.rows.tallies; led = a.rows.led };
-          facts = subst (Facts h) (sym turned) (silent_fact h (reverse s.records) r silent a.facts);
-          states = λ fresh. subst (λ rs. (k : List ℕ) → StateIs s.views.me s.views.view k (found s k).list (earlier rs h)) (sym turned) (λ k. silent_state s.views.me s.views.view k (found s k).list (earlier (reverse s.records) h) r silent (a.states (subst (λ rs. Fresh rs h) turned fresh).1 k));
+          rows = record { order = a.rows.order; starts = a.rows.starts; tallies = a.rows.tallies; led = a.rows.led };
+          facts = subst (Facts h.history) (sym turned) (silent_fact h.history (reverse s.records) r silent a.facts);
+          states = λ fresh. subst (λ rs. (k : List ℕ) → StateIs s.views.me s.views.view k (found s k).list (earlier rs h.history)) (sym turned) (λ k. silent_state s.views.me s.views.view k (found s k).list (earlier (reverse s.records) h.history) r silent (a.states (subst (λ rs. Fresh rs h.history) turned fresh).1 k));
         }
 
     pub at_recorded_all : (rs : List Happened) (s : Core) → ((r : Happened) → Has r rs → Silent r) → At h T G s → At h T G (recorded_all s rs)
@@ -271,9 +294,9 @@ module _ (h : History) where
     pub at_views : (s : Core) (v : Views) → v.me ≡ s.views.me → v.view ≡ s.views.view → At h T G s → At h T G (record s { views = v })
     at_views s v me at a =
         record {
-          rows = record { order = a.rows.order; tallies = λ g t. subst (λ b. RowIs b (found s g)) (same g) (a.rows.tallies g t); led = λ g t. sym (same g) ∙ a.rows.led g t };
+          rows = record { order = a.rows.order; starts = λ g. subst (λ (z : ℕ × ViewId × Bool). StartIs (WasTold h.sent z.0 z.1 g) z.2 (found s g).list) (λ i. (sym me i, sym at i, same g i)) (a.rows.starts g); tallies = λ g t. subst (λ b. RowIs b (found s g)) (same g) (a.rows.tallies g t); led = λ g t. sym (same g) ∙ a.rows.led g t };
           facts = a.facts;
-          states = λ fresh k. subst (λ (z : ℕ × ViewId). StateIs z.0 z.1 k (found s k).list (earlier (reverse s.records) h)) (λ i. (sym me i, sym at i)) (a.states fresh k);
+          states = λ fresh k. subst (λ (z : ℕ × ViewId). StateIs z.0 z.1 k (found s k).list (earlier (reverse s.records) h.history)) (λ i. (sym me i, sym at i)) (a.states fresh k);
         }
       where
         same : (g : List ℕ) → leads_row s (found s g) ≡ leads_row (record s { views = v }) (found s g)
@@ -281,25 +304,26 @@ module _ (h : History) where
 
     -- a row changes, whose list has the same state and length
     module _ (U : List ℕ → Type 0) where
-      pub at_row_for : (s : Core) (g : List ℕ) (f : GroupRow → GroupRow) → KeepsName f → ((x : GroupRow) → (f x).leader ≡ x.leader) → ((x : GroupRow) → state_in (f x).list ≡ state_in x.list) → ((x : GroupRow) → len_in (f x).list ≡ len_in x.list) → ((k : List ℕ) → U k → (g ≡ k → ⊥) → T k) → (U g → RowIs (leads_row s (found s g)) (f (found s g))) → At h T G s → At h U G (with_row s g f)
+      pub at_row_for : (s : Core) (g : List ℕ) (f : GroupRow → GroupRow) → KeepsName f → ((x : GroupRow) → (f x).leader ≡ x.leader) → ((x : GroupRow) → state_in (f x).list ≡ state_in x.list) → ((x : GroupRow) → len_in (f x).list ≡ len_in x.list) → ((k : List ℕ) → U k → (g ≡ k → ⊥) → T k) → (U g → RowIs (leads_row s (found s g)) (f (found s g))) → StartIs (ToldOf h.sent s g) (leads_row s (found s g)) (f (found s g)).list → At h T G s → At h U G (with_row s g f)
       unfolding with_row
-      at_row_for s g f keeps leader states lens others own a =
-          let rows : Rows U G (with_row s g f) = rows_for T G U s g f keeps leader others own a.rows in
+      at_row_for s g f keeps leader states lens others own begins a =
+          let rows : Rows h.sent U G (with_row s g f) = rows_for h.sent T G U s g f keeps leader others own begins a.rows in
           record {
-            rows = record { order = rows.order; tallies = rows.tallies; led = rows.led };
+            rows = record { order = rows.order; starts = rows.starts; tallies = rows.tallies; led = rows.led };
             facts = a.facts;
-            states = λ fresh. list_with (λ k l. StateIs s.views.me s.views.view k l (earlier (reverse s.records) h)) s g f keeps a.rows.order (let b = a.states fresh g in record { state = states (found s g) ∙ b.state; len = lens (found s g) ∙ b.len }) (λ k ne. a.states fresh k);
+            states = λ fresh. list_with (λ k l. StateIs s.views.me s.views.view k l (earlier (reverse s.records) h.history)) s g f keeps a.rows.order (let b = a.states fresh g in record { state = states (found s g) ∙ b.state; len = lens (found s g) ∙ b.len }) (λ k ne. a.states fresh k);
           }
 
-    pub at_row : (s : Core) (g : List ℕ) (f : GroupRow → GroupRow) → KeepsName f → ((x : GroupRow) → (f x).leader ≡ x.leader) → ((x : GroupRow) → state_in (f x).list ≡ state_in x.list) → ((x : GroupRow) → len_in (f x).list ≡ len_in x.list) → (T g → RowIs (leads_row s (found s g)) (f (found s g))) → At h T G s → At h T G (with_row s g f)
-    at_row s g f keeps leader states lens own a = at_row_for T s g f keeps leader states lens (λ k t ne. t) own a
+    pub at_row : (s : Core) (g : List ℕ) (f : GroupRow → GroupRow) → KeepsName f → ((x : GroupRow) → (f x).leader ≡ x.leader) → ((x : GroupRow) → state_in (f x).list ≡ state_in x.list) → ((x : GroupRow) → len_in (f x).list ≡ len_in x.list) → ((x : GroupRow) → start_in (f x).list ≡ start_in x.list) → (T g → RowIs (leads_row s (found s g)) (f (found s g))) → At h T G s → At h T G (with_row s g f)
+    at_row s g f keeps leader states lens starts own a =
+        at_row_for T s g f keeps leader states lens (λ k t ne. t) own (subst (λ i. (i ≡ 0) ⊎ ((leads_row s (found s g) ≡ true) ⊎ ToldOf h.sent s g i)) (sym (starts (found s g))) (a.rows.starts g)) a
 
     -- what the leader puts
-    pub put_fact : (s : Core) (g : List ℕ) (e : Entry) → HasRows (state_in (found s g).list) e → At h T G s → PutFact (reverse s.records) h s.views.me s.views.view g (len_in (found s g).list) e
+    pub put_fact : (s : Core) (g : List ℕ) (e : Entry) → HasRows (state_in (found s g).list) e → At h T G s → PutFact (reverse s.records) h.history s.views.me s.views.view g (len_in (found s g).list) e
     put_fact s g e ok a = inl (λ fresh. subst (λ st. HasRows st e) (at (a.states fresh g)) ok)
       where
         rs : List Happened
-        rs = earlier (reverse s.records) h
+        rs = earlier (reverse s.records) h.history
 
         at : StateIs s.views.me s.views.view g (found s g).list rs → state_in (found s g).list ≡ state_at s.views.me s.views.view g (len_in (found s g).list) rs
         at k =

@@ -51,8 +51,7 @@ use Rattle.node_state.specs.HandOn.{Answering, fills, cast_record, cast_records,
 use Rattle.node_state.specs.Following.{told_if, take_tell}
 use Rattle.node_state.specs.Ticks.{ring_put, set_records, ring_taken, ring_rule_of, ring_rule, take_report, rings_union, report_of, send_report, rings_tick, tick_rings, is_lost, lost_told, tick_owed, entries_sent, list_sent_again, sent_again}
 use Rattle.node_state.specs.Calls.{refuse_call, changed, ask_last, proposed, record_ballot, ballot_sent_if, cast_last, give_ballot, send_gone, send_all_gone, goodbye_said, take_call}
-use Rattle.run_safety.specs.Past.{History}
-use Rattle.entry_laws.proofs.closing_rows.At.{Silent, Calm, calm_self, calm_then, calm_fold, At, at_fold, at_calm, at_recorded, at_recorded_all}
+use Rattle.entry_laws.proofs.closing_rows.At.{Frame, Silent, Calm, calm_self, calm_then, calm_fold, At, at_fold, at_calm, at_recorded, at_recorded_all}
 
 -- ---- what is sent
 
@@ -177,7 +176,7 @@ report_calm c m =
     let t : Core = record c { reach = reach.set_own c.reach m } in
     calm_then c t (send_all t (filter (λ n. not (n == c.views.me)) (nodes_of m)) (body.Report (report_of t.reach))) (record { groups = refl; views = refl; config = refl; names = refl; records = refl; sends = λ p i. i }) (calm_all t _ _)
 
-module _ (h : History) (T G : List ℕ → Type 0) where
+module _ (h : Frame) (T G : List ℕ → Type 0) where
   -- ---- handing on
 
   cast_silent : (p : ProviderId) (c : Option (ProtoId × ℕ × BallotView)) (r : Happened) → Has r (cast_records p c) → Silent r

@@ -26,9 +26,8 @@ use Rattle.node_state.specs.HandOn.{Answering}
 use Rattle.node_state.specs.Leading.{with_waiting, begins}
 use Rattle.node_state.specs.Deciding.{keep_decision, refused, known_state, lacks_source, source_len, is_idle_empty, join_refusal, keep_attrs, wait_join, decide_join, other_refusal, decide_change, decided}
 use Rattle.node_state.specs.Ending.{Pass, quiet, begun_now, failures_begin, due_begins, source_begins, attrs_for, carried_len, source_refused, joins_begin, or_due, or_joins, may_begin, first_begins, group_begins, one_pass, passes, most_begun, end_step}
-use Rattle.run_safety.specs.Past.{History}
 use Rattle.step_refinement.proofs.LedGroups.{led_are_led}
-use Rattle.entry_laws.proofs.closing_rows.At.{found, leads_row, leads_is, At, at_for, at_fold, at_calm}
+use Rattle.entry_laws.proofs.closing_rows.At.{Frame, found, leads_row, leads_is, At, at_for, at_fold, at_calm}
 use Rattle.entry_laws.proofs.closing_rows.Calms.{calm_sent}
 use Rattle.entry_laws.proofs.closing_rows.Leading.{at_led, at_waits, at_begins}
 
@@ -38,7 +37,7 @@ Every g = Unit {0}
 abbrev pub NoGroup : List ℕ → Type 0
 NoGroup g = ⊥
 
-module _ (h : History) where
+module _ (h : Frame) where
   module _ (T G : List ℕ → Type 0) where
     -- ---- deciding
 

@@ -43,7 +43,8 @@ use Rattle.node_state.specs.Applying.{Lacking, lacking, fill_lists, level_set, b
 use Rattle.run_safety.specs.Past.{History, earlier, puts_of, base_of, fold_from, state_now}
 use Rattle.node_state.proofs.NameOrder.{none_after, text_same}
 use Rattle.step_refinement.proofs.BaseOrder.{bases_ordered, row_of_base, base_noted}
-use Rattle.entry_laws.proofs.closing_rows.At.{Fresh, Facts, StateIs, Silent, calm_fold, At, at_fold, at_calm, at_recorded, at_recorded_all, at_views}
+use Rattle.entry_laws.specs.closing_rows.Rows.{start_in}
+use Rattle.entry_laws.proofs.closing_rows.At.{Frame, Fresh, Facts, StateIs, Silent, calm_fold, At, at_fold, at_calm, at_recorded, at_recorded_all, at_views}
 use Rattle.entry_laws.proofs.closing_rows.Calms.{calm_sent, calm_sessions, owed_calm}
 use Rattle.entry_laws.proofs.closing_rows.Leading.{at_waits, at_opened_anew, at_closes}
 use Rattle.entry_laws.proofs.closing_rows.Ending.{Every, NoGroup, at_led_groups}
@@ -128,7 +129,7 @@ module _ (h : History) (n : ℕ) (v : ViewId) where
   based_base g (b ∷ bs) rs =
       ap (λ l. base_of n v g (earlier l h)) (pushed_more rs b bs) ∙ based_base g bs (rs ++ base_noted n v b ∷ []) ∙ ap (λ l. last_state g bs (base_of n v g (earlier l h))) (turned_one rs b) ∙ ap (last_state g bs) (based_one g b rs)
 
-module _ (h : History) where
+module _ (h : Frame) where
   abbrev Full : Core → Type 0
   Full s = At h Every NoGroup s
 
@@ -137,9 +138,9 @@ module _ (h : History) where
   unfolding view_entered level_set base_record base_row views_entered own_install with_sessions recorded_all
   at_view_entered s i =
       record {
-        rows = record { order = bases_ordered i; tallies = λ g u. inl (tally g); led = λ g z. absurd z };
-        facts = subst (λ l. Facts h (reverse l)) same (based_facts h s.views.me i.view bs rs (subst (Facts h) (sym entering) tt));
-        states = λ fresh g. state g (fresh_there (subst (λ l. Fresh (reverse l) h) (sym same) fresh));
+        rows = record { order = bases_ordered i; starts = λ g. inl (start g); tallies = λ g u. inl (tally g); led = λ g z. absurd z };
+        facts = subst (λ l. Facts h.history (reverse l)) same (based_facts h.history s.views.me i.view bs rs (subst (Facts h.history) (sym entering) tt));
+        states = λ fresh g. state g (fresh_there (subst (λ l. Fresh (reverse l) h.history) (sym same) fresh));
       }
     where
       bs : List Base
@@ -164,23 +165,30 @@ module _ (h : History) where
           by None = refl
           by (Some b) = refl
 
-      fresh_there : Fresh (reverse (rs ++ map (base_noted s.views.me i.view) bs)) h → (g : List ℕ) → (puts_of s.views.me i.view g (earlier (reverse s.records) h) ≡ []) × (base_of s.views.me i.view g (earlier (reverse s.records) h) ≡ empty_state)
-      fresh_there k = (subst (λ l. Fresh l h) entering (based_fresh h s.views.me i.view bs rs k)).0
-
-      state : (g : List ℕ) → ((k : List ℕ) → (puts_of s.views.me i.view k (earlier (reverse s.records) h) ≡ []) × (base_of s.views.me i.view k (earlier (reverse s.records) h) ≡ empty_state)) → StateIs s.views.me i.view g (row_found g (find (has_name g) (map base_row bs))).list (earlier (reverse (s.records ++ enters ∷ map (base_noted s.views.me i.view) bs)) h)
-      state g k =
-          subst (λ l. StateIs s.views.me i.view g (row_found g (find (has_name g) (map base_row bs))).list (earlier (reverse l) h)) same (subst (λ o. StateIs s.views.me i.view g (row_found g o).list (earlier (pushed h s.views.me i.view rs bs) h)) (sym (row_of_base g bs)) (of (base_named bs g) base))
+      start : (g : List ℕ) → start_in (row_found g (find (has_name g) (map base_row bs))).list ≡ 0
+      start g = ap (λ o. start_in (row_found g o).list) (row_of_base g bs) ∙ by (base_named bs g)
         where
-          puts : puts_of s.views.me i.view g (earlier (pushed h s.views.me i.view rs bs) h) ≡ []
-          puts = based_puts h s.views.me i.view g bs rs ∙ ap (λ l. puts_of s.views.me i.view g (earlier l h)) entering ∙ (k g).0
+          by : (o : Option Base) → start_in (row_found g (option_map base_row o)).list ≡ 0
+          by None = refl
+          by (Some b) = refl
 
-          base : base_of s.views.me i.view g (earlier (pushed h s.views.me i.view rs bs) h) ≡ state_named (base_named bs g) empty_state
-          base = based_base h s.views.me i.view g bs rs ∙ ap (λ l. last_state g bs (base_of s.views.me i.view g (earlier l h))) entering ∙ ap (last_state g bs) (k g).1 ∙ last_is_named g bs empty_state (bases_ordered i)
+      fresh_there : Fresh (reverse (rs ++ map (base_noted s.views.me i.view) bs)) h.history → (g : List ℕ) → (puts_of s.views.me i.view g (earlier (reverse s.records) h.history) ≡ []) × (base_of s.views.me i.view g (earlier (reverse s.records) h.history) ≡ empty_state)
+      fresh_there k = (subst (λ l. Fresh l h.history) entering (based_fresh h.history s.views.me i.view bs rs k)).0
 
-          state_is : state_now s.views.me i.view g (earlier (pushed h s.views.me i.view rs bs) h) ≡ base_of s.views.me i.view g (earlier (pushed h s.views.me i.view rs bs) h)
-          state_is = ap (fold_from i.view (base_of s.views.me i.view g (earlier (pushed h s.views.me i.view rs bs) h)) 0) puts
+      state : (g : List ℕ) → ((k : List ℕ) → (puts_of s.views.me i.view k (earlier (reverse s.records) h.history) ≡ []) × (base_of s.views.me i.view k (earlier (reverse s.records) h.history) ≡ empty_state)) → StateIs s.views.me i.view g (row_found g (find (has_name g) (map base_row bs))).list (earlier (reverse (s.records ++ enters ∷ map (base_noted s.views.me i.view) bs)) h.history)
+      state g k =
+          subst (λ l. StateIs s.views.me i.view g (row_found g (find (has_name g) (map base_row bs))).list (earlier (reverse l) h.history)) same (subst (λ o. StateIs s.views.me i.view g (row_found g o).list (earlier (pushed h.history s.views.me i.view rs bs) h.history)) (sym (row_of_base g bs)) (of (base_named bs g) base))
+        where
+          puts : puts_of s.views.me i.view g (earlier (pushed h.history s.views.me i.view rs bs) h.history) ≡ []
+          puts = based_puts h.history s.views.me i.view g bs rs ∙ ap (λ l. puts_of s.views.me i.view g (earlier l h.history)) entering ∙ (k g).0
 
-          of : (o : Option Base) → base_of s.views.me i.view g (earlier (pushed h s.views.me i.view rs bs) h) ≡ state_named o empty_state → StateIs s.views.me i.view g (row_found g (option_map base_row o)).list (earlier (pushed h s.views.me i.view rs bs) h)
+          base : base_of s.views.me i.view g (earlier (pushed h.history s.views.me i.view rs bs) h.history) ≡ state_named (base_named bs g) empty_state
+          base = based_base h.history s.views.me i.view g bs rs ∙ ap (λ l. last_state g bs (base_of s.views.me i.view g (earlier l h.history))) entering ∙ ap (last_state g bs) (k g).1 ∙ last_is_named g bs empty_state (bases_ordered i)
+
+          state_is : state_now s.views.me i.view g (earlier (pushed h.history s.views.me i.view rs bs) h.history) ≡ base_of s.views.me i.view g (earlier (pushed h.history s.views.me i.view rs bs) h.history)
+          state_is = ap (fold_from i.view (base_of s.views.me i.view g (earlier (pushed h.history s.views.me i.view rs bs) h.history)) 0) puts
+
+          of : (o : Option Base) → base_of s.views.me i.view g (earlier (pushed h.history s.views.me i.view rs bs) h.history) ≡ state_named o empty_state → StateIs s.views.me i.view g (row_found g (option_map base_row o)).list (earlier (pushed h.history s.views.me i.view rs bs) h.history)
           of None e = record { state = sym (state_is ∙ e); len = sym (ap length puts) }
           of (Some b) e = record { state = sym (state_is ∙ e); len = sym (ap length puts) }
 

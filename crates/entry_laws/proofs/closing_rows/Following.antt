@@ -18,22 +18,25 @@ use Rattle.name_server.specs.Names as names
 use Rattle.client_callbacks.specs.declared.told.Why.{Why}
 use Rattle.client_callbacks.specs.declared.told.Why.TheVariants.{GroupsFull}
 use Rattle.session_state.specs.declared.state.Request.{Request}
+use Rattle.view_state.specs.declared.views.Views.{Views}
 use Rattle.node_state.specs.declared.group.Decision.{Decision}
 use Rattle.node_state.specs.declared.group.GroupRow.{GroupRow}
 use Rattle.node_state.specs.declared.packet.Body.TheVariants as body
 use Rattle.node_state.specs.declared.state.Core.{Core}
 use Rattle.node_state.specs.Settings.{is_fixed}
-use Rattle.node_state.specs.State.{InNameOrder, row_found, row_of, with_row, with_led, led_of, state_of, len_of, holds, fits_at_end, forget_below, coordinates, is_this, leader_in, leader_of, leads_in, leads, set_leader, acked_raised, decision_of, recorded, has_name}
+use Rattle.node_state.specs.State.{leader_by, InNameOrder, row_found, row_of, with_row, with_led, led_of, state_of, len_of, holds, fits_at_end, forget_below, coordinates, is_this, leader_in, leader_of, leads_in, leads, set_leader, acked_raised, decision_of, recorded, has_name}
 use Rattle.node_state.specs.Sending.{sent, send_on, send_request}
 use Rattle.node_state.specs.HandOn.{Answering}
-use Rattle.node_state.specs.Leading.{put, put_and_hand, with_waiting, with_tally, closes}
+use Rattle.node_state.specs.Leading.{forget_least, put, put_and_hand, with_waiting, with_tally, closes}
 use Rattle.node_state.specs.Deciding.{decided}
 use Rattle.node_state.specs.Following.{take_lookup, take_tell, requests_of, named, is_name_used, take_name, tell_again, decide_new, request_after, request_at, is_group_refused, take_request, entry_next, entry_elsewhere, take_entry, acked, take_ack, vote_cast, take_vote, tally_failed, wait_gone, marked, gone_present, gone_of, take_gone}
-use Rattle.run_safety.specs.Past.{History, earlier}
+use Rattle.run_safety.specs.Past.{earlier}
 use Rattle.node_state.proofs.NameOrder.{cases_text, row_here, row_there, rows_ordered}
 use Rattle.step_refinement.proofs.Appending.{handed_rows}
 use Rattle.entry_laws.specs.closing_rows.Rows.{TallyFits}
-use Rattle.entry_laws.proofs.closing_rows.At.{found, leads_row, leads_is, RowIs, PutFact, StateIs, calm_fold, At, at_for, at_fold, at_calm, at_table, at_row, list_with}
+use Rattle.row_laws.proofs.hearing.Changes.{put_handed_onward}
+use Rattle.entry_laws.specs.closing_rows.Rows.{WasTold}
+use Rattle.entry_laws.proofs.closing_rows.At.{found, leads_row, leads_is, RowIs, StartIs, ToldOf, Frame, PutFact, StateIs, calm_fold, At, at_for, at_fold, at_calm, at_table, at_row, list_with}
 use Rattle.entry_laws.proofs.closing_rows.Calms.{calm_sent, request_calm, at_tell}
 use Rattle.entry_laws.proofs.closing_rows.Tallies.{failed_fits, voted_fits}
 use Rattle.entry_laws.proofs.closing_rows.Leading.{put_row, at_put_and_handed_for, at_led, at_waits, at_forgets, at_forgets_least, at_closes}
@@ -49,22 +52,32 @@ row_voted led row p v value message k = by row.led.tally refl k
     by (Some t) e (inl none) = let z : Some t ≡ None = sym e ∙ none in absurd (cc)
     by (Some t) e (inr j) = inr (j.0, voted_fits p v t (state_in row.list) (subst (λ z. TallyFits z (state_in row.list)) e j.1))
 
-module _ (h : History) where
+module _ (h : Frame) where
   abbrev Full : Core → Type 0
   Full s = At h Every NoGroup s
 
   -- a leader is known
-  at_led_by : (s : Core) (g : List ℕ) (n : ℕ) → RowIs (leads_row s (record (found s g) { leader = Some n })) (record (found s g) { leader = Some n }) → Full s → Full (set_leader s g n)
+  at_led_by : (s : Core) (g : List ℕ) (n : ℕ) → RowIs (leads_row s (record (found s g) { leader = Some n })) (record (found s g) { leader = Some n }) → (leads_row s (found s g) ≡ true → leads_row s (record (found s g) { leader = Some n }) ≡ true) → Full s → Full (set_leader s g n)
   unfolding set_leader with_row row_of
-  at_led_by s g n own a =
+  at_led_by s g n own still a =
       record {
-        rows = record { order = rows_ordered g f (λ x. refl) s a.rows.order; tallies = λ k u. tally k (cases_text g k); led = λ k z. absurd z };
+        rows = record { order = rows_ordered g f (λ x. refl) s a.rows.order; starts = λ k. start k (cases_text g k); tallies = λ k u. tally k (cases_text g k); led = λ k z. absurd z };
         facts = a.facts;
-        states = λ fresh. list_with (λ k l. StateIs s.views.me s.views.view k l (earlier (reverse s.records) h)) s g f (λ x. refl) a.rows.order (a.states fresh g) (λ k ne. a.states fresh k);
+        states = λ fresh. list_with (λ k l. StateIs s.views.me s.views.view k l (earlier (reverse s.records) h.history)) s g f (λ x. refl) a.rows.order (a.states fresh g) (λ k ne. a.states fresh k);
       }
     where
       f : GroupRow → GroupRow
       f row = record row { leader = Some n }
+
+      start_here : StartIs (ToldOf h.sent s g) (leads_row s (found s g)) (found s g).list → StartIs (ToldOf h.sent s g) (leads_row s (f (found s g))) (found s g).list
+      start_here (inl e) = inl e
+      start_here (inr (inl led)) = inr (inl (still led))
+      start_here (inr (inr told)) = inr (inr told)
+
+      start : (k : List ℕ) → (g ≡ k) ⊎ (g ≡ k → ⊥) → StartIs (ToldOf h.sent s k) (leads_row s (found (with_row s g f) k)) (found (with_row s g f) k).list
+      start k (inl e) =
+          subst (λ z. StartIs (ToldOf h.sent s z) (leads_row s (found (with_row s g f) z)) (found (with_row s g f) z).list) e (subst (λ (z : GroupRow). StartIs (ToldOf h.sent s g) (leads_row s z) z.list) (sym (row_here g f (λ x. refl) s a.rows.order)) (start_here (a.rows.starts g)))
+      start k (inr ne) = subst (λ (z : GroupRow). StartIs (ToldOf h.sent s k) (leads_row s z) z.list) (sym (row_there g f (λ x. refl) s k ne)) (a.rows.starts k)
 
       tally : (k : List ℕ) → (g ≡ k) ⊎ (g ≡ k → ⊥) → RowIs (leads_row s (found (with_row s g f) k)) (found (with_row s g f) k)
       tally k (inl e) =
@@ -98,13 +111,13 @@ module _ (h : History) where
   unfolding take_name named is_name_used leader_of leader_in row_of
   at_name s g n a = by (n == 0) (is_none (leader_in s (found s g))) (is_fixed s.config.mode) refl
     where
+      unled : (o : Option ℕ) → is_none o ≡ true → is_this s.views.me o ≡ true → ⊥
+      unled None e q = absurd (cc)
+      unled (Some k) e q = absurd (cc)
+
       idle : is_none (leader_in s (found s g)) ≡ true → (found s g).led.tally ≡ None
       idle e = at (a.rows.tallies g tt)
         where
-          unled : (o : Option ℕ) → is_none o ≡ true → is_this s.views.me o ≡ true → ⊥
-          unled None e q = absurd (cc)
-          unled (Some k) e q = absurd (cc)
-
           at : RowIs (leads_row s (found s g)) (found s g) → (found s g).led.tally ≡ None
           at (inl z) = z
           at (inr k) = absurd (unled (leader_in s (found s g)) e k.0)
@@ -116,7 +129,7 @@ module _ (h : History) where
       by true true fixed e = told
       by true false true e = told
       by true false false e = a
-      by false true fixed e = at_calm h Every NoGroup (set_leader s g n) _ (calm_fold send_request request_calm (requests_of s g) (set_leader s g n)) (at_led_by s g n (inl (idle e)) a)
+      by false true fixed e = at_calm h Every NoGroup (set_leader s g n) _ (calm_fold send_request request_calm (requests_of s g) (set_leader s g n)) (at_led_by s g n (inl (idle e)) (λ q. absurd (unled (leader_in s (found s g)) e q)) a)
       by false false true e = a
       by false false false e = a
 
@@ -131,7 +144,7 @@ module _ (h : History) where
   module _ (f : Answering) (s : Core) (g : List ℕ) (leads_it : leads (set_leader s g s.views.me) g ≡ true) where
     at_noted : Full s → Full (set_leader s g s.views.me)
     unfolding set_leader with_row leads leads_in leader_in row_of
-    at_noted a = at_led_by s g s.views.me (own (a.rows.tallies g tt)) a
+    at_noted a = at_led_by s g s.views.me (own (a.rows.tallies g tt)) (λ q. now) a
       where
         now : leads_row s (record (found s g) { leader = Some s.views.me }) ≡ true
         now = ap (leads_row s) (sym (row_here g (λ row. record row { leader = Some s.views.me }) (λ x. refl) s a.rows.order)) ∙ leads_it
@@ -173,16 +186,26 @@ module _ (h : History) where
   rows_after f s from g e order =
       ap (λ rows. (row_found g (find (has_name g) rows)).led.tally) (handed_rows f (put s g e) (Some from) g (len_of s g) (state_of s g) (state_of (put s g e) g) e).0 ∙ ap (λ (z : GroupRow). z.led.tally) (row_here g (λ row. put_row h s row e) (λ x. refl) s order)
 
-  -- what the node does not lead is not counted there; the entry was put by someone
-  module _ (f : Answering) (s : Core) (from : ℕ) (g : List ℕ) (stable : ℕ) (e : Entry) where
-    at_next : PutFact (reverse s.records) h s.views.me s.views.view g (len_in (found s g).list) e → (leads s g ≡ true → ⊥) → Full s → Full (entry_next f s from g stable e true)
-    unfolding entry_next sent send_on
+  -- who leads stays, too
+  leads_after : (f : Answering) (s : Core) (from : ℕ) (g : List ℕ) (e : Entry) → InNameOrder s.groups → leads_row (put_and_hand f s (Some from) g e) (found (put_and_hand f s (Some from) g e) g) ≡ leads_row s (found s g)
+  unfolding put_and_hand put recorded with_row row_of
+  leads_after f s from g e order =
+      let c : Core = put s g e in
+      let rows = handed_rows f c (Some from) g (len_of s g) (state_of s g) (state_of c g) e in
+      let views = (put_handed_onward f s (Some from) g e order).views in
+      let leader = ap (λ (l : List GroupRow). (row_found g (find (has_name g) l)).leader) rows.0 ∙ ap (λ (z : GroupRow). z.leader) (row_here g (λ row. put_row h s row e) (λ x. refl) s order) in
+      λ i. is_this (views i).me (leader_by (rows.1 i).mode (views i).view.coord (leader i))
+
+  -- what the node does not lead is not counted there; the entry was put by someone, and the node was told what to forget
+  module _ (f : Answering) (s : Core) (from : ℕ) (g : List ℕ) (stable : ℕ) (e : Entry) (told : ToldOf h.sent s g stable) where
+    at_next : PutFact (reverse s.records) h.history s.views.me s.views.view g (len_in (found s g).list) e → (leads s g ≡ true → ⊥) → Full s → Full (entry_next f s from g stable e true)
+    unfolding entry_next sent send_on set_leader with_row
     at_next fact follows a =
         let t : Core = put_and_hand f s (Some from) g e in
         let u : Core = sent t from (body.Ack t.views.view g (len_of t g)) in
         let b : Full t = at_put_and_handed_for h Every NoGroup Every f s (Some from) g e fact (λ k u ne. u) (λ u. inl none) a in
         let c : Full u = at_calm h Every NoGroup t u (calm_sent t from (body.Ack t.views.view g (len_of t g))) b in
-        at_forgets h Every NoGroup (set_leader u g from) g stable (at_led_by u g from (inl after) c)
+        at_forgets h Every NoGroup (set_leader u g from) g stable (inr (subst (λ (z : Views). WasTold h.sent z.me z.view g stable) (sym (put_handed_onward f s (Some from) g e a.rows.order).views) told)) (at_led_by u g from (inl after) (λ q. absurd (follows (sym (leads_is s g) ∙ sym (leads_after f s from g e a.rows.order) ∙ q))) c)
       where
         none : (found s g).led.tally ≡ None
         none = at (a.rows.tallies g tt)
@@ -197,21 +220,21 @@ module _ (h : History) where
         after : (found (sent t from (body.Ack t.views.view g (len_of t g))) g).led.tally ≡ None
         after = rows_after f s from g e a.rows.order ∙ none
 
-    at_next_if : PutFact (reverse s.records) h s.views.me s.views.view g (len_in (found s g).list) e → (leads s g ≡ true → ⊥) → (b : Bool) → Full s → Full (entry_next f s from g stable e b)
+    at_next_if : PutFact (reverse s.records) h.history s.views.me s.views.view g (len_in (found s g).list) e → (leads s g ≡ true → ⊥) → (b : Bool) → Full s → Full (entry_next f s from g stable e b)
     unfolding entry_next
     at_next_if fact follows false a = a
     at_next_if fact follows true a = at_next fact follows a
 
     at_elsewhere : (b : Bool) → Full s → Full (entry_elsewhere s from g stable b)
-    unfolding entry_elsewhere
-    at_elsewhere true a = at_forgets h Every NoGroup (sent s from (body.Ack s.views.view g (len_of s g))) g stable (at_calm h Every NoGroup s _ (calm_sent s from (body.Ack s.views.view g (len_of s g))) a)
+    unfolding entry_elsewhere sent send_on
+    at_elsewhere true a = at_forgets h Every NoGroup (sent s from (body.Ack s.views.view g (len_of s g))) g stable (inr told) (at_calm h Every NoGroup s _ (calm_sent s from (body.Ack s.views.view g (len_of s g))) a)
     at_elsewhere false a = by (holds s g)
       where
         by : (b : Bool) → Full (elim b as (λ _. Core) [ true ↦ forget_below s g stable | false ↦ s ])
-        by true = at_forgets h Every NoGroup s g stable a
+        by true = at_forgets h Every NoGroup s g stable (inr told) a
         by false = a
 
-    pub at_entry : (place : ℕ) → ((place == len_of s g) ≡ true → PutFact (reverse s.records) h s.views.me s.views.view g (len_in (found s g).list) e) → ((place == len_of s g) ≡ true → leads s g ≡ true → ⊥) → Full s → Full (take_entry f s from g place stable e)
+    pub at_entry : (place : ℕ) → ((place == len_of s g) ≡ true → PutFact (reverse s.records) h.history s.views.me s.views.view g (len_in (found s g).list) e) → ((place == len_of s g) ≡ true → leads s g ≡ true → ⊥) → Full s → Full (take_entry f s from g place stable e)
     unfolding take_entry
     at_entry place fact follows a = by (place == len_of s g) refl
       where
@@ -219,19 +242,21 @@ module _ (h : History) where
         by true q = at_next_if (fact q) (follows q) (fits_at_end s g e) a
         by false q = at_elsewhere (nat_lt place (len_of s g)) a
 
-  at_acked : (s : Core) (from : ℕ) (g : List ℕ) (n : ℕ) → Full s → Full (acked s from g n)
+  at_acked : (s : Core) (from : ℕ) (g : List ℕ) (n : ℕ) → leads s g ≡ true → Full s → Full (acked s from g n)
   unfolding acked
-  at_acked s from g n a =
+  at_acked s from g n led a =
       let t : Core = with_led s g (λ l. record l { acked = acked_raised from n l.acked }) in
-      at_forgets_least h Every NoGroup t g (at_led h Every NoGroup s g (λ l. record l { acked = acked_raised from n l.acked }) (λ l. refl) a)
+      let b : At h Every (Only g) t = at_led h Every (Only g) s g (λ l. record l { acked = acked_raised from n l.acked }) (λ l. refl) (only_led s g led a) in
+      all_again (forget_least t g) g (at_forgets_least h Every (Only g) t g (b.rows.led g refl) b)
 
   pub at_ack : (s : Core) (from : ℕ) (g : List ℕ) (n : ℕ) → Full s → Full (take_ack s from g n)
   unfolding take_ack
-  at_ack s from g n a = by (leads s g && nat_le n (len_of s g))
+  at_ack s from g n a = by (leads s g) (nat_le n (len_of s g)) refl
     where
-      by : (b : Bool) → Full (elim b as (λ _. Core) [ true ↦ acked s from g n | false ↦ s ])
-      by true = at_acked s from g n a
-      by false = a
+      by : (b c : Bool) → leads s g ≡ b → Full (elim (b && c) as (λ _. Core) [ true ↦ acked s from g n | false ↦ s ])
+      by true true q = at_acked s from g n q a
+      by true false q = a
+      by false c q = a
 
   -- ---- VOTE
 
@@ -245,7 +270,7 @@ module _ (h : History) where
       counted : leads s g ≡ true → At h Every (Only g) t
       counted led =
           let b : At h Every (Only g) s = only_led s g led a in
-          at_row h Every (Only g) s g (λ row. record row { led = vote_cast row.led p v value message row.led.tally }) (λ x. refl) (λ x. refl) (λ x. refl) (λ x. refl) (λ t. row_voted (leads_row s (found s g)) (found s g) p v value message (b.rows.tallies g t)) b
+          at_row h Every (Only g) s g (λ row. record row { led = vote_cast row.led p v value message row.led.tally }) (λ x. refl) (λ x. refl) (λ x. refl) (λ x. refl) (λ x. refl) (λ t. row_voted (leads_row s (found s g)) (found s g) p v value message (b.rows.tallies g t)) b
 
       by : (b c : Bool) → leads s g ≡ b → Full (elim (b && c) as (λ _. Core) [ true ↦ closes f t g | false ↦ s ])
       by true true q = all_again (closes f t g) g (at_closes h Every (Only g) f t g tt refl (counted q))
@@ -258,7 +283,7 @@ module _ (h : History) where
   unfolding tally_failed with_tally with_led
   at_failed f s g p None e a = a
   at_failed f s g p (Some t) e a =
-      at_closes h Every (Only g) f (with_tally s g (Some (tally_fail p t))) g tt refl (at_row h Every (Only g) s g (λ row. record row { led = record (row.led) { tally = Some (tally_fail p t) } }) (λ x. refl) (λ x. refl) (λ x. refl) (λ x. refl) (λ u. own (a.rows.tallies g u)) a)
+      at_closes h Every (Only g) f (with_tally s g (Some (tally_fail p t))) g tt refl (at_row h Every (Only g) s g (λ row. record row { led = record (row.led) { tally = Some (tally_fail p t) } }) (λ x. refl) (λ x. refl) (λ x. refl) (λ x. refl) (λ x. refl) (λ u. own (a.rows.tallies g u)) a)
     where
       own : RowIs (leads_row s (found s g)) (found s g) → RowIs (leads_row s (found s g)) (record (found s g) { led = record ((found s g).led) { tally = Some (tally_fail p t) } })
       own (inl none) = let z : Some t ≡ None = sym e ∙ none in absurd (cc)

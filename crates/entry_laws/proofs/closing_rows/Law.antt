@@ -1,8 +1,9 @@
 -- Each scene that events lead to.
-use Rattle.std.proofs.Common.{◌≡◌, ℕ, List, [], ◌∷◌, length, Some, refl, sym, ap, ◌∙◌, subst, inl, inr}
+use Rattle.std.proofs.Common.{◌≡◌, ◌⊎◌, ℕ, List, [], ◌∷◌, ◌++◌, length, Some, true, false, refl, sym, ap, ◌∙◌, subst, inl, inr}
 use Rattle.std.specs.Prelude.{reverse}
 use Rattle.rsct_packet.specs.declared.ids.ViewId.{ViewId}
 use Rattle.rsct_packet.specs.Search.{Has}
+use Rattle.rsct_packet.proofs.HasLaws.{append_has_right}
 use Rattle.proposal_core.specs.declared.entry.Entry.{Entry}
 use Rattle.proposal_core.specs.Fold.{empty_state}
 use Rattle.proposal_core.specs.Lists.{list_or_new, state_in}
@@ -12,7 +13,7 @@ use Rattle.node_state.specs.declared.happened.Happened.{Happened}
 use Rattle.node_state.specs.declared.happened.Happened.TheVariants as happened
 use Rattle.node_state.specs.declared.packet.Packet.{Packet}
 use Rattle.node_state.specs.declared.state.Core.{Core}
-use Rattle.node_state.specs.State.{row_of, led_of, list_of, state_of, with_sessions}
+use Rattle.node_state.specs.State.{row_of, led_of, list_of, state_of, with_sessions, leads, leads_in, leader_in}
 use Rattle.node_state.specs.HandOn.{Answering}
 use Rattle.node_state.specs.Applying.{level_set}
 use Rattle.node_state.specs.Step.{NodeEvent, at_work, started, stepped}
@@ -30,16 +31,16 @@ use Rattle.step_refinement.specs.Rules.{ended, Arises}
 use Rattle.step_refinement.proofs.Begins.{begin_tied}
 use Rattle.step_refinement.proofs.RowWorks.{keeps_of}
 use Rattle.step_refinement.proofs.RunLaw.{reached_rests}
-use Rattle.entry_laws.specs.closing_rows.Rows.{RowsAreAlwaysVoters, TallyFits, TalliesAreOfVoters}
+use Rattle.entry_laws.specs.closing_rows.Rows.{RowsAreAlwaysVoters, TallyFits, TalliesAreOfVoters, start_in, EveryListStartsAsTold}
 use Rattle.entry_laws.proofs.closing_rows.Told.{Told, told_of, within_told, within_all}
 use Rattle.entry_laws.proofs.closing_rows.Lists.{puts_all, fresh_before, state_rest}
-use Rattle.run_induction.proofs.Invariants.{Holds, Done, Invariant, reached_holds, node_holds}
+use Rattle.run_induction.proofs.Invariants.{Among, Sends, Holds, Done, Invariant, reached_holds, node_holds}
 use Rattle.run_induction.proofs.Quiet.{PutsNone}
 use Rattle.entry_laws.proofs.closing_rows.Entered.{since_within}
 use Rattle.entry_laws.proofs.closing_rows.Evident.{Evident, ToldNow, told_less, rows_right, again_evident}
-use Rattle.entry_laws.proofs.closing_rows.At.{found, leads_row, RowIs, FreshIn, Fresh, RecordFact, Facts, StateIs, At}
+use Rattle.entry_laws.proofs.closing_rows.At.{found, leads_row, RowIs, StartIs, ToldOf, told_more, FreshIn, Fresh, RecordFact, Facts, StateIs, At}
 use Rattle.entry_laws.proofs.closing_rows.Ending.{Every, NoGroup}
-use Rattle.entry_laws.proofs.closing_rows.Steps.{at_stepped}
+use Rattle.entry_laws.proofs.closing_rows.Steps.{frame_of, at_stepped}
 
 -- ---- what a step has recorded
 
@@ -125,9 +126,18 @@ module _ (bases : List ℕ → Bases) (log : List ℕ → ViewId → List Entry)
 
 -- ---- the invariant
 
--- what holds of a node, whatever was recorded
-abbrev CoreIs : List Happened → Core → Type 0
-CoreIs rs s = (g : List ℕ) → RowIs (leads_row s (found s g)) (found s g)
+-- what holds of a node, by what was sent, whatever was recorded
+abbrev CoreIs : List Packet → List Happened → Core → Type 0
+CoreIs ps rs s = (g : List ℕ) → RowIs (leads_row s (found s g)) (found s g) × StartIs (ToldOf ps s g) (leads_row s (found s g)) (found s g).list
+
+-- what was told stays told
+core_on : (ps qs : List Packet) → Sends ps qs → (rs ts : List Happened) → Among rs ts → (s : Core) → CoreIs ps rs s → CoreIs qs ts s
+core_on ps qs more rs ts old s k g = ((k g).0, by (k g).1)
+  where
+    by : StartIs (ToldOf ps s g) (leads_row s (found s g)) (found s g).list → StartIs (ToldOf qs s g) (leads_row s (found s g)) (found s g).list
+    by (inl e) = inl e
+    by (inr (inl led)) = inr (inl led)
+    by (inr (inr t)) = inr (inr (told_more ps qs more t))
 
 -- nothing is said of packets
 abbrev Sent : List Happened → Packet → Type 0
@@ -138,25 +148,25 @@ none_evident (happened.Put n v g i e) now before z = absurd z
 none_evident _ now before z = tt
 
 -- a node that starts
-started_is : (rs : List Happened) (c : Config) (n j : ℕ) → CoreIs rs (started c n j)
+started_is : (ps : List Packet) (rs : List Happened) (c : Config) (n j : ℕ) → CoreIs ps rs (started c n j)
 unfolding started with_sessions level_set views_new
-started_is rs c n j = λ g. inl refl
+started_is ps rs c n j = λ g. (inl refl, inl refl)
 
 -- a step
-step_done : (w : Scene) (n : ℕ) (f : Answering) (s : Core) (e : NodeEvent) (v : Event) → w.cores n ≡ Some s → ((g : List ℕ) → Rests g w) → ((g : List ℕ) → Rests g (ended w n v (stepped f s e))) → Arises w e → Holds Sent CoreIs Evident w → CoreIs (records_of w.before) s → Done Sent CoreIs Evident w (stepped f s e)
+step_done : (w : Scene) (n : ℕ) (f : Answering) (s : Core) (e : NodeEvent) (v : Event) → w.cores n ≡ Some s → ((g : List ℕ) → Rests g w) → ((g : List ℕ) → Rests g (ended w n v (stepped f s e))) → Arises w e → Holds Sent CoreIs Evident w → CoreIs w.sent (records_of w.before) s → Done Sent CoreIs Evident w (stepped f s e)
 step_done w n f s e v up rests after arises k c =
     let now : Scene = ended w n v (stepped f s e) in
-    let a : At w.before Every NoGroup (stepped f s e) = at_stepped w n f s e (λ h. begin_tied h w n s up (rests h)) arises begin in
+    let a : At (frame_of w) Every NoGroup (stepped f s e) = at_stepped w n f s e (λ h. begin_tied h w n s up (rests h)) arises begin in
     record {
       sends = λ p i. tt;
-      node = λ g. a.rows.tallies g tt;
+      node = core_on w.sent ((stepped f s e).sends ++ w.sent) (λ p i. append_has_right p (stepped f s e).sends w.sent i) (records_of w.before) ((stepped f s e).records ++ records_of w.before) (λ r i. append_has_right r (stepped f s e).records (records_of w.before) i) (stepped f s e) (λ g. (a.rows.tallies g tt, a.rows.starts g));
       lines = facts_evident (bases_in now after) (logs_in now after) w.before (reverse (stepped f s e).records) (λ g. told_in now after g) a.facts;
     }
   where
-    begin : At w.before Every NoGroup (at_work s)
+    begin : At (frame_of w) Every NoGroup (at_work s)
     begin =
         record {
-          rows = record { order = (subst (NodeIsIf w.config (rests []).ghost [] n (w.incs n)) up ((rests []).nodes n)).0.order; tallies = λ g t. c g; led = λ g z. absurd z };
+          rows = record { order = (subst (NodeIsIf w.config (rests []).ghost [] n (w.incs n)) up ((rests []).nodes n)).0.order; starts = λ g. (c g).1; tallies = λ g t. (c g).0; led = λ g z. absurd z };
           facts = tt;
           states = λ fresh. states_rest w rests n s up;
         }
@@ -165,7 +175,7 @@ fitting : Invariant Sent CoreIs Evident
 fitting =
     record {
       sent_on = λ rs ts more p k. tt;
-      node_on = λ rs ts more s k. k;
+      node_on = core_on;
       starts = started_is;
       quiet = none_evident;
       steps = step_done;
@@ -178,8 +188,17 @@ rows_are_voters c w k =
 
 pub tallies_are_of_voters : TalliesAreOfVoters
 unfolding led_of state_of list_of row_of
-tallies_are_of_voters c w k n s up g = by (node_holds Sent CoreIs Evident fitting c w k n s up g)
+tallies_are_of_voters c w k n s up g = by (node_holds Sent CoreIs Evident fitting c w k n s up g).0
   where
     by : RowIs (leads_row s (found s g)) (found s g) → TallyFits (found s g).led.tally (state_in (found s g).list)
     by (inl none) = subst (λ o. TallyFits o (state_in (found s g).list)) (sym none) tt
     by (inr j) = j.1
+
+pub lists_start_as_told : EveryListStartsAsTold
+unfolding leads leads_in leader_in row_of
+lists_start_as_told c w k n s up g away = by (node_holds Sent CoreIs Evident fitting c w k n s up g).1
+  where
+    by : StartIs (ToldOf w.sent s g) (leads_row s (found s g)) (found s g).list → (start_in (found s g).list ≡ 0) ⊎ ToldOf w.sent s g (start_in (found s g).list)
+    by (inl e) = inl e
+    by (inr (inl led)) = absurd (let q : true ≡ false = sym led ∙ away in cc)
+    by (inr (inr told)) = inr told

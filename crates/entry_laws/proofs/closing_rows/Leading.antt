@@ -1,5 +1,6 @@
 -- What the leader of a group does.
-use Rattle.std.proofs.Common.{◌≡◌, ℕ, zero, suc, ◌-◌, max, List, [], drop, Option, Some, None, Bool, true, false, refl, sym, ap, ◌∙◌, subst, inl, inr}
+use Rattle.std.proofs.Common.{◌≡◌, ◌⊎◌, ℕ, zero, suc, ◌-◌, max, List, [], drop, Option, Some, None, Bool, true, false, refl, sym, ap, ◌∙◌, subst, inl, inr, arith}
+use Rattle.std.proofs.lemmas.Bool.Decides.{nat_tests}
 use Rattle.std.specs.Prelude.{◌&&◌, not, filter, is_none, nat_le, reverse, if◌then◌else◌}
 use Rattle.std.proofs.lemmas.Bool.{and_parts}
 use Rattle.rsct_packet.specs.declared.ids.ViewId.{ViewId}
@@ -27,9 +28,8 @@ use Rattle.node_state.specs.State.{row_of, with_led, led_of, list_of, state_of, 
 use Rattle.node_state.specs.Sending.{send_all}
 use Rattle.node_state.specs.HandOn.{Answering, hand_on}
 use Rattle.node_state.specs.Leading.{put, put_and_hand, forget_least, with_waiting, wait_if, new_members_wait, appended, append_if_fits, tally_for, tally_set, tally_opened, closing_entry, is_phase, closes_from, closes, begin_many, begins}
-use Rattle.run_safety.specs.Past.{History}
-use Rattle.entry_laws.specs.closing_rows.Rows.{HasRows, TallyFits}
-use Rattle.entry_laws.proofs.closing_rows.At.{found, leads_row, RowIs, PutFact, At, at_put_for, at_fold, at_calm, at_row, at_row_for, put_fact}
+use Rattle.entry_laws.specs.closing_rows.Rows.{start_in, HasRows, TallyFits}
+use Rattle.entry_laws.proofs.closing_rows.At.{found, leads_row, RowIs, StartIs, ToldOf, Frame, PutFact, At, at_put_for, at_fold, at_calm, at_row, at_row_for, put_fact}
 use Rattle.entry_laws.proofs.closing_rows.Calms.{calm_all, at_handed}
 use Rattle.entry_laws.proofs.closing_rows.Tallies.{opened_fits, idle_voters, closing_rows}
 
@@ -52,6 +52,27 @@ forgotten_len (Some l) n = by (nat_le n l.len)
     by : (b : Bool) → (if b then record l { start = max l.start n; entries = drop (n - l.start) l.entries } else l).len ≡ l.len
     by true = refl
     by false = refl
+
+forgotten_place : (l : Option GroupView) (n : ℕ) → (start_in (list_forgotten n l) ≡ start_in l) ⊎ (start_in (list_forgotten n l) ≡ n)
+unfolding forgotten
+forgotten_place None n = inl refl
+forgotten_place (Some l) n = by (nat_le n l.len)
+  where
+    greater : (max l.start n ≡ l.start) ⊎ (max l.start n ≡ n)
+    greater = grind (arith, nat_tests)
+
+    by : (b : Bool) → ((if b then record l { start = max l.start n; entries = drop (n - l.start) l.entries } else l).start ≡ l.start) ⊎ ((if b then record l { start = max l.start n; entries = drop (n - l.start) l.entries } else l).start ≡ n)
+    by true = greater
+    by false = inl refl
+
+-- what was forgotten before stays so, or the list starts at that place
+forgotten_start : (told : ℕ → Type 0) (led : Bool) (l : Option GroupView) (n : ℕ) → (led ≡ true) ⊎ told n → StartIs told led l → StartIs told led (list_forgotten n l)
+forgotten_start told led l n (inl q) a = inr (inl q)
+forgotten_start told led l n (inr t) a = by (forgotten_place l n)
+  where
+    by : (start_in (list_forgotten n l) ≡ start_in l) ⊎ (start_in (list_forgotten n l) ≡ n) → StartIs told led (list_forgotten n l)
+    by (inl e) = subst (λ i. (i ≡ 0) ⊎ ((led ≡ true) ⊎ told i)) (sym e) a
+    by (inr e) = inr (inr (subst told (sym e) t))
 
 -- an entry that begins and ends at once finds and leaves nothing running, and one of who is late leaves what runs
 pub once_idle : (st : GroupState) (v : ViewId) (i : ℕ) (x : Proposal) → fits st (Once x) ≡ true → (after st v i (Once x)).running ≡ None
@@ -84,14 +105,14 @@ row_is_same led row now t r (inr k) = inr (k.0, subst (λ o. TallyFits o (state_
     by None z = tt
     by (Some x) z = z ∙ sym r
 
-module _ (h : History) where
+module _ (h : Frame) where
   -- ---- an entry is put
 
   abbrev pub put_row : Core → GroupRow → Entry → GroupRow
   put_row s row e = record row { list = Some (with_entry (list_or_new row.list) s.views.view e) }
 
   module _ (T G U : List ℕ → Type 0) where
-    pub at_put_and_handed_for : (f : Answering) (s : Core) (to : Option ℕ) (g : List ℕ) (e : Entry) → PutFact (reverse s.records) h s.views.me s.views.view g (len_in (found s g).list) e → ((k : List ℕ) → U k → (g ≡ k → ⊥) → T k) → (U g → RowIs (leads_row s (found s g)) (put_row s (found s g) e)) → At h T G s → At h U G (put_and_hand f s to g e)
+    pub at_put_and_handed_for : (f : Answering) (s : Core) (to : Option ℕ) (g : List ℕ) (e : Entry) → PutFact (reverse s.records) h.history s.views.me s.views.view g (len_in (found s g).list) e → ((k : List ℕ) → U k → (g ≡ k → ⊥) → T k) → (U g → RowIs (leads_row s (found s g)) (put_row s (found s g) e)) → At h T G s → At h U G (put_and_hand f s to g e)
     unfolding put_and_hand
     at_put_and_handed_for f s to g e fact rest own a =
         at_handed h U G f (put s g e) to g (len_of s g) (state_of s g) (state_of (put s g e) g) e (at_put_for h T G U s g e fact rest own a)
@@ -101,20 +122,21 @@ module _ (h : History) where
     pub at_led : (s : Core) (g : List ℕ) (f : Led → Led) → ((l : Led) → (f l).tally ≡ l.tally) → At h T G s → At h T G (with_led s g f)
     unfolding with_led
     at_led s g f same a =
-        at_row h T G s g (λ row. record row { led = f row.led }) (λ x. refl) (λ x. refl) (λ x. refl) (λ x. refl) (λ t. row_is_same (leads_row s (found s g)) (found s g) (record (found s g) { led = f (found s g).led }) (same (found s g).led) refl (a.rows.tallies g t)) a
+        at_row h T G s g (λ row. record row { led = f row.led }) (λ x. refl) (λ x. refl) (λ x. refl) (λ x. refl) (λ x. refl) (λ t. row_is_same (leads_row s (found s g)) (found s g) (record (found s g) { led = f (found s g).led }) (same (found s g).led) refl (a.rows.tallies g t)) a
 
     pub at_waits : (s : Core) (g : List ℕ) (change : WaitingView → WaitingView) → At h T G s → At h T G (with_waiting s g change)
     unfolding with_waiting
     at_waits s g change a = at_led s g (λ l. record l { waiting = change l.waiting }) (λ l. refl) a
 
-    pub at_forgets : (s : Core) (g : List ℕ) (n : ℕ) → At h T G s → At h T G (forget_below s g n)
+    -- the node leads the group, or was told the place
+    pub at_forgets : (s : Core) (g : List ℕ) (n : ℕ) → (leads_row s (found s g) ≡ true) ⊎ ToldOf h.sent s g n → At h T G s → At h T G (forget_below s g n)
     unfolding forget_below
-    at_forgets s g n a =
-        at_row h T G s g (λ row. record row { list = list_forgotten n row.list }) (λ x. refl) (λ x. refl) (λ x. forgotten_state x.list n) (λ x. forgotten_len x.list n) (λ t. row_is_same (leads_row s (found s g)) (found s g) (record (found s g) { list = list_forgotten n (found s g).list }) refl (ap voters (forgotten_state (found s g).list n)) (a.rows.tallies g t)) a
+    at_forgets s g n why a =
+        at_row_for h T G T s g (λ row. record row { list = list_forgotten n row.list }) (λ x. refl) (λ x. refl) (λ x. forgotten_state x.list n) (λ x. forgotten_len x.list n) (λ k t ne. t) (λ t. row_is_same (leads_row s (found s g)) (found s g) (record (found s g) { list = list_forgotten n (found s g).list }) refl (ap voters (forgotten_state (found s g).list n)) (a.rows.tallies g t)) (forgotten_start (ToldOf h.sent s g) (leads_row s (found s g)) (found s g).list n why (a.rows.starts g)) a
 
-    pub at_forgets_least : (s : Core) (g : List ℕ) → At h T G s → At h T G (forget_least s g)
+    pub at_forgets_least : (s : Core) (g : List ℕ) → leads_row s (found s g) ≡ true → At h T G s → At h T G (forget_least s g)
     unfolding forget_least
-    at_forgets_least s g a = at_forgets s g (least_acked s g) a
+    at_forgets_least s g led a = at_forgets s g (least_acked s g) (inl led) a
 
     at_waits_if : (s : Core) (g : List ℕ) (p : ProviderId) (a b : Bool) → At h T G s → At h T G (wait_if s g p a b)
     unfolding wait_if
@@ -128,16 +150,16 @@ module _ (h : History) where
         at_fold h T G (λ t p. wait_if t g p (among after.failed p) (among (led_of s g).gone p)) (filter (λ p. not (among before.members p)) after.members) (λ t p i k. at_waits_if t g p (among after.failed p) (among (led_of s g).gone p) k) s a
 
   module _ (T G U : List ℕ → Type 0) where
-    pub at_appended_for : (f : Answering) (s : Core) (g : List ℕ) (e : Entry) → HasRows (state_in (found s g).list) e → ((k : List ℕ) → U k → (g ≡ k → ⊥) → T k) → (U g → RowIs (leads_row s (found s g)) (put_row s (found s g) e)) → At h T G s → At h U G (appended f s g e)
+    pub at_appended_for : (f : Answering) (s : Core) (g : List ℕ) (e : Entry) → HasRows (state_in (found s g).list) e → ((k : List ℕ) → U k → (g ≡ k → ⊥) → T k) → (U g → RowIs (leads_row s (found s g)) (put_row s (found s g) e)) → G g → At h T G s → At h U G (appended f s g e)
     unfolding appended
-    at_appended_for f s g e ok rest own a =
+    at_appended_for f s g e ok rest own led a =
         let t : Core = put s g e in
         let u : Core = send_all t (others t) (body.Entry t.views.view g (len_of s g) (least_acked t g) e) in
         let w : Core = hand_on f u (leader_of u g) g (len_of s g) (state_of s g) (state_of t g) e in
         let put_at : At h U G t = at_put_for h T G U s g e (put_fact h T G s g e ok a) rest own a in
         let sent_at : At h U G u = at_calm h U G t u (calm_all t (others t) (body.Entry t.views.view g (len_of s g) (least_acked t g) e)) put_at in
         let handed_at : At h U G w = at_handed h U G f u (leader_of u g) g (len_of s g) (state_of s g) (state_of t g) e sent_at in
-        at_new_members U G (forget_least w g) g (state_of s g) (state_of t g) (at_forgets_least U G w g handed_at)
+        at_new_members U G (forget_least w g) g (state_of s g) (state_of t g) (at_forgets_least U G w g (handed_at.rows.led g led) handed_at)
 
   -- ---- the tally of a phase
 
@@ -149,7 +171,7 @@ module _ (h : History) where
     pub at_tally_set : (s : Core) (g : List ℕ) (t : Option TallyView) → (T g → RowIs (leads_row s (found s g)) (record (found s g) { led = record ((found s g).led) { tally = t; given = [] } })) → At h (But g T) G s → At h T G (tally_set s g t)
     unfolding tally_set with_led
     at_tally_set s g t own a =
-        at_row_for h (But g T) G T s g (λ row. record row { led = record (row.led) { tally = t; given = [] } }) (λ x. refl) (λ x. refl) (λ x. refl) (λ x. refl) (λ k u ne. (u, ne)) own a
+        at_row_for h (But g T) G T s g (λ row. record row { led = record (row.led) { tally = t; given = [] } }) (λ x. refl) (λ x. refl) (λ x. refl) (λ x. refl) (λ k u ne. (u, ne)) own (a.rows.starts g) a
 
     pub at_tally_opened : (s : Core) (g : List ℕ) → G g → At h (But g T) G s → At h T G (tally_opened s g)
     unfolding tally_opened state_of list_of row_of
@@ -158,10 +180,10 @@ module _ (h : History) where
 
     pub at_opened_anew : (s : Core) (g : List ℕ) → G g → At h T G s → At h T G (tally_opened s g)
     at_opened_anew s g led a =
-        at_tally_opened s g led (record { rows = record { order = a.rows.order; tallies = λ k t. a.rows.tallies k t.0; led = a.rows.led }; facts = a.facts; states = a.states })
+        at_tally_opened s g led (record { rows = record { order = a.rows.order; starts = a.rows.starts; tallies = λ k t. a.rows.tallies k t.0; led = a.rows.led }; facts = a.facts; states = a.states })
 
-    at_appended_loose : (f : Answering) (s : Core) (g : List ℕ) (e : Entry) → HasRows (state_in (found s g).list) e → At h T G s → At h (But g T) G (appended f s g e)
-    at_appended_loose f s g e ok a = at_appended_for T G (But g T) f s g e ok (λ k u ne. u.0) (λ u. absurd (u.1 refl)) a
+    at_appended_loose : (f : Answering) (s : Core) (g : List ℕ) (e : Entry) → HasRows (state_in (found s g).list) e → G g → At h T G s → At h (But g T) G (appended f s g e)
+    at_appended_loose f s g e ok led a = at_appended_for T G (But g T) f s g e ok (λ k u ne. u.0) (λ u. absurd (u.1 refl)) led a
 
     at_closes_from : (n : ℕ) (f : Answering) (s : Core) (g : List ℕ) → T g → G g → At h T G s → At h T G (closes_from n f s g)
     unfolding closes_from led_of state_of list_of row_of
@@ -181,8 +203,8 @@ module _ (h : History) where
             at (inr k) = closing_rows (found s g).led (found s g).led.tally (state_in (found s g).list) e k.1 q
 
         last : (e : Entry) → HasRows (state_in (found s g).list) e → Rec → (b : Bool) → At h T G (elim b as (λ _. Core) [ true ↦ closes_from n f (tally_opened (appended f s g e) g) g | false ↦ tally_set (appended f s g e) g None ])
-        last e ok rec true = rec (tally_opened (appended f s g e) g) g t led (at_tally_opened (appended f s g e) g led (at_appended_loose f s g e ok a))
-        last e ok rec false = at_tally_set (appended f s g e) g None (λ u. inl refl) (at_appended_loose f s g e ok a)
+        last e ok rec true = rec (tally_opened (appended f s g e) g) g t led (at_tally_opened (appended f s g e) g led (at_appended_loose f s g e ok led a))
+        last e ok rec false = at_tally_set (appended f s g e) g None (λ u. inl refl) (at_appended_loose f s g e ok led a)
 
         fitting : (e : Entry) → HasRows (state_in (found s g).list) e → Rec → (b : Bool) → At h T G (elim b as (λ _. Core) [ false ↦ s | true ↦ elim (is_phase e) as (λ _. Core) [ true ↦ closes_from n f (tally_opened (appended f s g e) g) g | false ↦ tally_set (appended f s g e) g None ] ])
         fitting e ok rec false = a
@@ -200,7 +222,7 @@ module _ (h : History) where
     unfolding begin_many
     at_begun_many f s g x false t led a = a
     at_begun_many f s g x true t led a =
-        at_closes f (tally_opened (appended f s g (Begin x)) g) g t led (at_tally_opened (appended f s g (Begin x)) g led (at_appended_loose f s g (Begin x) tt a))
+        at_closes f (tally_opened (appended f s g (Begin x)) g) g t led (at_tally_opened (appended f s g (Begin x)) g led (at_appended_loose f s g (Begin x) tt led a))
 
     pub at_begins : (f : Answering) (s : Core) (g : List ℕ) (x : Proposal) (phases : Phases) → T g → G g → At h T G s → At h T G (begins f s g x phases)
     unfolding begins append_if_fits fits_at_end entry_fits list_of row_of with_entry
@@ -215,11 +237,11 @@ module _ (h : History) where
         by : (b : Bool) → fits_at_end s g (Once x) ≡ b → At h T G (append_if_fits f s g (Once x) b)
         by false e = a
         by true e =
-            at_appended_for T G T f s g (Once x) tt (λ k u ne. u) (λ u. row_is_same (leads_row s (found s g)) (found s g) (put_row s (found s g) (Once x)) refl (same e) (a.rows.tallies g u)) a
+            at_appended_for T G T f s g (Once x) tt (λ k u ne. u) (λ u. row_is_same (leads_row s (found s g)) (found s g) (put_row s (found s g) (Once x)) refl (same e) (a.rows.tallies g u)) led a
 
     -- who is late is announced
-    pub at_announces : (f : Answering) (s : Core) (g : List ℕ) (e : Entry) → ((st : GroupState) → HasRows st e) → ((st : GroupState) (v : ViewId) (i : ℕ) → apply st v i e ≡ st) → (b : Bool) → At h T G s → At h T G (append_if_fits f s g e b)
+    pub at_announces : (f : Answering) (s : Core) (g : List ℕ) (e : Entry) → ((st : GroupState) → HasRows st e) → ((st : GroupState) (v : ViewId) (i : ℕ) → apply st v i e ≡ st) → (b : Bool) → G g → At h T G s → At h T G (append_if_fits f s g e b)
     unfolding append_if_fits with_entry
-    at_announces f s g e ok same false a = a
-    at_announces f s g e ok same true a =
-        at_appended_for T G T f s g e (ok (state_in (found s g).list)) (λ k u ne. u) (λ u. row_is_same (leads_row s (found s g)) (found s g) (put_row s (found s g) e) refl (ap voters (late_same (state_in (found s g).list) s.views.view (list_or_new (found s g).list).len e (same (state_in (found s g).list) s.views.view (list_or_new (found s g).list).len))) (a.rows.tallies g u)) a
+    at_announces f s g e ok same false led a = a
+    at_announces f s g e ok same true led a =
+        at_appended_for T G T f s g e (ok (state_in (found s g).list)) (λ k u ne. u) (λ u. row_is_same (leads_row s (found s g)) (found s g) (put_row s (found s g) e) refl (ap voters (late_same (state_in (found s g).list) s.views.view (list_or_new (found s g).list).len e (same (state_in (found s g).list) s.views.view (list_or_new (found s g).list).len))) (a.rows.tallies g u)) led a

@@ -44,7 +44,7 @@ use Rattle.step_refinement.specs.Rules.{acted, Arises}
 use Rattle.step_refinement.proofs.Acks.{used_is}
 use Rattle.step_refinement.proofs.Leads.{leader_inc, leads_known}
 use Rattle.step_refinement.proofs.RowWorks.{len_is}
-use Rattle.entry_laws.proofs.closing_rows.At.{found, PutFact, At, at_calm}
+use Rattle.entry_laws.proofs.closing_rows.At.{found, PutFact, ToldOf, Frame, At, at_calm}
 use Rattle.entry_laws.proofs.closing_rows.Calms.{calm_on, owed_part_calm, at_tell, at_ring, at_report, at_rings_part, at_call}
 use Rattle.entry_laws.proofs.closing_rows.Ending.{Every, NoGroup, at_step_ended}
 use Rattle.entry_laws.proofs.closing_rows.Works.{Stays, begun_stays, ask_stays, prepare_stays, answer_stays, refuse_stays, install_stays, taken_stays}
@@ -121,9 +121,13 @@ request_leads v g q r phases x w n s p is to delivered t used = by s.config.mode
     by Asked led = ap (is_this s.views.me) row ∙ eq-eqb s.views.me s.views.me refl
     by Rings led = ap (is_this s.views.me) row ∙ eq-eqb s.views.me s.views.me refl
 
-module _ (w : Scene) (n : ℕ) (f : Answering) (s : Core) (all : (h : List ℕ) → Tied h w n s) (a : At w.before Every NoGroup s) where
+-- what a step of a scene begins with
+abbrev pub frame_of : Scene → Frame
+frame_of w = record { history = w.before; sent = w.sent }
+
+module _ (w : Scene) (n : ℕ) (f : Answering) (s : Core) (all : (h : List ℕ) → Tied h w n s) (a : At (frame_of w) Every NoGroup s) where
   abbrev Full : Core → Type 0
-  Full c = At w.before Every NoGroup c
+  Full c = At (frame_of w) Every NoGroup c
 
   used : (t : Core) (b : Bool) → (b ≡ true → Full t) → Full (used_if s t b)
   unfolding used_if
@@ -131,7 +135,7 @@ module _ (w : Scene) (n : ℕ) (f : Answering) (s : Core) (all : (h : List ℕ) 
   used t false k = a
 
   taken : (x : ViewWork) → Stays s.views x → Full (views_taken f s x)
-  taken x k = at_views_taken w.before f s x k a
+  taken x k = at_views_taken (frame_of w) f s x k a
 
   view_at : (from inc : ℕ) (y : ViewPacket) → Full (view_rule f s from inc y)
   unfolding view_rule
@@ -141,23 +145,27 @@ module _ (w : Scene) (n : ℕ) (f : Answering) (s : Core) (all : (h : List ℕ) 
   view_at from inc (view.Install i) = taken (install_rule (views_at_work s.views) i) (install_stays s.views (views_at_work s.views) i (begun_stays s.views))
   view_at from inc (view.Taken v) = taken (taken_rule (views_at_work s.views) from v) (taken_stays s.views (views_at_work s.views) from v (begun_stays s.views))
 
+  told_of : (v : ViewId) (g : List ℕ) (i k : ℕ) (e : Entry) (p : Packet) → p.body ≡ body.Entry v g i k e → p.to ≡ n → Has p w.sent → is_used s p v ≡ true → ToldOf w.sent s g k
+  told_of v g i k e p is to sent u =
+      record { packet = p; there = sent; to = to ∙ sym (all []).own.0.stands.me; place = i; entry = e; says = is ∙ ap (λ z. body.Entry z g i k e) (used_is s p v u).0 }
+
   body_at : (p : Packet) (b : Body) → p.body ≡ b → p.to ≡ n → Has p w.sent → Full (take_body f s p b)
   unfolding take_body
-  body_at p (body.Ring x) is to sent = at_ring w.before Every NoGroup s p.network p.from p.inc x a
-  body_at p (body.Report rows) is to sent = at_report w.before Every NoGroup s rows a
+  body_at p (body.Ring x) is to sent = at_ring (frame_of w) Every NoGroup s p.network p.from p.inc x a
+  body_at p (body.Report rows) is to sent = at_report (frame_of w) Every NoGroup s rows a
   body_at p (body.View y) is to sent = view_at p.from p.inc y
-  body_at p (body.Lookup v g) is to sent = used (take_lookup s p.from g) (is_used s p v) (λ u. at_lookup w.before s p.from g a)
-  body_at p (body.Name v g k) is to sent = used (take_name s g k) (is_used s p v) (λ u. at_name w.before s g k a)
+  body_at p (body.Lookup v g) is to sent = used (take_lookup s p.from g) (is_used s p v) (λ u. at_lookup (frame_of w) s p.from g a)
+  body_at p (body.Name v g k) is to sent = used (take_name s g k) (is_used s p v) (λ u. at_name (frame_of w) s g k a)
   body_at p (body.Request v g q r phases x) is to sent =
-      used (take_request f s p.from g q r phases x) (is_used s p v) (λ u. at_request w.before f s g (request_leads v g q r phases x w n s p is to sent (all g) u) p.from q r phases x a)
-  body_at p (body.Tell v g q r y) is to sent = used (take_tell s q r y) (is_used s p v) (λ u. at_tell w.before Every NoGroup s q r y a)
+      used (take_request f s p.from g q r phases x) (is_used s p v) (λ u. at_request (frame_of w) f s g (request_leads v g q r phases x w n s p is to sent (all g) u) p.from q r phases x a)
+  body_at p (body.Tell v g q r y) is to sent = used (take_tell s q r y) (is_used s p v) (λ u. at_tell (frame_of w) Every NoGroup s q r y a)
   body_at p (body.Entry v g i k e) is to sent =
-      used (take_entry f s p.from g i k e) (is_used s p v) (λ u. at_entry w.before f s p.from g k e i (λ at. entry_was_put v g i k e w n s p is sent (all g) u at) (λ at led. entry_follows v g i k e w n s p is sent (all g) u at led) a)
-  body_at p (body.Ack v g k) is to sent = used (take_ack s p.from g k) (is_used s p v) (λ u. at_ack w.before s p.from g k a)
+      used (take_entry f s p.from g i k e) (is_used s p v) (λ u. at_entry (frame_of w) f s p.from g k e (told_of v g i k e p is to sent u) i (λ at. entry_was_put v g i k e w n s p is sent (all g) u at) (λ at led. entry_follows v g i k e w n s p is sent (all g) u at led) a)
+  body_at p (body.Ack v g k) is to sent = used (take_ack s p.from g k) (is_used s p v) (λ u. at_ack (frame_of w) s p.from g k a)
   body_at p (body.Vote v g proto phase q ballot value message) is to sent =
-      used (take_vote f s g proto phase q ballot value message) (is_used s p v) (λ u. at_vote w.before f s g proto phase q ballot value message a)
-  body_at p (body.Gone v g q) is to sent = used (take_gone f s g q) (is_used s p v) (λ u. at_gone w.before f s g q a)
-  body_at p (body.Query question what) is to sent = at_calm w.before Every NoGroup s _ (calm_on s p.network p.from (body.Reply question (status_text s what))) a
+      used (take_vote f s g proto phase q ballot value message) (is_used s p v) (λ u. at_vote (frame_of w) f s g proto phase q ballot value message a)
+  body_at p (body.Gone v g q) is to sent = used (take_gone f s g q) (is_used s p v) (λ u. at_gone (frame_of w) f s g q a)
+  body_at p (body.Query question what) is to sent = at_calm (frame_of w) Every NoGroup s _ (calm_on s p.network p.from (body.Reply question (status_text s what))) a
   body_at p (body.Reply question text) is to sent = a
 
   order_at : (mask : Mask) → Full (take_order f s mask)
@@ -172,9 +180,9 @@ module _ (w : Scene) (n : ℕ) (f : Answering) (s : Core) (all : (h : List ℕ) 
   unfolding packet_rule
   acted_at Ticks arises =
       let t : Core = tick_views f (tick_rings s) in
-      at_led_part w.before f (tick_owed t) (at_calm w.before Every NoGroup t (tick_owed t) (owed_part_calm t) (at_views_part w.before f (tick_rings s) (at_rings_part w.before Every NoGroup s a)))
+      at_led_part (frame_of w) f (tick_owed t) (at_calm (frame_of w) Every NoGroup t (tick_owed t) (owed_part_calm t) (at_views_part (frame_of w) f (tick_rings s) (at_rings_part (frame_of w) Every NoGroup s a)))
   acted_at (Asks mask) arises = order_at mask
-  acted_at (Calls c) arises = at_call w.before Every NoGroup s c a
+  acted_at (Calls c) arises = at_call (frame_of w) Every NoGroup s c a
   acted_at Garbage arises = a
   acted_at (Given p) arises = by (p.to == s.views.me) refl
     where
@@ -190,6 +198,6 @@ stepped_is f s (Given p) = refl
 stepped_is f s (Calls c) = refl
 stepped_is f s Garbage = refl
 
-pub at_stepped : (w : Scene) (n : ℕ) (f : Answering) (s : Core) (e : NodeEvent) → ((h : List ℕ) → Tied h w n (at_work s)) → Arises w e → At w.before Every NoGroup (at_work s) → At w.before Every NoGroup (stepped f s e)
+pub at_stepped : (w : Scene) (n : ℕ) (f : Answering) (s : Core) (e : NodeEvent) → ((h : List ℕ) → Tied h w n (at_work s)) → Arises w e → At (frame_of w) Every NoGroup (at_work s) → At (frame_of w) Every NoGroup (stepped f s e)
 at_stepped w n f s e all arises a =
-    subst (At w.before Every NoGroup) (sym (stepped_is f s e)) (at_step_ended w.before f (acted f (at_work s) e) (acted_at w n f (at_work s) all a e arises))
+    subst (At (frame_of w) Every NoGroup) (sym (stepped_is f s e)) (at_step_ended (frame_of w) f (acted f (at_work s) e) (acted_at w n f (at_work s) all a e arises))

@@ -15,9 +15,8 @@ use Rattle.node_state.specs.HandOn.{Answering}
 use Rattle.node_state.specs.Leading.{append_if_fits, with_tally}
 use Rattle.node_state.specs.Applying.{own_parts, views_taken}
 use Rattle.node_state.specs.Ticks.{ring_ask, tick_views, late_appended, announced, ticked_in, tally_ticks, sent_again, tick_group, tick_led}
-use Rattle.run_safety.specs.Past.{History}
 use Rattle.entry_laws.specs.closing_rows.Rows.{TallyFits}
-use Rattle.entry_laws.proofs.closing_rows.At.{found, leads_row, RowIs, calm_fold, At, at_calm, at_row}
+use Rattle.entry_laws.proofs.closing_rows.At.{Frame, found, leads_row, RowIs, calm_fold, At, at_calm, at_row}
 use Rattle.entry_laws.proofs.closing_rows.Calms.{again_calm}
 use Rattle.entry_laws.proofs.closing_rows.Tallies.{ticked_fits}
 use Rattle.entry_laws.proofs.closing_rows.Leading.{at_closes, at_announces}
@@ -33,7 +32,7 @@ row_ticked led row (inr k) = inr (k.0, by row.led.tally k.1)
     by None z = tt
     by (Some t) z = ticked_fits t (state_in row.list) z
 
-module _ (h : History) where
+module _ (h : Frame) where
   abbrev Full : Core → Type 0
   Full s = At h Every NoGroup s
 
@@ -48,31 +47,31 @@ module _ (h : History) where
   -- ---- what is led
 
   module _ (f : Answering) (G : List ℕ → Type 0) where
-    late_leaves : (run : Running) (ps : List ProviderId) (b : Bool) (s : Core) (g : List ℕ) → At h Every G s → At h Every G (append_if_fits f s g (Late run.proto run.phase ps) b)
+    late_leaves : (run : Running) (ps : List ProviderId) (b : Bool) (s : Core) (g : List ℕ) → G g → At h Every G s → At h Every G (append_if_fits f s g (Late run.proto run.phase ps) b)
     unfolding apply
-    late_leaves run ps b s g a = at_announces h Every G f s g (Late run.proto run.phase ps) (λ st. tt) (λ st v i. refl) b a
+    late_leaves run ps b s g led a = at_announces h Every G f s g (Late run.proto run.phase ps) (λ st. tt) (λ st v i. refl) b led a
 
-    at_late : (s : Core) (g : List ℕ) (t : TallyView) (o : Option Running) → At h Every G s → At h Every G (late_appended f s g t o)
+    at_late : (s : Core) (g : List ℕ) (t : TallyView) (o : Option Running) → G g → At h Every G s → At h Every G (late_appended f s g t o)
     unfolding late_appended
-    at_late s g t None a = a
-    at_late s g t (Some run) a = late_leaves run (open_voters t) (fits_at_end s g (Late run.proto run.phase (open_voters t))) s g a
+    at_late s g t None led a = a
+    at_late s g t (Some run) led a = late_leaves run (open_voters t) (fits_at_end s g (Late run.proto run.phase (open_voters t))) s g led a
 
-    at_announced : (s : Core) (g : List ℕ) (t : TallyView) (b : Bool) → At h Every G s → At h Every G (announced f s g t b)
+    at_announced : (s : Core) (g : List ℕ) (t : TallyView) (b : Bool) → G g → At h Every G s → At h Every G (announced f s g t b)
     unfolding announced
-    at_announced s g t false a = a
-    at_announced s g t true a = at_late s g t (state_of s g).running a
+    at_announced s g t false led a = a
+    at_announced s g t true led a = at_late s g t (state_of s g).running led a
 
     at_ticked : (s : Core) (g : List ℕ) → At h Every G s → At h Every G (with_tally s g (ticked_in (led_of s g).tally))
     unfolding with_tally with_led led_of row_of
     at_ticked s g a =
-        at_row h Every G s g (λ row. record row { led = record (row.led) { tally = ticked_in (found s g).led.tally } }) (λ x. refl) (λ x. refl) (λ x. refl) (λ x. refl) (λ t. row_ticked (leads_row s (found s g)) (found s g) (a.rows.tallies g t)) a
+        at_row h Every G s g (λ row. record row { led = record (row.led) { tally = ticked_in (found s g).led.tally } }) (λ x. refl) (λ x. refl) (λ x. refl) (λ x. refl) (λ x. refl) (λ t. row_ticked (leads_row s (found s g)) (found s g) (a.rows.tallies g t)) a
 
     at_tally_ticks : (s : Core) (g : List ℕ) (o : Option TallyView) → G g → At h Every G s → At h Every G (tally_ticks f s g o)
     unfolding tally_ticks
     at_tally_ticks s g None led a = a
     at_tally_ticks s g (Some t) led a =
         let u : Core = announced f s g t (s.sessions.level == 2 && expires t) in
-        at_closes h Every G f (with_tally u g (ticked_in (led_of u g).tally)) g tt led (at_ticked u g (at_announced s g t (s.sessions.level == 2 && expires t) a))
+        at_closes h Every G f (with_tally u g (ticked_in (led_of u g).tally)) g tt led (at_ticked u g (at_announced s g t (s.sessions.level == 2 && expires t) led a))
 
     at_group_ticks : (s : Core) (g : List ℕ) → G g → At h Every G s → At h Every G (tick_group f s g)
     unfolding tick_group

@@ -1,15 +1,21 @@
 -- The rows of an entry that closes a phase: one for each voter.
-use Rattle.std.specs.Prelude.{ℕ, ◌≡◌, List, map, Option, Some, None}
+use Rattle.std.specs.Prelude.{ℕ, ◌≡◌, ◌⊎◌, false, List, map, Option, Some, None}
+use Rattle.rsct_packet.specs.declared.ids.ViewId.{ViewId}
+use Rattle.rsct_packet.specs.Search.{Has}
 use Rattle.proposal_core.specs.declared.entry.Row.{Row}
 use Rattle.proposal_core.specs.declared.entry.Entry.{Entry}
 use Rattle.proposal_core.specs.declared.entry.Entry.TheVariants.{Once, Begin, Phase, Approve, Reject, Late}
 use Rattle.proposal_core.specs.declared.group_state.GroupState.{GroupState}
 use Rattle.proposal_core.specs.Fold.{voters}
+use Rattle.proposal_core.specs.GroupView.{GroupView}
+use Rattle.proposal_core.specs.Lists.{list_or_new}
 use Rattle.vote_phases.specs.declared.voter.Voter.{Voter}
 use Rattle.vote_phases.specs.Tally.{TallyView}
 use Rattle.node_state.specs.declared.config.Config.{Config}
+use Rattle.node_state.specs.declared.packet.Body.TheVariants as body
+use Rattle.node_state.specs.declared.packet.Packet.{Packet}
 use Rattle.node_state.specs.declared.state.Core.{Core}
-use Rattle.node_state.specs.State.{led_of, state_of}
+use Rattle.node_state.specs.State.{row_of, led_of, state_of, leads}
 use Rattle.node_state.specs.declared.happened.Happened.{Happened}
 use Rattle.node_state.specs.declared.happened.Happened.TheVariants as happened
 use Rattle.run_safety.specs.Past.{History, earlier, EachRecord, state_at}
@@ -55,6 +61,30 @@ TallyFits (Some t) st = map (λ (x : Voter). x.p) t.voters ≡ voters st
 abbrev pub TalliesAreOfVoters : Type 0
 TalliesAreOfVoters =
     (c : Config) (w : Scene) → Reached c w → (n : ℕ) (s : Core) → w.cores n ≡ Some s → (g : List ℕ) → TallyFits (led_of s g).tally (state_of s g)
+
+-- ---- what a list lacks at its front
+
+-- where a list starts; 0 where there is none
+abbrev pub start_in : Option GroupView → ℕ
+start_in l = (list_or_new l).start
+
+-- an ENTRY of the group that was sent to the node in the view says that all members hold so many entries
+pub record WasTold (sent : List Packet) (n : ℕ) (v : ViewId) (g : List ℕ) (k : ℕ) : Type 0 where
+  pub packet : Packet
+  pub there : Has packet sent
+  pub to : packet.to ≡ n
+  pub place : ℕ
+  pub entry : Entry
+  pub says : packet.body ≡ body.Entry v g place k entry
+
+-- What a node's list of a group lacks at its front is nothing, or it was told to forget just that; or the node leads the group.
+abbrev pub ListsStartAsTold : Core → List Packet → Type 0
+ListsStartAsTold s sent =
+    (g : List ℕ) → leads s g ≡ false → (start_in (row_of s g).list ≡ 0) ⊎ WasTold sent s.views.me s.views.view g (start_in (row_of s g).list)
+
+-- whatever starts, stops and steps, at each node that is up
+abbrev pub EveryListStartsAsTold : Type 0
+EveryListStartsAsTold = (c : Config) (w : Scene) → Reached c w → (n : ℕ) (s : Core) → w.cores n ≡ Some s → ListsStartAsTold s w.sent
 
 -- ---- the records of one node
 

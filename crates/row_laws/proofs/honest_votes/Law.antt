@@ -60,10 +60,14 @@ none_cast : (r : Happened) (now : List Happened) (before : History) → PutsNone
 none_cast (happened.Put n v g i e) now before z = absurd z
 none_cast _ now before z = tt
 
+-- nothing is said of what was sent
+abbrev Node : List Packet → List Happened → Core → Type 0
+Node ps rs s = CoreCast rs s
+
 abbrev Sent : List Happened → Packet → Type 0
 Sent rs p = BodyCast rs p.body
 
-step_done : (w : Scene) (n : ℕ) (f : Answering) (s : Core) (e : NodeEvent) (v : Event) → w.cores n ≡ Some s → ((g : List ℕ) → Rests g w) → Arises w e → Holds Sent CoreCast RecordCast w → CoreCast (records_of w.before) s → Done Sent CoreCast RecordCast w (stepped f s e)
+step_done : (w : Scene) (n : ℕ) (f : Answering) (s : Core) (e : NodeEvent) (v : Event) → w.cores n ≡ Some s → ((g : List ℕ) → Rests g w) → Arises w e → Holds Sent Node RecordCast w → CoreCast (records_of w.before) s → Done Sent Node RecordCast w (stepped f s e)
 step_done w n f s e v up rests arises k c =
     let a : At w.before Every NoGroup (stepped f s e) = at_stepped w n f s e k.sent (λ h. begin_tied h w n s up (rests h)) arises begin in
     record {
@@ -86,21 +90,21 @@ step_done w n f s e v up rests arises k c =
           apart = c.apart;
         }
 
-honest : Invariant Sent CoreCast RecordCast
+honest : Invariant Sent Node RecordCast
 honest =
     record {
       sent_on = λ rs ts more p k. body_on rs ts more p.body k;
-      node_on = core_on;
-      starts = started_cast;
+      node_on = λ ps qs sent. core_on;
+      starts = λ ps. started_cast;
       quiet = none_cast;
       steps = λ w n f s e v up rests after arises k c. step_done w n f s e v up rests arises k c;
     }
 
-cast_in : (c : Config) (w : Scene) → Reached c w → Holds Sent CoreCast RecordCast w
-cast_in = reached_holds Sent CoreCast RecordCast honest
+cast_in : (c : Config) (w : Scene) → Reached c w → Holds Sent Node RecordCast w
+cast_in = reached_holds Sent Node RecordCast honest
 
 core_cast : (c : Config) (w : Scene) → Reached c w → (n : ℕ) (s : Core) → w.cores n ≡ Some s → CoreCast (records_of w.before) s
-core_cast = node_holds Sent CoreCast RecordCast honest
+core_cast = node_holds Sent Node RecordCast honest
 
 pub recorded_votes : RecordedVotesAreCast
 recorded_votes c w k = (cast_in c w k).lines
