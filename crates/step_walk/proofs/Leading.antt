@@ -45,7 +45,7 @@ abbrev pub IsNote : Happened → Type 0
 IsNote (happened.Noted n c v i told) = Unit {0}
 IsNote _ = ⊥
 
-forgotten_len : (m : ℕ) (l : Option GroupView) → len_in (list_forgotten m l) ≡ len_in l
+pub forgotten_len : (m : ℕ) (l : Option GroupView) → len_in (list_forgotten m l) ≡ len_in l
 unfolding forgotten
 forgotten_len m None = refl
 forgotten_len m (Some l) = by (nat_le m l.len)
@@ -54,7 +54,7 @@ forgotten_len m (Some l) = by (nat_le m l.len)
     by true = refl
     by false = refl
 
-forgotten_state : (m : ℕ) (l : Option GroupView) → state_in (list_forgotten m l) ≡ state_in l
+pub forgotten_state : (m : ℕ) (l : Option GroupView) → state_in (list_forgotten m l) ≡ state_in l
 unfolding forgotten
 forgotten_state m None = refl
 forgotten_state m (Some l) = by (nat_le m l.len)

@@ -1,7 +1,13 @@
 pub mod Waiting
 pub mod Changes
+pub mod Kept
+pub mod Evidence
 pub mod Parts
 pub mod Leading
+pub mod Asides
+pub mod Appending
+pub mod Steady
+pub mod Ends
 pub mod Ending
 pub mod Rules
 pub mod Calling
