@@ -1,50 +1,28 @@
 -- Appending, closing, beginning and refusing keep what is kept by each change of a leader.
-use Rattle.std.proofs.Common.{◌≡◌, ℕ, zero, suc, List, [], ◌∷◌, length, Option, Some, None, Bool, true, false, refl, sym, subst, inl, inr, append_assoc, append-nil}
-use Rattle.std.specs.Prelude.{◌-◌, drop, max, nat_le, if◌then◌else◌, not, map, filter, fold, flat_map}
+use Rattle.std.proofs.Common.{◌≡◌, ℕ, zero, suc, List, Option, Some, None, Bool, true, false, refl, inl}
 use Rattle.rsct_packet.specs.declared.ids.ProviderId.{ProviderId}
-use Rattle.rsct_packet.specs.declared.ids.ProtoId.{ProtoId}
-use Rattle.rsct_packet.specs.Providers.{among}
-use Rattle.rsct_packet.specs.Search.{Has}
-use Rattle.rsct_packet.proofs.HasLaws.{has_map}
 use Rattle.group_attr.specs.declared.attrs.Phases.{Phases}
 use Rattle.group_attr.specs.declared.attrs.Phases.TheVariants.{One, Many}
-use Rattle.proposal_core.specs.declared.proposal.Cause.TheVariants.{Died, Gone}
 use Rattle.proposal_core.specs.declared.proposal.Proposal.{Proposal}
 use Rattle.proposal_core.specs.declared.entry.Entry.{Entry}
 use Rattle.proposal_core.specs.declared.entry.Entry.TheVariants.{Once, Begin}
-use Rattle.proposal_core.specs.declared.group_state.GroupState.{GroupState}
 use Rattle.proposal_core.specs.Fold.{max_phases}
-use Rattle.proposal_core.specs.GroupView.{GroupView}
-use Rattle.proposal_core.specs.Lists.{len_in, state_in, forgotten}
-use Rattle.batch_rules.specs.Waiting.{WaitingView, add_failure}
 use Rattle.vote_phases.specs.Tally.{TallyView}
-use Rattle.subscribe_core.specs.Subs.{is_of_group, differs}
 use Rattle.client_callbacks.specs.declared.told.Why.{Why}
-use Rattle.client_callbacks.specs.declared.ballot.Filled.{Filled}
-use Rattle.client_callbacks.specs.Ballots.{BallotView}
-use Rattle.session_state.specs.declared.casts.Cast.{Cast}
-use Rattle.session_state.specs.declared.state.SessionState.{SessionState}
-use Rattle.session_state.specs.HandOn.{hearers, casts_out, is_dissolved}
-use Rattle.session_state.specs.HandOn as session
-use Rattle.node_state.specs.declared.group.Led.{Led}
-use Rattle.node_state.specs.declared.happened.Happened.{Happened}
-use Rattle.node_state.specs.declared.happened.Happened.TheVariants as happened
-use Rattle.node_state.specs.declared.packet.Body.{Body}
+use Rattle.session_state.specs.HandOn.{is_dissolved}
 use Rattle.node_state.specs.declared.packet.Body.TheVariants as body
 use Rattle.node_state.specs.declared.state.Core.{Core}
-use Rattle.node_state.specs.State.{with_led, led_of, state_of, len_of, list_forgotten, fits_at_end, forget_below, frozen, leader_of, others, least_acked, recorded, recorded_all, with_sessions}
-use Rattle.node_state.specs.Sending.{sent, send_all, send_if_known, network_to, vote_of}
-use Rattle.node_state.specs.HandOn.{Answering, fills, heard, note_of, notes, noted, ballot_sent, cast_sent_of, casts_sent, hand_on}
-use Rattle.node_state.specs.Leading.{put, put_and_hand, forget_least, with_waiting, wait_if, new_members_wait, appended, append_if_fits, with_tally, tally_set, tally_for, tally_opened, closing_entry, is_phase, closes_from, closes, begin_many, begins}
+use Rattle.node_state.specs.State.{led_of, state_of, fits_at_end, others, least_acked}
+use Rattle.node_state.specs.HandOn.{Answering}
+use Rattle.node_state.specs.Leading.{put, appended, append_if_fits, tally_set, tally_opened, closing_entry, is_phase, closes_from, closes, begin_many, begins}
 use Rattle.node_state.specs.Deciding.{refused}
 
-use Rattle.step_walk.proofs.Changes.{Fairly}
 use Rattle.node_state.specs.Ticks.{late_appended}
 use Rattle.vote_phases.specs.Tally.{open_voters}
 use Rattle.proposal_core.specs.declared.group_state.Running.{Running}
 use Rattle.proposal_core.specs.declared.entry.Entry.TheVariants.{Late}
 use Rattle.node_state.specs.State.{fits_at_end}
-use Rattle.step_walk.proofs.Evidence.{Plain, Turning, delivered, KeepsBeside, KeepsLed}
+use Rattle.step_walk.proofs.Evidence.{Plain, Turning, KeepsBeside, KeepsLed}
 use Rattle.step_walk.proofs.Asides.{at_sent, at_rest_appended}
 
 -- what closes a phase turns it

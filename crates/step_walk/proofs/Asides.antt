@@ -1,25 +1,16 @@
 -- What changes beside lists, tallies and leaders keeps what is kept by each such change: sending, noting, forgetting, waiting.
-use Rattle.std.proofs.Common.{◌≡◌, ◌++◌, ℕ, zero, suc, List, [], ◌∷◌, length, Option, Some, None, Bool, true, false, refl, sym, subst, inl, inr, append_assoc, append-nil}
-use Rattle.std.specs.Prelude.{◌-◌, drop, max, nat_le, if◌then◌else◌, not, map, filter, fold, flat_map}
+use Rattle.std.proofs.Common.{◌≡◌, ◌++◌, ℕ, List, [], ◌∷◌, length, Option, Some, None, Bool, true, false, refl, sym, subst, inl, inr, append_assoc, append-nil}
+use Rattle.std.specs.Prelude.{not, map, filter, fold, flat_map}
 use Rattle.rsct_packet.specs.declared.ids.ProviderId.{ProviderId}
 use Rattle.rsct_packet.specs.declared.ids.ProtoId.{ProtoId}
 use Rattle.rsct_packet.specs.Providers.{among}
 use Rattle.rsct_packet.specs.Search.{Has}
 use Rattle.rsct_packet.proofs.HasLaws.{has_map, append_has_left, append_has_right}
-use Rattle.group_attr.specs.declared.attrs.Phases.{Phases}
-use Rattle.group_attr.specs.declared.attrs.Phases.TheVariants.{One, Many}
 use Rattle.proposal_core.specs.declared.proposal.Cause.TheVariants.{Died, Gone}
-use Rattle.proposal_core.specs.declared.proposal.Proposal.{Proposal}
 use Rattle.proposal_core.specs.declared.entry.Entry.{Entry}
-use Rattle.proposal_core.specs.declared.entry.Entry.TheVariants.{Once, Begin}
 use Rattle.proposal_core.specs.declared.group_state.GroupState.{GroupState}
-use Rattle.proposal_core.specs.Fold.{max_phases}
-use Rattle.proposal_core.specs.GroupView.{GroupView}
-use Rattle.proposal_core.specs.Lists.{len_in, state_in, forgotten}
 use Rattle.batch_rules.specs.Waiting.{WaitingView, add_failure}
-use Rattle.vote_phases.specs.Tally.{TallyView}
 use Rattle.subscribe_core.specs.Subs.{is_of_group, differs}
-use Rattle.client_callbacks.specs.declared.told.Why.{Why}
 use Rattle.client_callbacks.specs.declared.ballot.Filled.{Filled}
 use Rattle.client_callbacks.specs.Ballots.{BallotView}
 use Rattle.session_state.specs.declared.casts.Cast.{Cast}
@@ -30,21 +21,17 @@ use Rattle.node_state.specs.declared.group.Led.{Led}
 use Rattle.node_state.specs.declared.happened.Happened.{Happened}
 use Rattle.node_state.specs.declared.happened.Happened.TheVariants as happened
 use Rattle.node_state.specs.declared.packet.Body.{Body}
-use Rattle.node_state.specs.declared.packet.Body.TheVariants as body
 use Rattle.node_state.specs.declared.state.Core.{Core}
-use Rattle.node_state.specs.State.{with_led, led_of, state_of, len_of, list_forgotten, fits_at_end, forget_below, frozen, leader_of, others, least_acked, recorded, recorded_all, with_sessions}
+use Rattle.node_state.specs.State.{with_led, led_of, state_of, len_of, list_forgotten, forget_below, frozen, leader_of, others, least_acked, recorded, recorded_all, with_sessions}
 use Rattle.node_state.specs.Sending.{send_on, sent, send_all, send_if_known, network_to, vote_of}
 use Rattle.node_state.specs.HandOn.{Answering, fills, heard, note_of, notes, noted, ballot_sent, cast_sent_of, casts_sent, hand_on}
-use Rattle.node_state.specs.Leading.{put, put_and_hand, forget_least, with_waiting, wait_if, new_members_wait, appended, append_if_fits, with_tally, tally_set, tally_for, tally_opened, closing_entry, is_phase, closes_from, closes, begin_many, begins}
-use Rattle.node_state.specs.Deciding.{refused}
+use Rattle.node_state.specs.Leading.{put, put_and_hand, forget_least, with_waiting, wait_if, new_members_wait, appended}
 
-use Rattle.session_state.specs.declared.state.KeptBallot.{KeptBallot}
-use Rattle.node_state.specs.declared.group.GroupRow.{GroupRow}
 use Rattle.step_walk.proofs.Waiting.{Few, MildWaits, fails_few}
 use Rattle.step_walk.proofs.Changes.{put_sent, handing}
 use Rattle.step_walk.proofs.Kept.{IsCast, CastIs, cast_is_on, casts_recorded}
 use Rattle.step_walk.proofs.Leading.{IsNote, forgotten_len, forgotten_state}
-use Rattle.step_walk.proofs.Evidence.{Saying, Beside, delivered, KeepsBeside}
+use Rattle.step_walk.proofs.Evidence.{Saying, delivered, KeepsBeside}
 
 pub at_either : (P : Core → Type 0) {s t : Core} (b : Bool) → P s → P t → P (elim b as (λ _. Core) [ true ↦ s | false ↦ t ])
 at_either P true p q = p

@@ -10,7 +10,11 @@ pub mod Steady
 pub mod Ends
 pub mod Ending
 pub mod Rules
+pub mod Packets
+pub mod Called
+pub mod Delivering
 pub mod Calling
 pub mod Ringing
 pub mod Entering
 pub mod Walking
+pub mod Stepping

@@ -54,7 +54,7 @@ cast_decided l q v value message (Some t) = refl
 
 -- ---- why requests are refused
 
-join_fair : (s : Core) (g : List ℕ) (q : ProviderId) (a : Attrs) → Fairly (join_refusal s g q a)
+pub join_fair : (s : Core) (g : List ℕ) (q : ProviderId) (a : Attrs) → Fairly (join_refusal s g q a)
 unfolding join_refusal
 join_fair s g q a =
     by (not idle && not (agree a st.attrs)) (has_instance here q) (lacks_source s source q.node) (nat_le max_providers (length here)) (is_none st.running && is_at_limit (list_of s g))
@@ -88,7 +88,7 @@ full_fair s g None = by (is_at_limit (list_of s g))
     by true = refl
     by false = tt
 
-other_fair : (s : Core) (g : List ℕ) (q : ProviderId) (x : Proposal) → Fairly (other_refusal s g q x)
+pub other_fair : (s : Core) (g : List ℕ) (q : ProviderId) (x : Proposal) → Fairly (other_refusal s g q x)
 unfolding other_refusal
 other_fair s g q x = by (is_no_member (state_of s g) (led_of s g).gone q x) (has_other_source (state_of s g).attrs x)
   where

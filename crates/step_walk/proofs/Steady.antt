@@ -1,6 +1,6 @@
 -- While a node leads, which groups it leads stays: so what keeps each change with the evidence that its group is led keeps
 -- each change of the groups that were led before.
-use Rattle.std.proofs.Common.{◌≡◌, ◌⊎◌, ◌∙◌, ℕ, List, [], ◌∷◌, Option, Some, None, Bool, true, false, cond, refl, sym, ap, subst, inl, inr, ⊎_elim}
+use Rattle.std.proofs.Common.{◌≡◌, ◌⊎◌, ◌∙◌, ℕ, List, [], ◌∷◌, Option, Some, Bool, true, false, cond, refl, sym, ap, subst, inl, inr, ⊎_elim}
 use Rattle.std.specs.Prelude.{filter, find}
 use Rattle.std.specs.Str.{bytes_eq}
 use Rattle.rsct_packet.specs.Text.{name_lt}
@@ -18,7 +18,6 @@ use Rattle.node_state.specs.Sending.{sent, send_on, send_all}
 use Rattle.node_state.specs.Leading.{put, tally_set, tally_opened}
 use Rattle.node_state.specs.Deciding.{keep_decision}
 use Rattle.node_state.proofs.NameOrder.{KeepsName, cases_text, row_here, row_there, text_same, text_self, lt_self}
-use Rattle.step_walk.proofs.Changes.{put_sent, handing}
 use Rattle.step_walk.proofs.Evidence.{IsLed, delivered, KeepsBeside, KeepsLed, Keeping}
 
 -- ---- rows by their names
