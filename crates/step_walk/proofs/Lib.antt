@@ -18,3 +18,4 @@ pub mod Ringing
 pub mod Entering
 pub mod Walking
 pub mod Stepping
+pub mod Rings
