@@ -1,124 +1,71 @@
 -- What each kind of change of a step keeps.
-use Rattle.std.proofs.Common.{◌≡◌, ℕ, zero, suc, List, [], ◌++◌, Option, Some, None, Bool, true, false, refl, sym, ap, ◌∙◌, subst, inl, inr, ◌⊎◌, ◌∷◌, ⊎_elim, append_assoc, append-nil, ◌+◌, ◌-◌, take, drop}
-use Rattle.std.specs.Prelude.{not, filter, reverse, ◌==◌, ◌&&◌, ◌||◌, find, nat_le, nat_lt, is_none, map, fold, flat_map, is_some, Result, Ok, Err, if◌then◌else◌}
-use Rattle.std.proofs.lemmas.Bool.{and_parts, eqb-true}
+use Rattle.std.proofs.Common.{◌≡◌, ℕ, List, [], ◌++◌, Option, Some, None, Bool, true, false, refl, sym, ap, ◌∙◌, subst, inl, inr, ◌⊎◌, ◌∷◌, ⊎_elim, append_assoc, append-nil, ◌+◌, ◌-◌}
+use Rattle.std.specs.Prelude.{not, reverse, ◌==◌, find, is_none, map}
+use Rattle.std.proofs.lemmas.Bool.{and_parts}
 use Rattle.rsct_packet.specs.declared.ids.ViewId.{ViewId}
 use Rattle.rsct_packet.specs.declared.ids.ProviderId.{ProviderId}
-use Rattle.rsct_packet.specs.Providers.{among}
 use Rattle.group_attr.specs.declared.attrs.Phases.{Phases}
-use Rattle.group_attr.specs.declared.attrs.Phases.TheVariants.{One, Many}
-use Rattle.proposal_core.specs.declared.proposal.Cause.TheVariants.{Died, Gone}
 use Rattle.proposal_core.specs.declared.proposal.Proposal.{Proposal}
 use Rattle.proposal_core.specs.declared.entry.Entry.{Entry}
 use Rattle.proposal_core.specs.declared.entry.Entry.TheVariants.{Once, Begin, Late}
 use Rattle.proposal_core.specs.declared.group_state.GroupState.{GroupState}
 use Rattle.proposal_core.specs.declared.group_state.Running.{Running}
-use Rattle.proposal_core.specs.Fold.{max_phases, fits, apply, after, runs, present}
+use Rattle.proposal_core.specs.Fold.{fits, apply, after, runs}
 use Rattle.proposal_core.specs.Lists.{list_or_new, state_in, len_in, has_room, entry_fits, with_entry}
-use Rattle.batch_rules.specs.Waiting.{WaitingView, add_failure, drop_join}
-use Rattle.vote_phases.specs.Tally.{TallyView, tally_fail, expires, open_voters}
+use Rattle.vote_phases.specs.Tally.{TallyView, tally_fail}
 use Rattle.node_state.specs.declared.group.GroupRow.{GroupRow}
 use Rattle.node_state.specs.declared.group.Led.{Led}
 use Rattle.node_state.specs.declared.state.Core.{Core}
-use Rattle.node_state.specs.State.{row_of, with_row, with_led, led_of, list_of, state_of, len_of, fits_at_end, list_forgotten, forget_below, leader_of, others, least_acked, recorded, InNameOrder, row_found, holds, coordinates, is_this, leader_in, leads_in, leads, set_leader, acked_raised, decision_of, with_sessions, has_name, held_rows, recorded_all, frozen, led_groups, acked_by}
-use Rattle.node_state.specs.Sending.{send_all, sent, send_on, send_request, send_requests, send_if_known, send_votes_again}
-use Rattle.node_state.specs.HandOn.{Answering, hand_on, subscriber_name, note_of}
-use Rattle.node_state.specs.Leading.{put, put_and_hand, forget_least, with_waiting, wait_if, new_members_wait, appended, append_if_fits, tally_for, tally_set, tally_opened, closing_entry, is_phase, closes_from, closes, begin_many, begins, with_tally}
+use Rattle.node_state.specs.State.{row_of, with_row, with_led, led_of, list_of, state_of, len_of, fits_at_end, leader_of, others, recorded, row_found, is_this, leader_in, leads_in, leads, set_leader, with_sessions, has_name, recorded_all}
+use Rattle.node_state.specs.Leading.{put, tally_for, tally_set, tally_opened, closing_entry, with_tally}
 use Rattle.run_safety.specs.Past.{records_of}
 use Rattle.node_state.specs.declared.happened.Happened.{Happened}
 use Rattle.step_refinement.proofs.Turns.{has_turned, has_last, has_pushed_on}
-use Rattle.entry_laws.proofs.closing_rows.At.{found, leads_row, leads_is, Silent}
-use Rattle.entry_laws.proofs.closing_rows.Leading.{forgotten_state, once_idle, late_same}
+use Rattle.entry_laws.proofs.closing_rows.At.{found, leads_row, leads_is}
+use Rattle.entry_laws.proofs.closing_rows.Leading.{once_idle, late_same}
 use Rattle.node_state.specs.declared.group.Given.{Given}
-use Rattle.std.specs.Option.{unwrap_or, option_map}
+use Rattle.std.specs.Option.{option_map}
 use Rattle.rsct_packet.specs.declared.ids.ProtoId.{ProtoId}
 use Rattle.rsct_packet.specs.Search.{Has}
 use Rattle.proposal_core.specs.declared.entry.Vote.{Vote}
-use Rattle.name_server.specs.declared.names.Leader.{Leader}
 use Rattle.client_callbacks.specs.declared.told.Why.{Why}
-use Rattle.client_callbacks.specs.declared.told.Why.TheVariants.{GroupsFull, Dissolved}
-use Rattle.session_state.specs.declared.state.Request.{Request}
-use Rattle.session_state.specs.State.{outstanding, provider_of, is_member_of, is_client_of, is_kept_for, client_token}
-use Rattle.session_state.specs.HandOn.{is_numbered, take_telling}
-use Rattle.node_state.specs.declared.group.Decision.{Decision}
-use Rattle.node_state.specs.Settings.{is_fixed, is_rings}
-use Rattle.node_state.specs.Deciding.{decided}
-use Rattle.node_state.specs.Following.{take_lookup, told_if, take_tell, requests_of, named, is_name_used, take_name, tell_again, decide_new, request_after, request_at, is_group_refused, take_request, entry_next, entry_elsewhere, take_entry, acked, take_ack, vote_cast, take_vote, tally_failed, wait_gone, marked, gone_present, gone_of, take_gone}
-use Rattle.node_state.proofs.NameOrder.{cases_text, row_here, row_there, rows_ordered}
-use Rattle.step_refinement.proofs.Appending.{handed_rows}
+use Rattle.client_callbacks.specs.declared.told.Why.TheVariants.{Dissolved}
+use Rattle.session_state.specs.State.{outstanding}
+use Rattle.session_state.specs.HandOn.{take_telling}
+use Rattle.node_state.specs.Following.{named, vote_cast}
+use Rattle.node_state.proofs.NameOrder.{row_here}
 use Rattle.row_laws.proofs.honest_votes.Closes.{runs_is}
-use Rattle.row_laws.proofs.honest_votes.Keeps.{told_no_more, KeepsNoMore}
-use Rattle.std.specs.Str.{bytes_eq}
 use Rattle.std.proofs.lemmas.List.{reverse-append}
-use Rattle.rsct_packet.proofs.HasLaws.{has_append, append_has_left, append_has_right, has_filter}
-use Rattle.group_attr.specs.Attrs.{host_membership, first_fault}
-use Rattle.subscribe_core.specs.declared.subs.Subscription.{Subscription}
-use Rattle.session_state.specs.declared.state.Provider.{Provider}
+use Rattle.rsct_packet.proofs.HasLaws.{has_append, append_has_left, append_has_right}
 use Rattle.view_state.specs.declared.install.Install.{Install}
 use Rattle.view_state.specs.declared.install.Base.{Base}
 use Rattle.view_state.specs.Bases.{bases_of, base_named}
-use Rattle.view_state.specs.declared.packet.ViewSend.{ViewSend}
-use Rattle.view_state.specs.declared.views.ViewWork.{ViewWork}
-use Rattle.view_state.specs.Views.{own_install, views_entered, views_at_work, gathering_ticks, install_again, ask_rule, prepare_rule, answer_rule, refuse_rule, install_rule, taken_rule}
-use Rattle.node_state.specs.Applying.{Lacking, lacking, fill_lists, level_set, base_row, base_record, view_entered, is_in_base, number_of, dissolved, dissolved_if, group_dissolved, sides_dissolved, base_note, entering_note, entering_noted, taken_sent, owed_sent, wait_failed, phase_reopened, lead, lead_groups, entered, entered_if, apply_install, views_taken, own_parts}
+use Rattle.view_state.specs.Views.{own_install, views_entered, views_at_work}
+use Rattle.node_state.specs.Applying.{level_set, base_row, base_record, view_entered, number_of, dissolved, lead, entered, own_parts}
 use Rattle.step_refinement.proofs.BaseOrder.{bases_ordered, row_of_base, base_noted}
 use Rattle.entry_laws.proofs.closing_rows.Works.{Stays, begun_stays, ticks_stay, install_again_stays, ask_stays, prepare_stays, answer_stays, refuse_stays, install_stays, taken_stays}
-use Rattle.rsct_packet.specs.declared.mask.Mask.{Mask}
-use Rattle.rsct_packet.specs.Mask.{nodes_of}
-use Rattle.adapter_ring.specs.declared.ring.Ring.{Ring}
-use Rattle.adapter_ring.specs.declared.ring.RingSet.{RingSet}
-use Rattle.adapter_ring.specs.declared.packet.RingSend.{RingSend}
-use Rattle.adapter_ring.specs.declared.packet.RingPacket.{RingPacket}
-use Rattle.adapter_ring.specs.declared.work.RingWork.{RingWork}
-use Rattle.adapter_ring.specs.Rings.{ring_step}
-use Rattle.node_reach.specs.declared.reach.Reach.{Reach}
-use Rattle.packet_bodies.specs.declared.body.ReportRow.{ReportRow}
-use Rattle.node_state.specs.Ticks.{ring_put, set_records, ring_taken, ring_rule_of, ring_rule, row_reported, take_report, rings_union, report_of, send_report, rings_tick, tick_rings, ring_ask, tick_views, is_lost, lost_told, tick_owed, late_appended, announced, ticked_in, tally_ticks, entries_sent, list_sent_again, sent_again, tick_group, tick_led}
-use Rattle.proposal_core.specs.GroupView.{GroupView}
-use Rattle.std.specs.List.{last_or, list_any}
-use Rattle.group_attr.specs.declared.attrs.Attrs.{Attrs}
-use Rattle.proposal_core.specs.declared.proposal.Proposal.TheVariants.{Leave, Expel, State, Message, Attributes}
+use Rattle.node_state.specs.Ticks.{ring_ask, ticked_in}
 use Rattle.client_callbacks.specs.declared.ballot.Filled.{Filled}
-use Rattle.client_callbacks.specs.Ballots.{is_within, value_limit}
-use Rattle.subscribe_core.specs.declared.subs.ClientToken.{ClientToken}
-use Rattle.subscribe_core.specs.declared.subs.SubToken.{SubToken}
-use Rattle.session_state.specs.declared.fault.GsFault.{GsFault}
 use Rattle.session_state.specs.declared.state.KeptBallot.{KeptBallot}
-use Rattle.session_state.specs.declared.state.MemberToken.{MemberToken}
-use Rattle.session_state.specs.declared.state.OpenPhase.{OpenPhase}
 use Rattle.session_state.specs.declared.state.SessionState.{SessionState}
-use Rattle.session_state.specs.Calls.{unless_fault, fault_if, attributes_fault, init_fault, add_session, inited, join_fault, join_asked, joined, asked, ask_fault, member_asks, if_session, is_empty, request_made, value_fault, message_fault, targets_fault, left, expelled, state_changed, message_sent, member_changes, attributes_changed, ballot_of, keeps, vote_in, member_votes, voted, subscribe_fault, subscribe_taken, unsubscribe_fault, unsubscribe_taken, client_fault, is_owned, end_session, goodbye_taken}
-use Rattle.subscribe_core.specs.Subs.{subs_add, subs_remove}
-use Rattle.node_state.specs.declared.call.CallLine.{CallLine}
-use Rattle.node_state.specs.Calls.{caller, subscriber, refuse_call, changed, ask_last, proposed, record_ballot, ballot_sent_if, cast_last, give_ballot, send_gone, send_all_gone, goodbye_said, take_call}
-use Rattle.view_state.specs.declared.packet.ViewPacket.{ViewPacket}
+use Rattle.session_state.specs.Calls.{asked, keeps}
 use Rattle.node_state.specs.declared.packet.Body.{Body}
 use Rattle.node_state.specs.declared.packet.Packet.{Packet}
-use Rattle.node_state.specs.Status.{status_text}
-use Rattle.node_state.specs.Step.{NodeEvent, Ticks, Asks, Given, Calls, Garbage, is_used, used_if, take_order, view_rule, take_body, packet_rule, stepped, at_work}
-use Rattle.step_refinement.specs.Tied.{Scene, Tied}
-use Rattle.step_refinement.specs.Rules.{acted, Arises}
-use Rattle.entry_laws.proofs.closing_rows.Steps.{entry_follows, entry_had_put, request_leads, stepped_is}
-use Rattle.node_state.specs.declared.packet.Body.TheVariants as body
-use Rattle.node_state.specs.declared.happened.Happened.TheVariants as happened
-use Rattle.name_server.specs.Names as names
-use Rattle.client_callbacks.specs.declared.told.Told.TheVariants as told
-use Rattle.view_state.specs.declared.packet.ViewPacket.TheVariants as packet
-use Rattle.adapter_ring.specs.declared.packet.RingEvent.TheVariants as ring_event
-use Rattle.node_reach.specs.Reach as reach
-use Rattle.session_state.specs.declared.fault.Field.TheVariants as field
-use Rattle.session_state.specs.declared.fault.GsFault.TheVariants as fault
-use Rattle.node_state.specs.declared.call.CallLine.TheVariants as call
-use Rattle.view_state.specs.declared.packet.ViewPacket.TheVariants as view
-use Rattle.view_state.specs.Views.{views_at_work}
-use Rattle.step_walk.proofs.Changes.{Any, Viewing, Asks, Prepares, Answers, Refuses, Installs, Takes, Gathers, Reminds, viewing, put_sent, handing, KeepsRing}
-use Rattle.step_walk.proofs.Kept.{IsCast, KeptIs, KeepsNoMore, OneMore, told_no_more}
-use Rattle.step_walk.proofs.Evidence.{IsLed, Beside, Saying, delivered, Plain, Turning, KeepsBeside, KeepsLed, Keeping, KeepsPackets, KeepsEntering, KeepsCalling, KeepsDelivery}
+use Rattle.node_state.specs.Step.{is_used}
+use Rattle.step_walk.proofs.Changes.{Any, Viewing, Asks, Prepares, Answers, Refuses, Installs, Takes, Gathers, Reminds, viewing, KeepsRing}
+use Rattle.step_walk.proofs.Kept.{IsCast, KeptIs, OneMore, told_no_more}
+use Rattle.step_walk.proofs.Evidence.{IsLed, Saying, delivered, Plain, Turning, KeepsBeside, KeepsLed, Keeping, KeepsPackets, KeepsEntering, KeepsCalling, KeepsDelivery}
 use Rattle.step_walk.proofs.Delivering.{at_delivered}
 use Rattle.entry_laws.proofs.carried_values.At.{RowIs, PutFact, Facts, Course, At, ballot_on, body_on, at_fewer, at_sent_on, at_pushed, at_recorded, at_sessions, at_views, at_row_for, at_row}
 use Rattle.entry_laws.proofs.carried_values.Slots.{TallyIs, failed_is, voted_is, ticked_is, opened_is, closing_carries}
 use Rattle.entry_laws.proofs.carried_values.More.{entry_on}
 use Rattle.entry_laws.specs.carried_values.Carried.{EntryCarries, BallotTold, KeptTold, BodyTold}
+use Rattle.node_state.specs.declared.packet.Body.TheVariants as body
+use Rattle.node_state.specs.declared.happened.Happened.TheVariants as happened
+use Rattle.session_state.specs.HandOn as session
+use Rattle.node_state.specs.State.{leader_by}
+use Rattle.proposal_core.specs.declared.entry.Entry.TheVariants.{Phase, Approve, Reject}
+use Rattle.node_state.specs.Deciding.{keep_decision, wait_join}
 
 -- ---- rows
 
@@ -251,8 +198,8 @@ module _ (h : Course) where
 
   plain_row : (s : Core) (g : List ℕ) (e : Entry) → Plain s g e → fits_at_end s g e ≡ true → Is s (found s g) → Is s (put_row s (found s g) e) × EntryCarries (rs s) e
   unfolding fits_at_end entry_fits list_of row_of with_entry apply
-  plain_row s g (Once x) plain fits k =
-      (row_is_idle (rs s) (leads_row s (found s g)) (found s g) (put_row s (found s g) (Once x)) refl (once_idle (state_in (found s g).list) s.views.view (list_or_new (found s g).list).len x (and_parts (fold.fits (state_in (found s g).list) (Once x)) (has_room (list_or_new (found s g).list) (Once x)) fits).0) k, tt)
+  plain_row s g (Once x) plain room k =
+      (row_is_idle (rs s) (leads_row s (found s g)) (found s g) (put_row s (found s g) (Once x)) refl (once_idle (state_in (found s g).list) s.views.view (list_or_new (found s g).list).len x (and_parts (fits (state_in (found s g).list) (Once x)) (has_room (list_or_new (found s g).list) (Once x)) room).0) k, tt)
   plain_row s g (Late proto phase ps) plain fits k =
       (row_is_same (rs s) (leads_row s (found s g)) (found s g) (put_row s (found s g) (Late proto phase ps)) refl refl (ap (λ (st : GroupState). st.running) (late_same (state_in (found s g).list) s.views.view (list_or_new (found s g).list).len (Late proto phase ps) refl)) k, tt)
   plain_row s g (Begin x) plain fits k = absurd plain
@@ -318,7 +265,7 @@ module _ (h : Course) where
   led_by s g n own a = at_row h Every s g (λ row. record row { leader = Some n }) (λ x. refl) (λ t. own) a
 
   idle_row : (s : Core) (g : List ℕ) → leads s g ≡ false → Full s → (found s g).led.tally ≡ None
-  idle_row s g no a = row_unled (rs s) (leads_row s (found s g)) (found s g) (leads_is s g ∙ no) (a.tallies g tt)
+  idle_row s g un a = row_unled (rs s) (leads_row s (found s g)) (found s g) (leads_is s g ∙ un) (a.tallies g tt)
 
   -- nobody leads where nobody is known
   unnamed : (s : Core) (g : List ℕ) → is_none (leader_of s g) ≡ true → leads s g ≡ false
@@ -366,7 +313,7 @@ module _ (h : Course) where
         joins = λ s g q r attrs e a. led_row (keep_decision s g q r None) g _ (λ l. (refl, refl)) (led_row s g _ (λ l. (refl, refl)) a);
         tells = λ s q r y telling_it numbered a. telling s q r y a;
         comes = λ s q v g place stable e bs k to is used at fits a. (let z = k.entry v g place stable e is used at in at_put Every Every s g e [] 0 bs (λ c. z.0) (λ k u ne. tt) (λ u. inl (idle_row s g z.1 a)) a, inl (k.entry v g place stable e is used at).1);
-        follows = λ s g n no a. led_by s g n (inl (idle_row s g (sure no) a)) a;
+        follows = λ s g n un a. led_by s g n (inl (idle_row s g (sure un) a)) a;
         casts = λ s q v g proto phase p vote value message k is led runs_it a. counts s g proto phase p vote value message (subst (BodyTold (rs s)) is k.told) runs_it a;
         fails = λ s g p t led e a. at_row h Every s g _ (λ x. refl) (λ u. row_failed (rs s) (leads_row s (found s g)) (found s g) p t e (a.tallies g tt)) a;
         ticks = λ s g led a. at_row h Every s g _ (λ x. refl) (λ u. row_ticked (rs s) (leads_row s (found s g)) (found s g) (a.tallies g tt)) a;
