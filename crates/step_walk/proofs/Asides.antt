@@ -1,4 +1,7 @@
 -- What changes beside lists, tallies and leaders keeps what is kept by each such change: sending, noting, forgetting, waiting.
+use Rattle.std.specs.Prelude.{◌-◌, drop, max, nat_le, if◌then◌else◌}
+use Rattle.proposal_core.specs.GroupView.{GroupView}
+use Rattle.proposal_core.specs.Lists.{len_in, state_in, forgotten}
 use Rattle.std.proofs.Common.{◌≡◌, ◌++◌, ℕ, List, [], ◌∷◌, length, Option, Some, None, Bool, true, false, refl, sym, subst, inl, inr, append_assoc, append-nil}
 use Rattle.std.specs.Prelude.{not, map, filter, fold, flat_map}
 use Rattle.rsct_packet.specs.declared.ids.ProviderId.{ProviderId}
@@ -30,8 +33,30 @@ use Rattle.node_state.specs.Leading.{put, put_and_hand, forget_least, with_waiti
 use Rattle.step_walk.proofs.Waiting.{Few, MildWaits, fails_few}
 use Rattle.step_walk.proofs.Changes.{put_sent, handing}
 use Rattle.step_walk.proofs.Kept.{IsCast, CastIs, cast_is_on, casts_recorded}
-use Rattle.step_walk.proofs.Leading.{IsNote, forgotten_len, forgotten_state}
 use Rattle.step_walk.proofs.Evidence.{Saying, delivered, KeepsBeside}
+
+-- what a subscriber is told
+abbrev pub IsNote : Happened → Type 0
+IsNote (happened.Noted n c v i told) = Unit {0}
+IsNote _ = ⊥
+
+pub forgotten_len : (m : ℕ) (l : Option GroupView) → len_in (list_forgotten m l) ≡ len_in l
+unfolding forgotten
+forgotten_len m None = refl
+forgotten_len m (Some l) = by (nat_le m l.len)
+  where
+    by : (b : Bool) → (if b then record l { start = max l.start m; entries = drop (m - l.start) l.entries } else l).len ≡ l.len
+    by true = refl
+    by false = refl
+
+pub forgotten_state : (m : ℕ) (l : Option GroupView) → state_in (list_forgotten m l) ≡ state_in l
+unfolding forgotten
+forgotten_state m None = refl
+forgotten_state m (Some l) = by (nat_le m l.len)
+  where
+    by : (b : Bool) → (if b then record l { start = max l.start m; entries = drop (m - l.start) l.entries } else l).state ≡ l.state
+    by true = refl
+    by false = refl
 
 pub at_either : (P : Core → Type 0) {s t : Core} (b : Bool) → P s → P t → P (elim b as (λ _. Core) [ true ↦ s | false ↦ t ])
 at_either P true p q = p

@@ -126,16 +126,16 @@ pub record KeepsPackets (P : Core → Type 0) (Between : List ℕ → Core → T
   pub casts : (s : Core) (q : Packet) (v : ViewId) (g : List ℕ) (proto : ProtoId) (phase : ℕ) (p : ProviderId) (vote : Vote) (value message : Option (List ℕ)) → Given s q → q.body ≡ body.Vote v g proto phase p vote value message → leads s g ≡ true → runs proto phase (state_of s g).running ≡ true → P s → P (with_led s g (λ l. vote_cast l p vote value message l.tally))
   pub fails : (s : Core) (g : List ℕ) (p : ProviderId) (t : TallyView) → IsLed Unasked s g → (led_of s g).tally ≡ Some t → P s → P (with_tally s g (Some (tally_fail p t)))
   pub ticks : (s : Core) (g : List ℕ) → IsLed Unasked s g → P s → P (with_tally s g (ticked_in (led_of s g).tally))
+  pub reopens : (s : Core) (g : List ℕ) → IsLed Unasked s g → P s → P (tally_opened s g)
 
 -- by the rules of views. What the node lacks is put where something less holds, until the view is entered
-pub record KeepsEntering (P Leaving : Core → Type 0) (Unasked : Type 0) : Type 0 where
+pub record KeepsEntering (P Leaving : Core → Type 0) : Type 0 where
   pub views : (s : Core) (v : Viewing) → P s → P (record s { views = (viewing s v).views })
   pub leaves : (s : Core) → P s → Leaving s
   pub beside : KeepsBeside Leaving Any
   pub fills : (s : Core) (g : List ℕ) (e : Entry) (bs : List (Option Filled)) → Leaving s → Leaving (delivered s g e [] 0 bs)
   pub enters : (s : Core) (i : Install) → Leaving s → P (view_entered s i (bases_of i))
   pub dissolves : (s : Core) (q : ProviderId) (x : Provider) → provider_of s.sessions q ≡ Some x → P s → P (dissolved s x.p (number_of (outstanding s.sessions x.p)))
-  pub reopens : (s : Core) (g : List ℕ) → IsLed Unasked s g → P s → P (tally_opened s g)
 
 -- by the calls of clients: no new ballot is kept, but by a vote, which is recorded
 pub record KeepsCalling (P : Core → Type 0) : Type 0 where

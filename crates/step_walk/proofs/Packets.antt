@@ -1,4 +1,15 @@
 -- What keeps each change keeps what is owed, the rules of packets of groups, and the tick of what is led.
+use Rattle.std.proofs.Common.{◌++◌}
+use Rattle.std.specs.Prelude.{not, length}
+use Rattle.group_attr.specs.Agree.{agree}
+use Rattle.proposal_core.specs.declared.group_state.Running.{Running}
+use Rattle.proposal_core.specs.declared.group_state.GroupState.{GroupState}
+use Rattle.proposal_core.specs.Fold.{max_providers}
+use Rattle.proposal_core.specs.Lists.{is_at_limit}
+use Rattle.batch_rules.specs.Waiting.{has_instance}
+use Rattle.node_state.specs.declared.group.Led.{Led}
+use Rattle.node_state.specs.State.{list_of}
+use Rattle.node_state.specs.Deciding.{lacks_source, source_len, is_idle_empty, meant_attrs, has_other_source, is_no_member, full_refusal, collide_refusal}
 use Rattle.std.proofs.Common.{◌≡◌, ◌⊎◌, ◌∙◌, sym, ℕ, ◌+◌, ◌-◌, List, [], ◌∷◌, take, drop, Option, Some, None, Bool, true, false, refl, subst, inl, inr}
 use Rattle.std.specs.Prelude.{◌==◌, ◌&&◌, ◌||◌, filter, nat_lt, nat_le, is_none}
 use Rattle.std.specs.Option.{unwrap_or}
@@ -50,7 +61,57 @@ use Rattle.step_walk.proofs.Evidence.{IsLed, KeepsBeside, Keeping, KeepsPackets}
 use Rattle.step_walk.proofs.Steady.{AsLed, Steady, begun, are_led, led_now, as_row, as_delivered, steadily, steady_beside, steady_between, steady_led}
 use Rattle.step_walk.proofs.Asides.{at_either, at_fold, at_sent, at_known, at_rest_put, at_led, at_forgets, at_forgets_least, at_waiting}
 use Rattle.step_walk.proofs.Appending.{at_closes, at_begins, at_late, at_refused}
-use Rattle.step_walk.proofs.Rules.{join_fair, other_fair}
+
+-- a ballot leaves the decisions as they are
+pub cast_decided : (l : Led) (q : ProviderId) (v : Vote) (value message : Option (List ℕ)) (o : Option TallyView) → (vote_cast l q v value message o).decided ≡ l.decided
+unfolding vote_cast
+cast_decided l q v value message None = refl
+cast_decided l q v value message (Some t) = refl
+
+-- ---- why requests are refused
+
+join_fair : (s : Core) (g : List ℕ) (q : ProviderId) (a : Attrs) → Fairly (join_refusal s g q a)
+unfolding join_refusal
+join_fair s g q a =
+    by (not idle && not (agree a st.attrs)) (has_instance here q) (lacks_source s source q.node) (nat_le max_providers (length here)) (is_none st.running && is_at_limit (list_of s g))
+  where
+    st : GroupState
+    st = state_of s g
+
+    idle : Bool
+    idle = is_idle_empty st
+
+    here : List ProviderId
+    here = present st ++ (led_of s g).waiting.joins
+
+    source : Option (List ℕ)
+    source = (meant_attrs st a idle).source
+
+    by : (b0 b1 b2 b3 b4 : Bool) → Fairly (elim b0 as (λ _. Option Why) [ true ↦ Some why.BadAttributes | false ↦ elim b1 as (λ _. Option Why) [ true ↦ Some why.DuplicateInstance | false ↦ elim b2 as (λ _. Option Why) [ true ↦ Some (why.NoSource (source_len s source)) | false ↦ elim b3 as (λ _. Option Why) [ true ↦ Some (why.GroupFull 64) | false ↦ elim b4 as (λ _. Option Why) [ true ↦ Some (why.ListFull (list_of s g).len (list_of s g).bytes) | false ↦ None ] ] ] ] ])
+    by true b1 b2 b3 b4 = refl
+    by false true b2 b3 b4 = refl
+    by false false true b3 b4 = refl
+    by false false false true b4 = refl
+    by false false false false true = refl
+    by false false false false false = tt
+
+full_fair : (s : Core) (g : List ℕ) (o : Option Running) → Fairly (collide_refusal s g o)
+unfolding collide_refusal full_refusal
+full_fair s g (Some run) = refl
+full_fair s g None = by (is_at_limit (list_of s g))
+  where
+    by : (b : Bool) → Fairly (elim b as (λ _. Option Why) [ true ↦ Some (why.ListFull (list_of s g).len (list_of s g).bytes) | false ↦ None ])
+    by true = refl
+    by false = tt
+
+other_fair : (s : Core) (g : List ℕ) (q : ProviderId) (x : Proposal) → Fairly (other_refusal s g q x)
+unfolding other_refusal
+other_fair s g q x = by (is_no_member (state_of s g) (led_of s g).gone q x) (has_other_source (state_of s g).attrs x)
+  where
+    by : (a b : Bool) → Fairly (elim a as (λ _. Option Why) [ true ↦ Some why.NotAMember | false ↦ elim b as (λ _. Option Why) [ true ↦ Some why.BadAttributes | false ↦ collide_refusal s g (state_of s g).running ] ])
+    by true b = refl
+    by false true = refl
+    by false false = full_fair s g (state_of s g).running
 
 -- what sends a kept ballot leaves those that are kept
 kept_again_same : (s : Core) (b : KeptBallot) → (kept_sent_again s b).sessions ≡ s.sessions

@@ -1,4 +1,7 @@
 -- The rules of views, and a whole step, keep what is kept by each change.
+use Rattle.node_state.specs.Ticks.{tick_rule, tick_led}
+use Rattle.node_state.specs.Ending.{end_step}
+use Rattle.node_state.specs.Calls.{take_call}
 use Rattle.std.proofs.Common.{◌≡◌, ℕ, List, Option, Some, None, Bool, true, false, refl, sym, subst}
 use Rattle.std.specs.Prelude.{not, ◌==◌, ◌&&◌}
 use Rattle.std.specs.Str.{bytes_eq}
@@ -62,15 +65,35 @@ use Rattle.node_state.specs.Applying.{Lacking, fill_lists, base_note, entering_n
 use Rattle.node_state.specs.Ticks.{row_reported, take_report}
 use Rattle.node_state.specs.Status.{status_text}
 use Rattle.node_state.specs.Step.{is_used, used_if, view_rule, take_body}
+use Rattle.client_callbacks.specs.declared.ballot.Filled.{Filled}
 use Rattle.step_walk.proofs.Waiting.{fails_few}
 use Rattle.step_walk.proofs.Changes.{Any, Tells, Viewing, Asks, Prepares, Answers, Refuses, Installs, Takes, Gathers, Reminds, viewing}
-use Rattle.step_walk.proofs.Leading.{IsNote}
-use Rattle.step_walk.proofs.Walking.{called, before_end, stepped_is}
-use Rattle.step_walk.proofs.Evidence.{IsLed, KeepsBeside, Keeping, KeepsPackets, KeepsEntering}
+use Rattle.step_walk.proofs.Evidence.{delivered, IsLed, KeepsBeside, Keeping, KeepsPackets, KeepsEntering}
 use Rattle.step_walk.proofs.Steady.{Steady, led_now, as_row, steadily}
-use Rattle.step_walk.proofs.Asides.{at_either, at_fold, at_sent, at_notes, at_rest_put, at_waiting}
+use Rattle.step_walk.proofs.Asides.{IsNote, at_either, at_fold, at_sent, at_notes, at_rest_put, at_waiting}
 use Rattle.step_walk.proofs.Packets.{at_requests, at_votes, at_owed_part, at_ack, at_lookup, at_tell, at_name, at_request, at_entry, at_vote, at_gone, at_led_part, closed_still, led_still}
 use Rattle.step_walk.proofs.Ends.{at_ended}
+
+-- the node after the call of the event, or before any other event
+abbrev pub called : Core → NodeEvent → Core
+called s (step.Calls c) = take_call s c
+called s _ = s
+
+-- a step before its end
+abbrev pub before_end : Answering → Core → NodeEvent → Core
+before_end f s step.Ticks = tick_led f (tick_owed (tick_views f (tick_rings s)))
+before_end f s (step.Asks mask) = take_order f s mask
+before_end f s (step.Given q) = packet_rule f s q
+before_end f s (step.Calls c) = take_call s c
+before_end f s step.Garbage = s
+
+pub stepped_is : (f : Answering) (s : Core) (e : NodeEvent) → stepped f s e ≡ end_step f (before_end f (at_work s) e)
+unfolding stepped event_rule tick_rule
+stepped_is f s step.Ticks = refl
+stepped_is f s (step.Asks mask) = refl
+stepped_is f s (step.Given q) = refl
+stepped_is f s (step.Calls c) = refl
+stepped_is f s step.Garbage = refl
 
 -- a packet that is given, by the rules of rings
 pub record KeepsRinging (P : Core → Type 0) (Given : Core → Packet → Type 0) : Type 0 where
@@ -108,22 +131,24 @@ module _ (P : Core → Type 0) (k : KeepsBeside P Any) where
   unfolding taken_sent
   at_taken_sent {s} p = at_either P (s.views.view.coord == s.views.me) p (at_sent P Any k s.views.view.coord (body.View (packet.Taken s.views.view)) tt p)
 
-  at_views_sent : {s : Core} (xs : List ViewSend) → P s → P (fold (λ t (x : ViewSend). sent t x.to (body.View x.packet)) s xs)
+  pub at_views_sent : {s : Core} (xs : List ViewSend) → P s → P (fold (λ t (x : ViewSend). sent t x.to (body.View x.packet)) s xs)
   at_views_sent xs p = at_fold P (λ t (x : ViewSend). sent t x.to (body.View x.packet)) (λ t x h. at_sent P Any k x.to (body.View x.packet) tt h) xs p
 
-module _ (P : Core → Type 0) (Between : List ℕ → Core → Type 0) (Leaving : Core → Type 0) (Unasked : Type 0) (Given : Core → Packet → Type 0) (rules : KeepsPackets P Between Unasked Given) (rings : KeepsRinging P Given) (views : KeepsEntering P Leaving Unasked) where
+-- what the node lacks is put and heard
+module _ (Leaving : Core → Type 0) (beside : KeepsBeside Leaving Any) (fills : (s : Core) (g : List ℕ) (e : Entry) (bs : List (Option Filled)) → Leaving s → Leaving (delivered s g e [] 0 bs)) where
+  pub at_filled : (f : Answering) {s : Core} (xs : List Lacking) → Leaving s → Leaving (fill_lists f s xs)
+  unfolding fill_lists
+  at_filled f xs p =
+      at_fold Leaving (λ t (x : Lacking). fold (λ u e. put_and_hand f u None x.name e) t x.entries) (λ t x h. at_fold Leaving (λ u (e : Entry). put_and_hand f u None x.name e) (λ u e q. at_rest_put Leaving Any beside f u None x.name e (λ bs. fills u x.name e bs q)) x.entries h) xs p
+
+module _ (P : Core → Type 0) (Between : List ℕ → Core → Type 0) (Unasked : Type 0) (Given : Core → Packet → Type 0) (rules : KeepsPackets P Between Unasked Given) where
   k : Keeping P Between Unasked
   k = rules.keeping
 
   b : KeepsBeside P Any
   b = rules.keeping.beside
 
-  -- ---- entering a view
-
-  at_filled : (f : Answering) {s : Core} (xs : List Lacking) → Leaving s → Leaving (fill_lists f s xs)
-  unfolding fill_lists
-  at_filled f xs p =
-      at_fold Leaving (λ t (x : Lacking). fold (λ u e. put_and_hand f u None x.name e) t x.entries) (λ t x h. at_fold Leaving (λ u (e : Entry). put_and_hand f u None x.name e) (λ u e q. at_rest_put Leaving Any views.beside f u None x.name e (λ bs. views.fills u x.name e bs q)) x.entries h) xs p
+  -- ---- what follows as a view is entered
 
   at_group_led : (f : Answering) (s0 : Core) {s : Core} (g : List ℕ) → IsLed Unasked s0 g → Steady P Unasked s0 s → Steady P Unasked s0 (lead f s g)
   unfolding lead wait_failed phase_reopened tally_opened tally_set with_led
@@ -140,13 +165,42 @@ module _ (P : Core → Type 0) (Between : List ℕ → Core → Type 0) (Leaving
 
       by : (c : Bool) → Steady P Unasked s0 (phase_reopened f t g c)
       by false = waits
-      by true = closed_still P Between Unasked Given rules f s0 g ok (views.reopens t g (led_now Unasked s0 t g ok waits.1) waits.0, as_row Unasked s0 t g _ (λ row. refl) (λ row. refl) (k.order t waits.0) waits.1)
+      by true = closed_still P Between Unasked Given rules f s0 g ok (rules.reopens t g (led_now Unasked s0 t g ok waits.1) waits.0, as_row Unasked s0 t g _ (λ row. refl) (λ row. refl) (k.order t waits.0) waits.1)
 
-  at_rest : (f : Answering) {e : Core} (bs : List Base) → P e → P (lead_groups f (owed_sent (taken_sent (entering_noted e bs))))
+  pub at_rest : (f : Answering) {e : Core} (bs : List Base) → P e → P (lead_groups f (owed_sent (taken_sent (entering_noted e bs))))
   unfolding owed_sent lead_groups
   at_rest f {e} bs p =
       let t : Core = taken_sent (entering_noted e bs) in
       led_still P Between Unasked Given rules f (send_votes_again (send_requests t)) (lead f) (λ u g ok h. at_group_led f (send_votes_again (send_requests t)) g ok h) (at_votes P b (send_requests t) (at_requests P b (at_taken_sent P b (at_entering_noted P b bs p))))
+
+  -- ---- packets
+
+  at_used : {s t : Core} (c : Bool) → (c ≡ true → P t) → P s → P (used_if s t c)
+  unfolding used_if
+  at_used true q p = q refl
+  at_used false q p = p
+
+  module _ (rings : KeepsRinging P Given) where
+    -- a packet that is given to the node, with what a packet of views makes of it
+    pub at_body : (f : Answering) (s : Core) (q : Packet) (x : Body) → Given s q → q.to ≡ s.views.me → q.body ≡ x → ((y : ViewPacket) → x ≡ body.View y → P (view_rule f s q.from q.inc y)) → P s → P (take_body f s q x)
+    unfolding take_body take_report
+    at_body f s q (body.Ring x) given to is view p = rings.takes s q x given to is p
+    at_body f s q (body.Report rows) given to is view p = rules.reach s (fold row_reported s.reach rows) p
+    at_body f s q (body.View x) given to is view p = view x refl
+    at_body f s q (body.Lookup v g) given to is view p = at_used (is_used s q v) (λ u. at_lookup P Between Unasked Given rules q.from g p) p
+    at_body f s q (body.Name v g n) given to is view p = at_used (is_used s q v) (λ u. at_name P Between Unasked Given rules g n p) p
+    at_body f s q (body.Request v g a r phases x) given to is view p = at_used (is_used s q v) (λ u. at_request P Between Unasked Given rules f s q v g a r phases x given to is u p) p
+    at_body f s q (body.Tell v g a r y) given to is view p =
+        at_used (is_used s q v) (λ u. at_tell P Between Unasked Given rules a r y (inr (q, given, subst (λ z. Tells z y) (sym is) refl)) p) p
+    at_body f s q (body.Entry v g place stable e) given to is view p = at_used (is_used s q v) (λ u. at_entry P Between Unasked Given rules f s q v g place stable e given to is u p) p
+    at_body f s q (body.Ack v g n) given to is view p = at_used (is_used s q v) (λ u. at_ack P b q.from g n p) p
+    at_body f s q (body.Vote v g proto phase a vote value message) given to is view p = at_used (is_used s q v) (λ u. at_vote P Between Unasked Given rules f s q v g proto phase a vote value message given is p) p
+    at_body f s q (body.Gone v g a) given to is view p = at_used (is_used s q v) (λ u. at_gone P Between Unasked Given rules f s g a p) p
+    at_body f s q (body.Query question what) given to is view p = b.sends s q.network q.from (body.Reply question (status_text s what)) tt p
+    at_body f s q (body.Reply question text) given to is view p = p
+
+module _ (P : Core → Type 0) (Between : List ℕ → Core → Type 0) (Leaving : Core → Type 0) (Unasked : Type 0) (Given : Core → Packet → Type 0) (rules : KeepsPackets P Between Unasked Given) (rings : KeepsRinging P Given) (views : KeepsEntering P Leaving) where
+  -- ---- entering a view
 
   at_dissolved_if : {s : Core} (g : List ℕ) (old : ViewId) (c : Option Base) (q : ProviderId) (o : Option Provider) → provider_of s.sessions q ≡ o → P s → P (dissolved_if s g old c o)
   unfolding dissolved_if
@@ -164,7 +218,7 @@ module _ (P : Core → Type 0) (Between : List ℕ → Core → Type 0) (Leaving
   at_entered f {s} i xs p =
       let t : Core = fill_lists f s xs in
       let bs : List Base = bases_of i in
-      at_rest f bs (at_sides (held_rows t) t.views.view bs (views.enters t i (at_filled f xs (views.leaves s p))))
+      at_rest P Between Unasked Given rules f bs (at_sides (held_rows t) t.views.view bs (views.enters t i (at_filled Leaving views.beside views.fills f xs (views.leaves s p))))
 
   at_applied : (f : Answering) {s : Core} (o : Option Install) → P s → P (apply_install f s o)
   unfolding apply_install entered_if
@@ -179,7 +233,7 @@ module _ (P : Core → Type 0) (Between : List ℕ → Core → Type 0) (Leaving
 
   at_views_taken : (f : Answering) {s : Core} (v : Viewing) → P s → P (views_taken f s (viewing s v))
   unfolding views_taken
-  at_views_taken f {s} v p = at_applied f (viewing s v).install (at_views_sent P b (viewing s v).sends (views.views s v p))
+  at_views_taken f {s} v p = at_applied f (viewing s v).install (at_views_sent P rules.keeping.beside (viewing s v).sends (views.views s v p))
 
   at_order : (f : Answering) {s : Core} (mask : Mask) → P s → P (take_order f s mask)
   unfolding take_order
@@ -193,30 +247,6 @@ module _ (P : Core → Type 0) (Between : List ℕ → Core → Type 0) (Leaving
   at_view f from inc (packet.Install i) p = at_views_taken f (Installs i) p
   at_view f from inc (packet.Taken v) p = at_views_taken f (Takes from v) p
 
-  -- ---- packets
-
-  at_used : {s t : Core} (c : Bool) → (c ≡ true → P t) → P s → P (used_if s t c)
-  unfolding used_if
-  at_used true q p = q refl
-  at_used false q p = p
-
-  at_body : (f : Answering) (s : Core) (q : Packet) (x : Body) → Given s q → q.to ≡ s.views.me → q.body ≡ x → P s → P (take_body f s q x)
-  unfolding take_body take_report
-  at_body f s q (body.Ring x) given to is p = rings.takes s q x given to is p
-  at_body f s q (body.Report rows) given to is p = rules.reach s (fold row_reported s.reach rows) p
-  at_body f s q (body.View x) given to is p = at_view f q.from q.inc x p
-  at_body f s q (body.Lookup v g) given to is p = at_used (is_used s q v) (λ u. at_lookup P Between Unasked Given rules q.from g p) p
-  at_body f s q (body.Name v g n) given to is p = at_used (is_used s q v) (λ u. at_name P Between Unasked Given rules g n p) p
-  at_body f s q (body.Request v g a r phases x) given to is p = at_used (is_used s q v) (λ u. at_request P Between Unasked Given rules f s q v g a r phases x given to is u p) p
-  at_body f s q (body.Tell v g a r y) given to is p =
-      at_used (is_used s q v) (λ u. at_tell P Between Unasked Given rules a r y (inr (q, given, subst (λ z. Tells z y) (sym is) refl)) p) p
-  at_body f s q (body.Entry v g place stable e) given to is p = at_used (is_used s q v) (λ u. at_entry P Between Unasked Given rules f s q v g place stable e given to is u p) p
-  at_body f s q (body.Ack v g n) given to is p = at_used (is_used s q v) (λ u. at_ack P b q.from g n p) p
-  at_body f s q (body.Vote v g proto phase a vote value message) given to is p = at_used (is_used s q v) (λ u. at_vote P Between Unasked Given rules f s q v g proto phase a vote value message given is p) p
-  at_body f s q (body.Gone v g a) given to is p = at_used (is_used s q v) (λ u. at_gone P Between Unasked Given rules f s g a p) p
-  at_body f s q (body.Query question what) given to is p = b.sends s q.network q.from (body.Reply question (status_text s what)) tt p
-  at_body f s q (body.Reply question text) given to is p = p
-
   -- ---- a whole step
 
   at_packet : (f : Answering) (s : Core) (q : Packet) → Given s q → P s → P (packet_rule f s q)
@@ -224,14 +254,14 @@ module _ (P : Core → Type 0) (Between : List ℕ → Core → Type 0) (Leaving
   at_packet f s q given p = by (q.to == s.views.me) refl
     where
       by : (c : Bool) → (q.to == s.views.me) ≡ c → P (elim c as (λ _. Core) [ true ↦ take_body f s q q.body | false ↦ s ])
-      by true e = at_body f s q q.body given (eqb-true q.to s.views.me e) refl p
+      by true e = at_body P Between Unasked Given rules rings f s q q.body given (eqb-true q.to s.views.me e) refl (λ y is. at_view f q.from q.inc y p) p
       by false e = p
 
-  at_before_end : (f : Answering) (s : Core) (e : NodeEvent) → GivenTo Given s e → P (called s e) → P (before_end f s e)
+  pub at_before_end : (f : Answering) (s : Core) (e : NodeEvent) → GivenTo Given s e → P (called s e) → P (before_end f s e)
   unfolding tick_views
-  at_before_end f s step.Ticks given p = 
+  at_before_end f s step.Ticks given p =
       let t : Core = tick_views f (tick_rings s) in
-      at_led_part P Between Unasked Given rules f (tick_owed t) (at_owed_part P b (at_views_taken f Reminds (at_views_taken f Gathers (rings.ticks s p))))
+      at_led_part P Between Unasked Given rules f (tick_owed t) (at_owed_part P rules.keeping.beside (at_views_taken f Reminds (at_views_taken f Gathers (rings.ticks s p))))
   at_before_end f s (step.Asks mask) given p = at_order f mask p
   at_before_end f s (step.Given q) given p = at_packet f s q given p
   at_before_end f s (step.Calls c) given p = p
@@ -239,4 +269,4 @@ module _ (P : Core → Type 0) (Between : List ℕ → Core → Type 0) (Leaving
 
   -- what holds after the call of a step, or before any other step, holds after it
   pub at_stepped : (f : Answering) (s : Core) (e : NodeEvent) → GivenTo Given (at_work s) e → P (called (at_work s) e) → P (stepped f s e)
-  at_stepped f s e given p = subst P (sym (stepped_is f s e)) (at_ended P Between Unasked k f (at_before_end f (at_work s) e given p))
+  at_stepped f s e given p = subst P (sym (stepped_is f s e)) (at_ended P Between Unasked rules.keeping f (at_before_end f (at_work s) e given p))

@@ -226,9 +226,9 @@ module _ (h : Course) where
       by (Approve c) t = made (Approve c) t
       by (Reject c) t = made (Reject c) t
 
-  opened : (T : List ℕ → Type 0) (s : Core) (g : List ℕ) → leads s g ≡ true → At h (But g) s → At h Every (tally_opened s g)
+  opened : (s : Core) (g : List ℕ) → leads s g ≡ true → At h (But g) s → At h Every (tally_opened s g)
   unfolding tally_opened tally_set with_led led_of state_of list_of row_of
-  opened T s g led a =
+  opened s g led a =
       at_row_for h (But g) Every s g (λ row. record row { led = record (row.led) { tally = Some (tally_for (state_in (found s g).list) (found s g).led.gone); given = [] } }) (λ x. refl) (λ k u ne. ne) (λ u. inr (leads_is s g ∙ led, opened_is (rs s) (state_in (found s g).list) (found s g).led.gone (state_in (found s g).list).running)) a
 
   -- what a leader keeps changes, and the tally does not
@@ -245,7 +245,7 @@ module _ (h : Course) where
         puts = λ s g e ns stable bs ok fits plain a. at_put Every Every s g e ns stable bs (λ c. put_fact s s.views.view g (len_in (found s g).list) e (plain_row s g e plain fits (a.tallies g tt)).1) (λ k u ne. tt) (λ u. (plain_row s g e plain fits (a.tallies g tt)).0) a;
         turns = λ s g e ns stable bs ok fits turning a. at_put Every (But g) s g e ns stable bs (λ c. put_fact s s.views.view g (len_in (found s g).list) e (carries s g e turning (a.tallies g tt))) (λ k u ne. tt) (λ u. absurd (u refl)) a;
         rests = λ s g ok a. at_row_for h (But g) Every s g _ (λ x. refl) (λ k u ne. ne) (λ u. inl refl) a;
-        opens = λ s g ok a. opened Every s g (sure ok) a;
+        opens = λ s g ok a. opened s g (sure ok) a;
       }
 
   keeping : Keeping Full (λ g. At h (But g)) ⊥
@@ -317,6 +317,7 @@ module _ (h : Course) where
         casts = λ s q v g proto phase p vote value message k is led runs_it a. counts s g proto phase p vote value message (subst (BodyTold (rs s)) is k.told) runs_it a;
         fails = λ s g p t led e a. at_row h Every s g _ (λ x. refl) (λ u. row_failed (rs s) (leads_row s (found s g)) (found s g) p t e (a.tallies g tt)) a;
         ticks = λ s g led a. at_row h Every s g _ (λ x. refl) (λ u. row_ticked (rs s) (leads_row s (found s g)) (found s g) (a.tallies g tt)) a;
+        reopens = λ s g led a. opened s g (sure led) (at_fewer h Every (But g) s (λ k ne. tt) a);
       }
 
 -- ---- views and calls
@@ -414,7 +415,7 @@ module _ (h : Course) where
         votes = votes;
       }
 
-  pub entering : KeepsEntering (Full h) Loose ⊥
+  pub entering : KeepsEntering (Full h) Loose
   unfolding dissolved
   entering =
       record {
@@ -424,7 +425,6 @@ module _ (h : Course) where
         fills = λ s g e bs a. at_put loose NoGroup NoGroup s g e [] 0 bs (λ c. absurd (cc)) (λ k z ne. z) (λ z. absurd z) a;
         enters = at_view_entered;
         dissolves = λ s q x e a. telling h s x.p (number_of (outstanding s.sessions x.p)) Dissolved a;
-        reopens = λ s g led a. opened h Every s g (sure led) (at_fewer h Every (But g) s (λ k ne. tt) a);
       }
 
   pub ring : KeepsRing (Full h)
