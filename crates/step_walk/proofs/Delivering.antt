@@ -45,7 +45,7 @@ module _ (P : Core → Type 0) (parts : KeepsDelivery P) where
         it : Happened
         it = happened.Heard x.p c.views.view g i e after.members after.value
 
-    at_handing : P c → P (handing c g i before after e bs)
+    pub at_handing : P c → P (handing c g i before after e bs)
     unfolding recorded_all
     at_handing k =
         let cs : List Cast = casts_out c.sessions g before after e bs in

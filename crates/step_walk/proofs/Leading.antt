@@ -15,7 +15,7 @@ use Rattle.step_walk.proofs.Evidence.{Saying, KeepsBeside, KeepsLed, Keeping}
 use Rattle.step_walk.proofs.Asides.{at_fold, at_rest_handed, at_forgets_least, at_new_members}
 use Rattle.step_walk.proofs.Appending.{at_closes}
 
-spoken : (s : Core) (b : Body) → Saying s b → Spoken s b
+pub spoken : (s : Core) (b : Body) → Saying s b → Spoken s b
 spoken s (body.Ring x) saying = saying
 spoken s (body.Tell v g q r y) saying = saying
 spoken s _ saying = tt

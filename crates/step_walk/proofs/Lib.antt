@@ -11,8 +11,8 @@ pub mod Called
 pub mod Delivering
 pub mod Stepping
 pub mod Rings
-pub mod Parts
 pub mod Leading
+pub mod Parts
 pub mod Ending
 pub mod Rules
 pub mod Calling
