@@ -1,6 +1,6 @@
 -- In the middle of a step: the ballots that the node keeps, sends and has counted were recorded, and what it put carries them.
-use Rattle.std.proofs.Common.{◌≡◌, ◌⊎◌, ℕ, List, [], ◌∷◌, ◌++◌, Option, Some, None, Bool, true, refl, sym, ap, ◌∙◌, subst, inl, inr, ⊎_elim, append_assoc, append-nil}
-use Rattle.std.specs.Prelude.{fold, reverse}
+use Rattle.std.proofs.Common.{◌≡◌, ◌⊎◌, ℕ, List, [], ◌∷◌, ◌++◌, Option, Some, None, Bool, true, sym, subst, inl, inr, ⊎_elim}
+use Rattle.std.specs.Prelude.{reverse}
 use Rattle.std.proofs.lemmas.List.{reverse-append}
 use Rattle.rsct_packet.specs.declared.ids.ViewId.{ViewId}
 use Rattle.rsct_packet.specs.declared.ids.ProviderId.{ProviderId}
@@ -20,8 +20,8 @@ use Rattle.node_state.specs.declared.packet.Body.{Body}
 use Rattle.node_state.specs.declared.packet.Body.TheVariants as body
 use Rattle.node_state.specs.declared.packet.Packet.{Packet}
 use Rattle.node_state.specs.declared.state.Core.{Core}
-use Rattle.node_state.specs.State.{InNameOrder, with_row, row_of, is_this, leader_by, recorded, recorded_all, with_sessions}
-use Rattle.node_state.specs.Sending.{packet_on, send_on, sent, network_to}
+use Rattle.node_state.specs.State.{InNameOrder, with_row, row_of, is_this, leader_by, recorded, with_sessions}
+use Rattle.node_state.specs.Sending.{packet_on, send_on}
 use Rattle.run_safety.specs.Past.{History, records_of, earlier}
 use Rattle.node_state.proofs.NameOrder.{KeepsName, cases_text, row_here, row_there, rows_ordered}
 use Rattle.entry_laws.proofs.closing_rows.Entered.{Since}

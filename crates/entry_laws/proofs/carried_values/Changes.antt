@@ -1,6 +1,6 @@
 -- What each kind of change of a step keeps.
-use Rattle.std.proofs.Common.{◌≡◌, ℕ, List, [], ◌++◌, Option, Some, None, Bool, true, false, refl, sym, ap, ◌∙◌, subst, inl, inr, ◌⊎◌, ◌∷◌, ⊎_elim, append_assoc, append-nil, ◌+◌, ◌-◌}
-use Rattle.std.specs.Prelude.{not, reverse, ◌==◌, find, is_none, map}
+use Rattle.std.proofs.Common.{◌≡◌, ℕ, List, [], ◌++◌, Option, Some, None, Bool, true, false, refl, sym, ap, ◌∙◌, subst, inl, inr, ◌⊎◌, ◌∷◌, ⊎_elim, append_assoc, append-nil}
+use Rattle.std.specs.Prelude.{reverse, ◌==◌, find, is_none, map}
 use Rattle.std.proofs.lemmas.Bool.{and_parts}
 use Rattle.rsct_packet.specs.declared.ids.ViewId.{ViewId}
 use Rattle.rsct_packet.specs.declared.ids.ProviderId.{ProviderId}
@@ -10,7 +10,7 @@ use Rattle.proposal_core.specs.declared.entry.Entry.{Entry}
 use Rattle.proposal_core.specs.declared.entry.Entry.TheVariants.{Once, Begin, Late}
 use Rattle.proposal_core.specs.declared.group_state.GroupState.{GroupState}
 use Rattle.proposal_core.specs.declared.group_state.Running.{Running}
-use Rattle.proposal_core.specs.Fold.{fits, apply, after, runs}
+use Rattle.proposal_core.specs.Fold.{fits, apply, runs}
 use Rattle.proposal_core.specs.Lists.{list_or_new, state_in, len_in, has_room, entry_fits, with_entry}
 use Rattle.vote_phases.specs.Tally.{TallyView, tally_fail}
 use Rattle.node_state.specs.declared.group.GroupRow.{GroupRow}
@@ -32,7 +32,7 @@ use Rattle.client_callbacks.specs.declared.told.Why.{Why}
 use Rattle.client_callbacks.specs.declared.told.Why.TheVariants.{Dissolved}
 use Rattle.session_state.specs.State.{outstanding}
 use Rattle.session_state.specs.HandOn.{take_telling}
-use Rattle.node_state.specs.Following.{named, vote_cast}
+use Rattle.node_state.specs.Following.{vote_cast}
 use Rattle.node_state.proofs.NameOrder.{row_here}
 use Rattle.row_laws.proofs.honest_votes.Closes.{runs_is}
 use Rattle.std.proofs.lemmas.List.{reverse-append}
@@ -41,14 +41,13 @@ use Rattle.view_state.specs.declared.install.Install.{Install}
 use Rattle.view_state.specs.declared.install.Base.{Base}
 use Rattle.view_state.specs.Bases.{bases_of, base_named}
 use Rattle.view_state.specs.Views.{own_install, views_entered, views_at_work}
-use Rattle.node_state.specs.Applying.{level_set, base_row, base_record, view_entered, number_of, dissolved, lead, entered, own_parts}
+use Rattle.node_state.specs.Applying.{level_set, base_row, base_record, view_entered, number_of, dissolved, own_parts}
 use Rattle.step_refinement.proofs.BaseOrder.{bases_ordered, row_of_base, base_noted}
 use Rattle.entry_laws.proofs.closing_rows.Works.{Stays, begun_stays, ticks_stay, install_again_stays, ask_stays, prepare_stays, answer_stays, refuse_stays, install_stays, taken_stays}
 use Rattle.node_state.specs.Ticks.{ring_ask, ticked_in}
 use Rattle.client_callbacks.specs.declared.ballot.Filled.{Filled}
 use Rattle.session_state.specs.declared.state.KeptBallot.{KeptBallot}
 use Rattle.session_state.specs.declared.state.SessionState.{SessionState}
-use Rattle.session_state.specs.Calls.{asked, keeps}
 use Rattle.node_state.specs.declared.packet.Body.{Body}
 use Rattle.node_state.specs.declared.packet.Packet.{Packet}
 use Rattle.node_state.specs.Step.{is_used}
