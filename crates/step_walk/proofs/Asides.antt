@@ -30,7 +30,10 @@ use Rattle.node_state.specs.Sending.{send_on, sent, send_all, send_if_known, net
 use Rattle.node_state.specs.HandOn.{Answering, fills, heard, note_of, notes, noted, ballot_sent, cast_sent_of, casts_sent, hand_on}
 use Rattle.node_state.specs.Leading.{put, put_and_hand, forget_least, with_waiting, wait_if, new_members_wait, appended}
 
-use Rattle.step_walk.proofs.Waiting.{Few, MildWaits, fails_few}
+use Rattle.step_walk.proofs.Waiting.{Few, Apart, MildWaits, fails_few, fails_apart}
+use Rattle.rsct_packet.specs.Providers.{differ}
+use Rattle.proposal_core.specs.Lists.{list_or_new}
+use Rattle.std.proofs.Common.{zero, suc}
 use Rattle.step_walk.proofs.Changes.{put_sent, handing}
 use Rattle.step_walk.proofs.Kept.{IsCast, CastIs, cast_is_on, casts_recorded}
 use Rattle.step_walk.proofs.Evidence.{Saying, delivered, KeepsBeside}
@@ -57,6 +60,20 @@ forgotten_state m (Some l) = by (nat_le m l.len)
     by : (b : Bool) → (if b then record l { start = max l.start m; entries = drop (m - l.start) l.entries } else l).state ≡ l.state
     by true = refl
     by false = refl
+
+pub has_dropped : {A : Type 0} (n : ℕ) (xs : List A) (x : A) → Has x (drop n xs) → Has x xs
+has_dropped zero xs x i = i
+has_dropped (suc n) [] x i = absurd i
+has_dropped (suc n) (y ∷ xs) x i = inr (has_dropped n xs x i)
+
+forgotten_has : (m : ℕ) (l : Option GroupView) (e : Entry) → Has e (list_or_new (list_forgotten m l)).entries → Has e (list_or_new l).entries
+unfolding forgotten
+forgotten_has m None e i = i
+forgotten_has m (Some l) e i = by (nat_le m l.len) i
+  where
+    by : (b : Bool) → Has e (if b then record l { start = max l.start m; entries = drop (m - l.start) l.entries } else l).entries → Has e l.entries
+    by true j = has_dropped (m - l.start) l.entries e j
+    by false j = j
 
 pub at_either : (P : Core → Type 0) {s t : Core} (b : Bool) → P s → P t → P (elim b as (λ _. Core) [ true ↦ s | false ↦ t ])
 at_either P true p q = p
@@ -157,28 +174,28 @@ module _ (P : Core → Type 0) (Ok : List ℕ → Type 0) (k : KeepsBeside P Ok)
 
   -- ---- a row changes
 
-  pub at_led : {s : Core} (g : List ℕ) (ok : Ok g) (f : Led → Led) → ((l : Led) → (f l).decided ≡ l.decided) → ((l : Led) → Few l.waiting → Few (f l).waiting) → ((l : Led) → (f l).tally ≡ l.tally) → ((l : Led) → (f l).given ≡ l.given) → P s → P (with_led s g f)
+  pub at_led : {s : Core} (g : List ℕ) (ok : Ok g) (f : Led → Led) → ((l : Led) → (f l).decided ≡ l.decided) → ((l : Led) → Few l.waiting → Few (f l).waiting) → ((l : Led) → differ l.waiting.joins ≡ true → differ (f l).waiting.joins ≡ true) → ((l : Led) → (f l).tally ≡ l.tally) → ((l : Led) → (f l).given ≡ l.given) → P s → P (with_led s g f)
   unfolding with_led
-  at_led {s} g ok f decided few tally given p =
-      k.row s g (λ row. record row { led = f row.led }) ok (record { mild = record { name = λ x. refl; leader = λ x. refl; len = λ x. refl; state = λ x. refl; decided = λ x. decided x.led; few = λ x w. few x.led w }; tally = λ x. tally x.led; given = λ x. given x.led }) p
+  at_led {s} g ok f decided few apart tally given p =
+      k.row s g (λ row. record row { led = f row.led }) ok (record { mild = record { name = λ x. refl; leader = λ x. refl; len = λ x. refl; state = λ x. refl; decided = λ x. decided x.led; few = λ x w. few x.led w }; entries = λ x e i. i; apart = λ x e. apart x.led e; tally = λ x. tally x.led; given = λ x. given x.led }) p
 
   pub at_forgets : {s : Core} (g : List ℕ) (ok : Ok g) (n : ℕ) → P s → P (forget_below s g n)
   unfolding forget_below
   at_forgets {s} g ok n p =
-      k.row s g (λ row. record row { list = list_forgotten n row.list }) ok (record { mild = record { name = λ x. refl; leader = λ x. refl; len = λ x. forgotten_len n x.list; state = λ x. forgotten_state n x.list; decided = λ x. refl; few = λ x w. w }; tally = λ x. refl; given = λ x. refl }) p
+      k.row s g (λ row. record row { list = list_forgotten n row.list }) ok (record { mild = record { name = λ x. refl; leader = λ x. refl; len = λ x. forgotten_len n x.list; state = λ x. forgotten_state n x.list; decided = λ x. refl; few = λ x w. w }; entries = λ x e i. forgotten_has n x.list e i; apart = λ x e. e; tally = λ x. refl; given = λ x. refl }) p
 
   pub at_forgets_least : {s : Core} (g : List ℕ) (ok : Ok g) → P s → P (forget_least s g)
   unfolding forget_least
   at_forgets_least {s} g ok p = at_forgets g ok (least_acked s g) p
 
-  pub at_waiting : {s : Core} (g : List ℕ) (ok : Ok g) (f : WaitingView → WaitingView) → MildWaits f → P s → P (with_waiting s g f)
+  pub at_waiting : {s : Core} (g : List ℕ) (ok : Ok g) (f : WaitingView → WaitingView) → MildWaits f → Apart f → P s → P (with_waiting s g f)
   unfolding with_waiting
-  at_waiting g ok f m p = at_led g ok (λ l. record l { waiting = f l.waiting }) (λ l. refl) (λ l w. m l.waiting w) (λ l. refl) (λ l. refl) p
+  at_waiting g ok f m apart p = at_led g ok (λ l. record l { waiting = f l.waiting }) (λ l. refl) (λ l w. m l.waiting w) (λ l e. apart l.waiting e) (λ l. refl) (λ l. refl) p
 
   at_waits_if : {s : Core} (g : List ℕ) (ok : Ok g) (q : ProviderId) (a b : Bool) → P s → P (wait_if s g q a b)
   unfolding wait_if
-  at_waits_if g ok q true b p = at_waiting g ok (add_failure q Died) (fails_few q Died) p
-  at_waits_if g ok q false true p = at_waiting g ok (add_failure q Gone) (fails_few q Gone) p
+  at_waits_if g ok q true b p = at_waiting g ok (add_failure q Died) (fails_few q Died) (fails_apart q Died) p
+  at_waits_if g ok q false true p = at_waiting g ok (add_failure q Gone) (fails_few q Gone) (fails_apart q Gone) p
   at_waits_if g ok q false false p = p
 
   pub at_new_members : {s : Core} (g : List ℕ) (ok : Ok g) (before after : GroupState) → P s → P (new_members_wait s g before after)

@@ -26,16 +26,16 @@ use Rattle.std.proofs.Common.{inl, inr}
 use Rattle.node_state.specs.Deciding.{refused, known_state, lacks_source, source_len}
 use Rattle.node_state.specs.Ending.{Pass, quiet, begun_now, failures_begin, due_begins, source_begins, attrs_for, carried_len, source_refused, joins_begin, or_due, or_joins, may_begin, first_begins, group_begins, one_pass, passes, most_begun, end_step}
 use Rattle.rsct_packet.specs.Search.{Has}
-use Rattle.step_walk.proofs.Waiting.{failures_few, joins_few}
+use Rattle.step_walk.proofs.Waiting.{failures_few, failures_apart, joins_few, joins_apart}
 use Rattle.step_walk.proofs.Evidence.{IsLed, KeepsBeside, KeepsLed, Keeping}
 use Rattle.step_walk.proofs.Asides.{at_either, at_fold, at_waiting}
 use Rattle.step_walk.proofs.Appending.{at_begins, at_refused}
 use Rattle.step_walk.proofs.Steady.{Steady, begun, are_led, steady_beside, steady_between, steady_led}
 
-module _ (P : Core → Type 0) (Between : List ℕ → Core → Type 0) (Ok : List ℕ → Type 0) (b : KeepsBeside P Ok) (m : (g : List ℕ) → KeepsBeside (Between g) Ok) (k : KeepsLed P Between (λ s. Ok)) (f : Answering) where
+module _ (P : Core → Type 0) (Between : List ℕ → Core → Type 0) (Begun : Proposal → Type 0) (Ok : List ℕ → Type 0) (b : KeepsBeside P Ok) (m : (g : List ℕ) → KeepsBeside (Between g) Ok) (k : KeepsLed P Between Begun (λ s. Ok)) (f : Answering) where
   module _ (g : List ℕ) (ok : Ok g) where
-    begins : {s : Core} (x : Proposal) (phases : Phases) → P s → P (leading.begins f s g x phases)
-    begins x phases p = at_begins P Between Ok b m k f g ok x phases p
+    begins : {s : Core} (x : Proposal) (phases : Phases) → Begun x → P s → P (leading.begins f s g x phases)
+    begins x phases begun p = at_begins P Between Begun Ok b m k f g ok x phases begun p
 
     at_failures : (n : ℕ) (s : Core) → P s → P (failures_begin n f s g).core
     unfolding failures_begin
@@ -49,17 +49,17 @@ module _ (P : Core → Type 0) (Between : List ℕ → Core → Type 0) (Ok : Li
         t = with_waiting s g (failures_left (state_of s g).attrs.batch)
 
         left : P t
-        left = at_waiting P Ok b g ok (failures_left (state_of s g).attrs.batch) (failures_few (state_of s g).attrs.batch) p
+        left = at_waiting P Ok b g ok (failures_left (state_of s g).attrs.batch) (failures_few (state_of s g).attrs.batch) (failures_apart (state_of s g).attrs.batch) p
 
         by : (c : Bool) → ((s : Core) → P s → P (failures_begin n f s g).core) → P (elim c as (λ _. Pass) [ true ↦ failures_begin n f t g | false ↦ begun_now (leading.begins f t g (Fail out) (state_of s g).attrs.phases) ]).core
         by true rest = rest t left
-        by false rest = begins (Fail out) (state_of s g).attrs.phases left
+        by false rest = begins (Fail out) (state_of s g).attrs.phases (k.begins (Fail out) refl) left
 
     at_due : (s : Core) (st : GroupState) (h : List ℕ) (o : Option Due) → P s → P (due_begins f s g st h o).core
     unfolding due_begins
     at_due s st h None p = p
-    at_due s st h (Some (due.CastOut out)) p = begins (Fail (chosen_of (batches_failures st.attrs.batch) out)) st.attrs.phases p
-    at_due s st h (Some (due.Reflect v i)) p = begins (Reflect v i (state_of s h).value) st.attrs.source_phases p
+    at_due s st h (Some (due.CastOut out)) p = begins (Fail (chosen_of (batches_failures st.attrs.batch) out)) st.attrs.phases (k.begins (Fail (chosen_of (batches_failures st.attrs.batch) out)) refl) p
+    at_due s st h (Some (due.Reflect v i)) p = begins (Reflect v i (state_of s h).value) st.attrs.source_phases (k.begins (Reflect v i (state_of s h).value) refl) p
 
     at_source : (s : Core) (st : GroupState) (o : Option (List ℕ)) → P s → P (source_begins f s g st o).core
     unfolding source_begins
@@ -69,7 +69,7 @@ module _ (P : Core → Type 0) (Between : List ℕ → Core → Type 0) (Ok : Li
     at_source_refused : {s : Core} (source : Option (List ℕ)) (ps : List ProviderId) → P s → P (source_refused s g source ps)
     unfolding source_refused
     at_source_refused source ps p =
-        at_fold P (λ t (q : ProviderId). refused t g q q.join (NoSource (source_len t source))) (λ t q h. at_refused P Between Ok b m k g ok q q.join (NoSource (source_len t source)) refl h) ps p
+        at_fold P (λ t (q : ProviderId). refused t g q q.join (NoSource (source_len t source))) (λ t q h. at_refused P Between Begun Ok b m k g ok q q.join (NoSource (source_len t source)) refl h) ps p
 
     at_joins : (n : ℕ) (s : Core) → P s → P (joins_begin n f s g).core
     unfolding joins_begin
@@ -92,11 +92,11 @@ module _ (P : Core → Type 0) (Between : List ℕ → Core → Type 0) (Ok : Li
         t = source_refused (with_waiting s g (joins_left (state_of s g).attrs.batch)) g a.source out
 
         left : P t
-        left = at_source_refused a.source out (at_waiting P Ok b g ok (joins_left (state_of s g).attrs.batch) (joins_few (state_of s g).attrs.batch) p)
+        left = at_source_refused a.source out (at_waiting P Ok b g ok (joins_left (state_of s g).attrs.batch) (joins_few (state_of s g).attrs.batch) (joins_apart (state_of s g).attrs.batch) p)
 
         by : (c : Bool) → ((s : Core) → P s → P (joins_begin n f s g).core) → P (elim c as (λ _. Pass) [ true ↦ joins_begin n f t g | false ↦ begun_now (leading.begins f t g (Join ps a (carried_len t a.source)) a.phases) ]).core
         by true rest = rest t left
-        by false rest = begins (Join ps a (carried_len t a.source)) a.phases left
+        by false rest = begins (Join ps a (carried_len t a.source)) a.phases (k.joins s g (state_of s g).attrs.batch (λ (q : ProviderId). not (lacks_source s a.source q.node)) a (carried_len t a.source) p) left
 
     at_or_due : (q : Pass) → P q.core → P (or_due f g q).core
     unfolding or_due
@@ -141,11 +141,11 @@ module _ (P : Core → Type 0) (Between : List ℕ → Core → Type 0) (Ok : Li
   at_groups most [] all q p = p
   at_groups most (g ∷ gs) all q p = at_groups most gs (λ h i. all h (inr i)) (group_begins most f g q) (at_group g (all g (inl refl)) most q p)
 
-module _ (P : Core → Type 0) (Between : List ℕ → Core → Type 0) (Unasked : Type 0) (k : Keeping P Between Unasked) where
+module _ (P : Core → Type 0) (Between : List ℕ → Core → Type 0) (Begun : Proposal → Type 0) (Unasked : Type 0) (k : Keeping P Between Begun Unasked) where
   at_pass : (most : ℕ) (f : Answering) (s : Core) → P s → P (one_pass most f s).core
   unfolding one_pass
   at_pass most f s p =
-      (at_groups (Steady P Unasked s) (λ g. Steady (Between g) Unasked s) (IsLed Unasked s) (steady_beside P Between Unasked k s) (steady_between P Between Unasked k s) (steady_led P Between Unasked k s) f most (led_groups s) (are_led P Between Unasked k s p) (quiet s) (begun P Unasked s p)).0
+      (at_groups (Steady P Unasked s) (λ g. Steady (Between g) Unasked s) Begun (IsLed Unasked s) (steady_beside P Between Begun Unasked k s) (steady_between P Between Begun Unasked k s) (steady_led P Between Begun Unasked k s) f most (led_groups s) (are_led P Between Begun Unasked k s p) (quiet s) (begun P Unasked s p)).0
 
   at_passes : (n most : ℕ) (f : Answering) (s : Core) → P s → P (passes n most f s)
   unfolding passes

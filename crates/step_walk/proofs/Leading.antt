@@ -1,5 +1,6 @@
 -- What is kept by each change keeps sending, delivering, appending and closing: a part of the walk with more evidence.
 use Rattle.std.proofs.Common.{ℕ, List, Option, length, refl, inr}
+use Rattle.proposal_core.specs.declared.proposal.Proposal.{Proposal}
 use Rattle.proposal_core.specs.declared.entry.Entry.{Entry}
 use Rattle.proposal_core.specs.declared.group_state.GroupState.{GroupState}
 use Rattle.session_state.specs.HandOn.{hearers}
@@ -20,14 +21,20 @@ spoken s (body.Ring x) saying = saying
 spoken s (body.Tell v g q r y) saying = saying
 spoken s _ saying = tt
 
+-- whatever begins
+abbrev pub Anything : Proposal → Type 0
+Anything x = Unit {0}
+
 module _ (P : Core → Type 0) (Ok : List ℕ → Type 0) (k : Keeps P Ok) where
   pub beside_of : KeepsBeside P Ok
   beside_of = record { row = λ s g f ok beside p. k.row s g f ok beside.mild p; sends = λ s network to b saying p. k.sends s network to b (spoken s b saying) p; notes = k.notes }
 
-  pub led_of : KeepsLed P (λ g. P) (λ s. Ok)
+  pub led_of : KeepsLed P (λ g. P) Anything (λ s. Ok)
   unfolding tally_set tally_opened with_led
   led_of =
       record {
+        begins = λ x none. tt;
+        joins = λ s g b test a n p. tt;
         decides = k.decides;
         puts = λ s g e ns stable bs ok fits plain p. k.hands s g e ns stable bs ok p;
         turns = λ s g e ns stable bs ok fits turning p. k.hands s g e ns stable bs ok p;
@@ -52,13 +59,13 @@ module _ (P : Core → Type 0) (Ok : List ℕ → Type 0) (k : Keeps P Ok) where
   on_opened {s} g ok p = led_of.opens s g ok p
 
   pub on_closes : (f : Answering) {s : Core} (g : List ℕ) (ok : Ok g) → P s → P (closes f s g)
-  on_closes f g ok p = at_closes P (λ g. P) Ok beside_of (λ g. beside_of) led_of f g ok p
+  on_closes f g ok p = at_closes P (λ g. P) Anything Ok beside_of (λ g. beside_of) led_of f g ok p
 
 -- nothing is asked of who leads
 abbrev pub Nothing : Type 0
 Nothing = Unit {0}
 
-pub keeping_of : (P : Core → Type 0) → Keeps P Any → Keeping P (λ g. P) Nothing
+pub keeping_of : (P : Core → Type 0) → Keeps P Any → Keeping P (λ g. P) Anything Nothing
 keeping_of P k =
     let l = led_of P Any k in
     record {
@@ -66,5 +73,5 @@ keeping_of P k =
       order_between = λ g s p. inr tt;
       beside = beside_of P Any k;
       between = λ g. beside_of P Any k;
-      led = record { decides = λ s g q r y ok fair p. l.decides s g q r y tt fair p; puts = λ s g e ns stable bs ok fits plain p. l.puts s g e ns stable bs tt fits plain p; turns = λ s g e ns stable bs ok fits turning p. l.turns s g e ns stable bs tt fits turning p; rests = λ s g ok p. l.rests s g tt p; opens = λ s g ok p. l.opens s g tt p };
+      led = record { begins = l.begins; joins = l.joins; decides = λ s g q r y ok fair p. l.decides s g q r y tt fair p; puts = λ s g e ns stable bs ok fits plain p. l.puts s g e ns stable bs tt fits plain p; turns = λ s g e ns stable bs ok fits turning p. l.turns s g e ns stable bs tt fits turning p; rests = λ s g ok p. l.rests s g tt p; opens = λ s g ok p. l.opens s g tt p };
     }

@@ -1,4 +1,8 @@
 -- What keeps each change keeps what is owed, the rules of packets of groups, and the tick of what is led.
+use Rattle.std.proofs.Common.{zero, suc}
+use Rattle.proposal_core.specs.Fold.{joins_of}
+use Rattle.proposal_core.specs.Lists.{list_or_new}
+use Rattle.step_walk.proofs.Asides.{has_dropped}
 use Rattle.std.proofs.Common.{◌++◌}
 use Rattle.std.specs.Prelude.{not, length}
 use Rattle.group_attr.specs.Agree.{agree}
@@ -55,7 +59,7 @@ use Rattle.node_state.specs.Ticks.{is_lost, lost_told, tick_owed, announced, tic
 use Rattle.std.specs.Prelude.{fold}
 use Rattle.rsct_packet.specs.declared.ids.ViewId.{ViewId}
 use Rattle.rsct_packet.specs.Search.{Has}
-use Rattle.step_walk.proofs.Waiting.{fails_few, dropped_few}
+use Rattle.step_walk.proofs.Waiting.{fails_apart, dropped_apart, fails_few, dropped_few}
 use Rattle.step_walk.proofs.Changes.{Any, Fairly, Telling}
 use Rattle.step_walk.proofs.Evidence.{IsLed, KeepsBeside, Keeping, KeepsPackets}
 use Rattle.step_walk.proofs.Steady.{AsLed, Steady, begun, are_led, led_now, as_row, as_delivered, steadily, steady_beside, steady_between, steady_led}
@@ -112,6 +116,12 @@ other_fair s g q x = by (is_no_member (state_of s g) (led_of s g).gone q x) (has
     by true b = refl
     by false true = refl
     by false false = full_fair s g (state_of s g).running
+
+has_taken : {A : Type 0} (n : ℕ) (xs : List A) (x : A) → Has x (take n xs) → Has x xs
+has_taken zero xs x i = absurd i
+has_taken (suc n) [] x i = absurd i
+has_taken (suc n) (y ∷ xs) x (inl e) = inl e
+has_taken (suc n) (y ∷ xs) x (inr i) = inr (has_taken n xs x i)
 
 -- what sends a kept ballot leaves those that are kept
 kept_again_same : (s : Core) (b : KeptBallot) → (kept_sent_again s b).sessions ≡ s.sessions
@@ -185,26 +195,29 @@ module _ (P : Core → Type 0) (k : KeepsBeside P Any) where
   pub at_ack : {s : Core} (from : ℕ) (g : List ℕ) (n : ℕ) → P s → P (take_ack s from g n)
   unfolding take_ack acked
   at_ack {s} from g n p =
-      at_either P (leads s g && nat_le n (len_of s g)) (at_forgets_least P Any k g tt (at_led P Any k g tt (λ l. record l { acked = acked_raised from n l.acked }) (λ l. refl) (λ l w. w) (λ l. refl) (λ l. refl) p)) p
+      at_either P (leads s g && nat_le n (len_of s g)) (at_forgets_least P Any k g tt (at_led P Any k g tt (λ l. record l { acked = acked_raised from n l.acked }) (λ l. refl) (λ l w. w) (λ l e. e) (λ l. refl) (λ l. refl) p)) p
 
   -- ---- what was put is sent again
 
-  at_entries_sent : (to : ℕ) (g : List ℕ) (stable : ℕ) (es : List Entry) (i : ℕ) (s : Core) → P s → P (entries_sent to g i stable es s)
-  unfolding entries_sent
-  at_entries_sent to g stable [] i s p = p
-  at_entries_sent to g stable (e ∷ es) i s p =
-      at_entries_sent to g stable es (i + 1) (sent s to (body.Entry s.views.view g i stable e)) (at_sent P Any k to (body.Entry s.views.view g i stable e) tt p)
+  at_entries_sent : (to : ℕ) (g : List ℕ) (stable : ℕ) (es : List Entry) (i : ℕ) (s : Core) → ((e : Entry) → Has e es → Has e (list_of s g).entries) → P s → P (entries_sent to g i stable es s)
+  unfolding entries_sent sent send_on list_of row_of
+  at_entries_sent to g stable [] i s all p = p
+  at_entries_sent to g stable (e ∷ es) i s all p =
+      at_entries_sent to g stable es (i + 1) (sent s to (body.Entry s.views.view g i stable e)) (λ x j. all x (inr j)) (at_sent P Any k to (body.Entry s.views.view g i stable e) (all e (inl refl)) p)
 
   pub at_again : {s : Core} (g : List ℕ) (n : ℕ) → P s → P (sent_again g s n)
-  unfolding sent_again list_sent_again
-  at_again {s} g n p = by (row_of s g).list
+  unfolding sent_again list_sent_again list_of
+  at_again {s} g n p = by (row_of s g).list refl
     where
-      by : (o : Option GroupView) → P (list_sent_again s g n (acked_by s (row_of s g) n) o)
-      by None = p
-      by (Some l) = at_entries_sent n g (least_acked s g) (take 16 (drop (acked_by s (row_of s g) n - l.start) l.entries)) (acked_by s (row_of s g) n) s p
+      there : (l : GroupView) → (row_of s g).list ≡ Some l → (m : ℕ) (e : Entry) → Has e (take 16 (drop m l.entries)) → Has e (list_of s g).entries
+      there l q m e i = subst (λ o. Has e (list_or_new o).entries) (sym q) (has_dropped m l.entries e (has_taken 16 (drop m l.entries) e i))
 
-module _ (P : Core → Type 0) (Between : List ℕ → Core → Type 0) (Unasked : Type 0) (Given : Core → Packet → Type 0) (rules : KeepsPackets P Between Unasked Given) where
-  k : Keeping P Between Unasked
+      by : (o : Option GroupView) → (row_of s g).list ≡ o → P (list_sent_again s g n (acked_by s (row_of s g) n) o)
+      by None q = p
+      by (Some l) q = at_entries_sent n g (least_acked s g) (take 16 (drop (acked_by s (row_of s g) n - l.start) l.entries)) (acked_by s (row_of s g) n) s (there l q (acked_by s (row_of s g) n - l.start)) p
+
+module _ (P : Core → Type 0) (Between : List ℕ → Core → Type 0) (Begun : Proposal → Type 0) (Unasked : Type 0) (Given : Core → Packet → Type 0) (rules : KeepsPackets P Between Begun Unasked Given) where
+  k : Keeping P Between Begun Unasked
   k = rules.keeping
 
   b : KeepsBeside P Any
@@ -217,13 +230,13 @@ module _ (P : Core → Type 0) (Between : List ℕ → Core → Type 0) (Unasked
     S = Steady P Unasked s0
 
     sb : KeepsBeside S (IsLed Unasked s0)
-    sb = steady_beside P Between Unasked k s0
+    sb = steady_beside P Between Begun Unasked k s0
 
     any : KeepsBeside S Any
     any = steadily Unasked s0 P k.order Any b
 
     closes_still : {s : Core} (g : List ℕ) → IsLed Unasked s0 g → S s → S (closes f s g)
-    closes_still g ok p = at_closes S (λ g. Steady (Between g) Unasked s0) (IsLed Unasked s0) sb (steady_between P Between Unasked k s0) (steady_led P Between Unasked k s0) f g ok p
+    closes_still g ok p = at_closes S (λ g. Steady (Between g) Unasked s0) Begun (IsLed Unasked s0) sb (steady_between P Between Begun Unasked k s0) (steady_led P Between Begun Unasked k s0) f g ok p
 
     pub closed_still : {s : Core} (g : List ℕ) → IsLed Unasked s0 g → S s → S (closes f s g)
     closed_still g ok p = closes_still g ok p
@@ -244,8 +257,8 @@ module _ (P : Core → Type 0) (Between : List ℕ → Core → Type 0) (Unasked
     gone_still g q ok p =
         let t : Core = with_led s0 g (λ l. record l { gone = marked l.gone q }) in
         let u : Core = tally_failed f t g q (led_of t g).tally in
-        let h : S u = failed_still g q ok (led_of t g).tally refl (at_led S Any any g tt (λ l. record l { gone = marked l.gone q }) (λ l. refl) (λ l w. w) (λ l. refl) (λ l. refl) p) in
-        at_either S (among (state_of u g).members q) (at_waiting S Any any g tt (add_failure q Gone) (fails_few q Gone) h) h
+        let h : S u = failed_still g q ok (led_of t g).tally refl (at_led S Any any g tt (λ l. record l { gone = marked l.gone q }) (λ l. refl) (λ l w. w) (λ l e. e) (λ l. refl) (λ l. refl) p) in
+        at_either S (among (state_of u g).members q) (at_waiting S Any any g tt (add_failure q Gone) (fails_few q Gone) (fails_apart q Gone) h) h
 
     -- ---- the tick of what is led
 
@@ -253,7 +266,7 @@ module _ (P : Core → Type 0) (Between : List ℕ → Core → Type 0) (Unasked
     unfolding announced
     late_still g ok t e false p = p
     late_still {s} g ok t e true p =
-        at_late S (λ g. Steady (Between g) Unasked s0) (IsLed Unasked s0) sb (steady_between P Between Unasked k s0) (steady_led P Between Unasked k s0) f g ok t e (state_of s g).running refl p
+        at_late S (λ g. Steady (Between g) Unasked s0) Begun (IsLed Unasked s0) sb (steady_between P Between Begun Unasked k s0) (steady_led P Between Begun Unasked k s0) f g ok t e (state_of s g).running refl p
 
     ticks_still : {s : Core} (g : List ℕ) → IsLed Unasked s0 g → (o : Option TallyView) → (led_of s g).tally ≡ o → S s → S (tally_ticks f s g o)
     unfolding tally_ticks
@@ -275,16 +288,16 @@ module _ (P : Core → Type 0) (Between : List ℕ → Core → Type 0) (Unasked
 
     -- what is done in each group that the node leads
     pub led_still : (one : Core → List ℕ → Core) → ((s : Core) (g : List ℕ) → IsLed Unasked s0 g → S s → S (one s g)) → P s0 → P (fold one s0 (led_groups s0))
-    led_still one step p = (groups_still one step (led_groups s0) (are_led P Between Unasked k s0 p) s0 (begun P Unasked s0 p)).0
+    led_still one step p = (groups_still one step (led_groups s0) (are_led P Between Begun Unasked k s0 p) s0 (begun P Unasked s0 p)).0
 
-    begins_still : {s : Core} (g : List ℕ) → IsLed Unasked s0 g → (x : Proposal) (phases : Phases) → S s → S (begins f s g x phases)
-    begins_still g ok x phases p = at_begins S (λ g. Steady (Between g) Unasked s0) (IsLed Unasked s0) sb (steady_between P Between Unasked k s0) (steady_led P Between Unasked k s0) f g ok x phases p
+    begins_still : {s : Core} (g : List ℕ) → IsLed Unasked s0 g → (x : Proposal) (phases : Phases) → Begun x → S s → S (begins f s g x phases)
+    begins_still g ok x phases begun p = at_begins S (λ g. Steady (Between g) Unasked s0) Begun (IsLed Unasked s0) sb (steady_between P Between Begun Unasked k s0) (steady_led P Between Begun Unasked k s0) f g ok x phases begun p
 
     refused_still : {s : Core} (g : List ℕ) → IsLed Unasked s0 g → (q : ProviderId) (r : ℕ) (y : Why) → is_dissolved y ≡ false → S s → S (refused s g q r y)
-    refused_still g ok q r y fair p = at_refused S (λ g. Steady (Between g) Unasked s0) (IsLed Unasked s0) sb (steady_between P Between Unasked k s0) (steady_led P Between Unasked k s0) g ok q r y fair p
+    refused_still g ok q r y fair p = at_refused S (λ g. Steady (Between g) Unasked s0) Begun (IsLed Unasked s0) sb (steady_between P Between Begun Unasked k s0) (steady_led P Between Begun Unasked k s0) g ok q r y fair p
 
     decides_still : (g : List ℕ) → IsLed Unasked s0 g → (q : ProviderId) (r : ℕ) (y : Option Why) → Fairly y → S s0 → S (keep_decision s0 g q r y)
-    decides_still g ok q r y fair p = (steady_led P Between Unasked k s0).decides s0 g q r y ok fair p
+    decides_still g ok q r y fair p = (steady_led P Between Begun Unasked k s0).decides s0 g q r y ok fair p
 
   pub at_led_part : (f : Answering) (s : Core) → P s → P (tick_led f s)
   unfolding tick_led
@@ -297,21 +310,21 @@ module _ (P : Core → Type 0) (Between : List ℕ → Core → Type 0) (Unasked
   at_decided_join f s g ok q r a None e p = rules.joins s g q r a e p
   at_decided_join f s g ok q r a (Some y) e p = (refused_still f s g ok q r y (subst Fairly e (join_fair s g q a)) (begun P Unasked s p)).0
 
-  at_decided_other : (f : Answering) (s : Core) (g : List ℕ) → IsLed Unasked s g → (q : ProviderId) (r : ℕ) (phases : Phases) (x : Proposal) (o : Option Why) → Fairly o → P s → P (decide_change f s g q r phases x o)
+  at_decided_other : (f : Answering) (s : Core) (g : List ℕ) → IsLed Unasked s g → (q : ProviderId) (r : ℕ) (phases : Phases) (x : Proposal) (o : Option Why) → joins_of x ≡ [] → Fairly o → P s → P (decide_change f s g q r phases x o)
   unfolding decide_change
-  at_decided_other f s g ok q r phases x None fair p = (begins_still f s g ok x phases (decides_still f s g ok q r None tt (begun P Unasked s p))).0
-  at_decided_other f s g ok q r phases x (Some y) fair p = (refused_still f s g ok q r y fair (begun P Unasked s p)).0
+  at_decided_other f s g ok q r phases x None none fair p = (begins_still f s g ok x phases (k.led.begins x none) (decides_still f s g ok q r None tt (begun P Unasked s p))).0
+  at_decided_other f s g ok q r phases x (Some y) none fair p = (refused_still f s g ok q r y fair (begun P Unasked s p)).0
 
   at_decided : (f : Answering) (s : Core) (g : List ℕ) → IsLed Unasked s g → (q : ProviderId) (r : ℕ) (phases : Phases) (x : Proposal) → P s → P (decided f s g q r phases x)
   unfolding decided
   at_decided f s g ok q r phases (Join ps a n) p = at_decided_join f s g ok q r a (join_refusal s g q a) refl p
-  at_decided f s g ok q r phases (Leave a c) p = at_decided_other f s g ok q r phases (Leave a c) (other_refusal s g q (Leave a c)) (other_fair s g q (Leave a c)) p
-  at_decided f s g ok q r phases (Fail out) p = at_decided_other f s g ok q r phases (Fail out) (other_refusal s g q (Fail out)) (other_fair s g q (Fail out)) p
-  at_decided f s g ok q r phases (Expel a c out) p = at_decided_other f s g ok q r phases (Expel a c out) (other_refusal s g q (Expel a c out)) (other_fair s g q (Expel a c out)) p
-  at_decided f s g ok q r phases (State a c value) p = at_decided_other f s g ok q r phases (State a c value) (other_refusal s g q (State a c value)) (other_fair s g q (State a c value)) p
-  at_decided f s g ok q r phases (Message a c bytes) p = at_decided_other f s g ok q r phases (Message a c bytes) (other_refusal s g q (Message a c bytes)) (other_fair s g q (Message a c bytes)) p
-  at_decided f s g ok q r phases (Attributes a c attrs) p = at_decided_other f s g ok q r phases (Attributes a c attrs) (other_refusal s g q (Attributes a c attrs)) (other_fair s g q (Attributes a c attrs)) p
-  at_decided f s g ok q r phases (Reflect v i value) p = at_decided_other f s g ok q r phases (Reflect v i value) (other_refusal s g q (Reflect v i value)) (other_fair s g q (Reflect v i value)) p
+  at_decided f s g ok q r phases (Leave a c) p = at_decided_other f s g ok q r phases (Leave a c) (other_refusal s g q (Leave a c)) refl (other_fair s g q (Leave a c)) p
+  at_decided f s g ok q r phases (Fail out) p = at_decided_other f s g ok q r phases (Fail out) (other_refusal s g q (Fail out)) refl (other_fair s g q (Fail out)) p
+  at_decided f s g ok q r phases (Expel a c out) p = at_decided_other f s g ok q r phases (Expel a c out) (other_refusal s g q (Expel a c out)) refl (other_fair s g q (Expel a c out)) p
+  at_decided f s g ok q r phases (State a c value) p = at_decided_other f s g ok q r phases (State a c value) (other_refusal s g q (State a c value)) refl (other_fair s g q (State a c value)) p
+  at_decided f s g ok q r phases (Message a c bytes) p = at_decided_other f s g ok q r phases (Message a c bytes) (other_refusal s g q (Message a c bytes)) refl (other_fair s g q (Message a c bytes)) p
+  at_decided f s g ok q r phases (Attributes a c attrs) p = at_decided_other f s g ok q r phases (Attributes a c attrs) (other_refusal s g q (Attributes a c attrs)) refl (other_fair s g q (Attributes a c attrs)) p
+  at_decided f s g ok q r phases (Reflect v i value) p = at_decided_other f s g ok q r phases (Reflect v i value) (other_refusal s g q (Reflect v i value)) refl (other_fair s g q (Reflect v i value)) p
 
   -- ---- packets of a view
 
@@ -427,6 +440,6 @@ module _ (P : Core → Type 0) (Between : List ℕ → Core → Type 0) (Unasked
     where
       by : (l c d : Bool) → leads s g ≡ l → P (elim l as (λ _. Core) [ true ↦ gone_of f s g q c d | false ↦ s ])
       by true true d e = (gone_still f s g q (inl e) (begun P Unasked s p)).0
-      by true false true e = at_waiting P Any b g tt (drop_join q) (dropped_few q) p
+      by true false true e = at_waiting P Any b g tt (drop_join q) (dropped_few q) (dropped_apart q) p
       by true false false e = p
       by false c d e = p

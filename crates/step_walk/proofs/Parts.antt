@@ -18,18 +18,18 @@ use Rattle.node_state.specs.Applying.{level_set, base_row, base_leader, base_rec
 use Rattle.step_walk.proofs.Changes.{put_sent, handing, KeepsParts}
 use Rattle.step_walk.proofs.Evidence.{KeepsDelivery}
 use Rattle.step_walk.proofs.Delivering.{at_handing, at_delivered}
-use Rattle.step_walk.proofs.Leading.{spoken}
+use Rattle.node_state.specs.declared.packet.Body.TheVariants as body
 
 module _ (P : Core → Type 0) (Ok : List ℕ → Type 0) (parts : KeepsParts P Ok) where
-  delivery : KeepsDelivery P
-  delivery =
-      record { sends = λ s network to b saying p. parts.sends s network to b (spoken s b saying) p; hears = parts.hears; casts = parts.casts; handed = λ s g before after e bs kept p. parts.handed s g before after e bs p }
+  delivery : (g : List ℕ) (e : Entry) → KeepsDelivery P g e
+  delivery g e =
+      record { sends = λ s network to v place stable p. parts.sends s network to (body.Entry v g place stable e) tt p; hears = λ s before after bs c i j p. parts.hears s g before after e bs c i j p; casts = parts.casts; handed = λ s before after bs kept p. parts.handed s g before after e bs p }
 
   pub on_handing : (c : Core) (g : List ℕ) (i : ℕ) (before after : GroupState) (e : Entry) (bs : List (Option Filled)) → P c → P (handing c g i before after e bs)
-  on_handing c g i before after e bs p = at_handing P delivery c g i before after e bs p
+  on_handing c g i before after e bs p = at_handing P g e (delivery g e) c i before after bs p
 
   pub on_hands : (s : Core) (g : List ℕ) (e : Entry) (ns : List ℕ) (stable : ℕ) (bs : List (Option Filled)) → Ok g → P s → P (handing (put_sent s g e ns stable) g (len_of s g) (state_of s g) (state_of (put s g e) g) e bs)
-  on_hands s g e ns stable bs ok p = at_delivered P delivery s g e ns stable bs (parts.puts s g e ok p)
+  on_hands s g e ns stable bs ok p = at_delivered P g e (delivery g e) s ns stable bs (parts.puts s g e ok p)
 
 -- a record of an entering
 abbrev pub IsEntering : Happened → Type 0

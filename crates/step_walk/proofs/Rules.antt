@@ -11,7 +11,7 @@ use Rattle.node_state.specs.Ticks.{tick_owed, tick_led}
 use Rattle.step_walk.proofs.Waiting.{Few, cast_few}
 use Rattle.step_walk.proofs.Changes.{Any, KeepsRules}
 use Rattle.step_walk.proofs.Evidence.{KeepsPackets}
-use Rattle.step_walk.proofs.Leading.{Nothing, beside_of, keeping_of}
+use Rattle.step_walk.proofs.Leading.{Anything, Nothing, beside_of, keeping_of}
 use Rattle.step_walk.proofs.Packets.{cast_decided, at_owed_part, at_led_part}
 
 module _ (P : Core → Type 0) (Given : Packet → Type 0) (rules : KeepsRules P Given) where
@@ -20,7 +20,7 @@ module _ (P : Core → Type 0) (Given : Packet → Type 0) (rules : KeepsRules P
   counted s g f decided few p =
       rules.keeps.row s g (λ row. record row { led = f row.led }) tt (record { name = λ x. refl; leader = λ x. refl; len = λ x. refl; state = λ x. refl; decided = λ x. decided x.led; few = λ x w. few x.led w }) p
 
-  pub packets_of : KeepsPackets P (λ g. P) Nothing (λ s. Given)
+  pub packets_of : KeepsPackets P (λ g. P) Anything Nothing (λ s. Given)
   unfolding with_tally tally_set tally_opened
   packets_of =
       record {
@@ -43,4 +43,4 @@ module _ (P : Core → Type 0) (Given : Packet → Type 0) (rules : KeepsRules P
   on_owed_part p = at_owed_part P (beside_of P Any rules.keeps) p
 
   pub on_led_part : (f : Answering) {s : Core} → P s → P (tick_led f s)
-  on_led_part f {s} p = at_led_part P (λ g. P) Nothing (λ s. Given) packets_of f s p
+  on_led_part f {s} p = at_led_part P (λ g. P) Anything Nothing (λ s. Given) packets_of f s p

@@ -1,6 +1,7 @@
 -- While a node leads, which groups it leads stays: so what keeps each change with the evidence that its group is led keeps
 -- each change of the groups that were led before.
 use Rattle.std.proofs.Common.{◌≡◌, ◌⊎◌, ◌∙◌, ℕ, List, [], ◌∷◌, Option, Some, Bool, true, false, cond, refl, sym, ap, subst, inl, inr, ⊎_elim}
+use Rattle.proposal_core.specs.declared.proposal.Proposal.{Proposal}
 use Rattle.std.specs.Prelude.{filter, find}
 use Rattle.std.specs.Str.{bytes_eq}
 use Rattle.rsct_packet.specs.Text.{name_lt}
@@ -115,7 +116,7 @@ module _ (Unasked : Type 0) (s : Core) where
         notes = λ t n client v place told p. (b.notes t n client v place told p.0, p.1);
       }
 
-module _ (P : Core → Type 0) (Between : List ℕ → Core → Type 0) (Unasked : Type 0) (k : Keeping P Between Unasked) (s : Core) where
+module _ (P : Core → Type 0) (Between : List ℕ → Core → Type 0) (Begun : Proposal → Type 0) (Unasked : Type 0) (k : Keeping P Between Begun Unasked) (s : Core) where
   pub are_led : P s → (g : List ℕ) → Has g (led_groups s) → IsLed Unasked s g
   are_led p g i = ⊎_elim (λ (o : InNameOrder s.groups). inl (led_are_led s g o i)) (λ (u : Unasked). inr u) (k.order s p)
 
@@ -125,10 +126,12 @@ module _ (P : Core → Type 0) (Between : List ℕ → Core → Type 0) (Unasked
   pub steady_between : (g : List ℕ) → KeepsBeside (Steady (Between g) Unasked s) (IsLed Unasked s)
   steady_between g = steadily Unasked s (Between g) (k.order_between g) (IsLed Unasked s) (k.between g)
 
-  pub steady_led : KeepsLed (Steady P Unasked s) (λ g. Steady (Between g) Unasked s) (λ t. IsLed Unasked s)
+  pub steady_led : KeepsLed (Steady P Unasked s) (λ g. Steady (Between g) Unasked s) Begun (λ t. IsLed Unasked s)
   unfolding keep_decision tally_set tally_opened with_led
   steady_led =
       record {
+        begins = k.led.begins;
+        joins = λ t g b test a n p. k.led.joins t g b test a n p.0;
         decides = λ t g q r y ok fair p. (k.led.decides t g q r y (led_now Unasked s t g ok p.1) fair p.0, as_row Unasked s t g _ (λ row. refl) (λ row. refl) (k.order t p.0) p.1);
         puts = λ t g e ns stable bs ok fits plain p. (k.led.puts t g e ns stable bs (led_now Unasked s t g ok p.1) fits plain p.0, as_delivered Unasked s t g e ns stable bs (k.order t p.0) p.1);
         turns = λ t g e ns stable bs ok fits turning p. (k.led.turns t g e ns stable bs (led_now Unasked s t g ok p.1) fits turning p.0, as_delivered Unasked s t g e ns stable bs (k.order t p.0) p.1);

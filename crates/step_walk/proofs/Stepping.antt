@@ -66,9 +66,11 @@ use Rattle.node_state.specs.Ticks.{row_reported, take_report}
 use Rattle.node_state.specs.Status.{status_text}
 use Rattle.node_state.specs.Step.{is_used, used_if, view_rule, take_body}
 use Rattle.client_callbacks.specs.declared.ballot.Filled.{Filled}
-use Rattle.step_walk.proofs.Waiting.{fails_few}
+use Rattle.step_walk.proofs.Waiting.{fails_few, fails_apart}
 use Rattle.step_walk.proofs.Changes.{Any, Tells, Viewing, Asks, Prepares, Answers, Refuses, Installs, Takes, Gathers, Reminds, viewing}
-use Rattle.step_walk.proofs.Evidence.{delivered, IsLed, KeepsBeside, Keeping, KeepsPackets, KeepsEntering}
+use Rattle.step_walk.proofs.Evidence.{delivered, IsLed, KeepsBeside, Keeping, KeepsPackets, KeepsEntering, Arisen}
+use Rattle.proposal_core.specs.declared.proposal.Proposal.{Proposal}
+use Rattle.view_state.specs.declared.views.ViewWork.{ViewWork}
 use Rattle.step_walk.proofs.Steady.{Steady, led_now, as_row, steadily}
 use Rattle.step_walk.proofs.Asides.{IsNote, at_either, at_fold, at_sent, at_notes, at_rest_put, at_waiting}
 use Rattle.step_walk.proofs.Packets.{at_requests, at_votes, at_owed_part, at_ack, at_lookup, at_tell, at_name, at_request, at_entry, at_vote, at_gone, at_led_part, closed_still, led_still}
@@ -131,18 +133,24 @@ module _ (P : Core → Type 0) (k : KeepsBeside P Any) where
   unfolding taken_sent
   at_taken_sent {s} p = at_either P (s.views.view.coord == s.views.me) p (at_sent P Any k s.views.view.coord (body.View (packet.Taken s.views.view)) tt p)
 
-  pub at_views_sent : {s : Core} (xs : List ViewSend) → P s → P (fold (λ t (x : ViewSend). sent t x.to (body.View x.packet)) s xs)
-  at_views_sent xs p = at_fold P (λ t (x : ViewSend). sent t x.to (body.View x.packet)) (λ t x h. at_sent P Any k x.to (body.View x.packet) tt h) xs p
-
 -- what the node lacks is put and heard
-module _ (Leaving : Core → Type 0) (beside : KeepsBeside Leaving Any) (fills : (s : Core) (g : List ℕ) (e : Entry) (bs : List (Option Filled)) → Leaving s → Leaving (delivered s g e [] 0 bs)) where
-  pub at_filled : (f : Answering) {s : Core} (xs : List Lacking) → Leaving s → Leaving (fill_lists f s xs)
-  unfolding fill_lists
-  at_filled f xs p =
-      at_fold Leaving (λ t (x : Lacking). fold (λ u e. put_and_hand f u None x.name e) t x.entries) (λ t x h. at_fold Leaving (λ u (e : Entry). put_and_hand f u None x.name e) (λ u e q. at_rest_put Leaving Any beside f u None x.name e (λ bs. fills u x.name e bs q)) x.entries h) xs p
+module _ (Leaving : Core → Type 0) (beside : KeepsBeside Leaving Any) (all : List Lacking) (fills : (s : Core) (x : Lacking) (e : Entry) (bs : List (Option Filled)) → Has x all → Has e x.entries → Leaving s → Leaving (delivered s x.name e [] 0 bs)) where
+  at_list_filled : (f : Answering) (x : Lacking) → Has x all → (es : List Entry) → ((e : Entry) → Has e es → Has e x.entries) → (s : Core) → Leaving s → Leaving (fold (λ u e. put_and_hand f u None x.name e) s es)
+  at_list_filled f x i [] here s p = p
+  at_list_filled f x i (e ∷ es) here s p =
+      at_list_filled f x i es (λ d j. here d (inr j)) (put_and_hand f s None x.name e) (at_rest_put Leaving Any beside f s None x.name e (λ bs. fills s x e bs i (here e (inl refl)) p))
 
-module _ (P : Core → Type 0) (Between : List ℕ → Core → Type 0) (Unasked : Type 0) (Given : Core → Packet → Type 0) (rules : KeepsPackets P Between Unasked Given) where
-  k : Keeping P Between Unasked
+  at_lists_filled : (f : Answering) (xs : List Lacking) → ((x : Lacking) → Has x xs → Has x all) → (s : Core) → Leaving s → Leaving (fold (λ t (x : Lacking). fold (λ u e. put_and_hand f u None x.name e) t x.entries) s xs)
+  at_lists_filled f [] here s p = p
+  at_lists_filled f (x ∷ xs) here s p =
+      at_lists_filled f xs (λ y i. here y (inr i)) (fold (λ u e. put_and_hand f u None x.name e) s x.entries) (at_list_filled f x (here x (inl refl)) x.entries (λ e i. i) s p)
+
+  pub at_filled : (f : Answering) {s : Core} → Leaving s → Leaving (fill_lists f s all)
+  unfolding fill_lists
+  at_filled f {s} p = at_lists_filled f all (λ x i. i) s p
+
+module _ (P : Core → Type 0) (Between : List ℕ → Core → Type 0) (Begun : Proposal → Type 0) (Unasked : Type 0) (Given : Core → Packet → Type 0) (rules : KeepsPackets P Between Begun Unasked Given) where
+  k : Keeping P Between Begun Unasked
   k = rules.keeping
 
   b : KeepsBeside P Any
@@ -161,17 +169,17 @@ module _ (P : Core → Type 0) (Between : List ℕ → Core → Type 0) (Unasked
       t = wait_failed s g out
 
       waits : Steady P Unasked s0 t
-      waits = at_fold (Steady P Unasked s0) (λ t q. with_waiting t g (add_failure q Died)) (λ t q h. at_waiting (Steady P Unasked s0) Any (steadily Unasked s0 P k.order Any b) g tt (add_failure q Died) (fails_few q Died) h) out p
+      waits = at_fold (Steady P Unasked s0) (λ t q. with_waiting t g (add_failure q Died)) (λ t q h. at_waiting (Steady P Unasked s0) Any (steadily Unasked s0 P k.order Any b) g tt (add_failure q Died) (fails_few q Died) (fails_apart q Died) h) out p
 
       by : (c : Bool) → Steady P Unasked s0 (phase_reopened f t g c)
       by false = waits
-      by true = closed_still P Between Unasked Given rules f s0 g ok (rules.reopens t g (led_now Unasked s0 t g ok waits.1) waits.0, as_row Unasked s0 t g _ (λ row. refl) (λ row. refl) (k.order t waits.0) waits.1)
+      by true = closed_still P Between Begun Unasked Given rules f s0 g ok (rules.reopens t g (led_now Unasked s0 t g ok waits.1) waits.0, as_row Unasked s0 t g _ (λ row. refl) (λ row. refl) (k.order t waits.0) waits.1)
 
   pub at_rest : (f : Answering) {e : Core} (bs : List Base) → P e → P (lead_groups f (owed_sent (taken_sent (entering_noted e bs))))
   unfolding owed_sent lead_groups
   at_rest f {e} bs p =
       let t : Core = taken_sent (entering_noted e bs) in
-      led_still P Between Unasked Given rules f (send_votes_again (send_requests t)) (lead f) (λ u g ok h. at_group_led f (send_votes_again (send_requests t)) g ok h) (at_votes P b (send_requests t) (at_requests P b (at_taken_sent P b (at_entering_noted P b bs p))))
+      led_still P Between Begun Unasked Given rules f (send_votes_again (send_requests t)) (lead f) (λ u g ok h. at_group_led f (send_votes_again (send_requests t)) g ok h) (at_votes P b (send_requests t) (at_requests P b (at_taken_sent P b (at_entering_noted P b bs p))))
 
   -- ---- packets
 
@@ -187,19 +195,19 @@ module _ (P : Core → Type 0) (Between : List ℕ → Core → Type 0) (Unasked
     at_body f s q (body.Ring x) given to is view p = rings.takes s q x given to is p
     at_body f s q (body.Report rows) given to is view p = rules.reach s (fold row_reported s.reach rows) p
     at_body f s q (body.View x) given to is view p = view x refl
-    at_body f s q (body.Lookup v g) given to is view p = at_used (is_used s q v) (λ u. at_lookup P Between Unasked Given rules q.from g p) p
-    at_body f s q (body.Name v g n) given to is view p = at_used (is_used s q v) (λ u. at_name P Between Unasked Given rules g n p) p
-    at_body f s q (body.Request v g a r phases x) given to is view p = at_used (is_used s q v) (λ u. at_request P Between Unasked Given rules f s q v g a r phases x given to is u p) p
+    at_body f s q (body.Lookup v g) given to is view p = at_used (is_used s q v) (λ u. at_lookup P Between Begun Unasked Given rules q.from g p) p
+    at_body f s q (body.Name v g n) given to is view p = at_used (is_used s q v) (λ u. at_name P Between Begun Unasked Given rules g n p) p
+    at_body f s q (body.Request v g a r phases x) given to is view p = at_used (is_used s q v) (λ u. at_request P Between Begun Unasked Given rules f s q v g a r phases x given to is u p) p
     at_body f s q (body.Tell v g a r y) given to is view p =
-        at_used (is_used s q v) (λ u. at_tell P Between Unasked Given rules a r y (inr (q, given, subst (λ z. Tells z y) (sym is) refl)) p) p
-    at_body f s q (body.Entry v g place stable e) given to is view p = at_used (is_used s q v) (λ u. at_entry P Between Unasked Given rules f s q v g place stable e given to is u p) p
+        at_used (is_used s q v) (λ u. at_tell P Between Begun Unasked Given rules a r y (inr (q, given, subst (λ z. Tells z y) (sym is) refl)) p) p
+    at_body f s q (body.Entry v g place stable e) given to is view p = at_used (is_used s q v) (λ u. at_entry P Between Begun Unasked Given rules f s q v g place stable e given to is u p) p
     at_body f s q (body.Ack v g n) given to is view p = at_used (is_used s q v) (λ u. at_ack P b q.from g n p) p
-    at_body f s q (body.Vote v g proto phase a vote value message) given to is view p = at_used (is_used s q v) (λ u. at_vote P Between Unasked Given rules f s q v g proto phase a vote value message given is p) p
-    at_body f s q (body.Gone v g a) given to is view p = at_used (is_used s q v) (λ u. at_gone P Between Unasked Given rules f s g a p) p
+    at_body f s q (body.Vote v g proto phase a vote value message) given to is view p = at_used (is_used s q v) (λ u. at_vote P Between Begun Unasked Given rules f s q v g proto phase a vote value message given is p) p
+    at_body f s q (body.Gone v g a) given to is view p = at_used (is_used s q v) (λ u. at_gone P Between Begun Unasked Given rules f s g a p) p
     at_body f s q (body.Query question what) given to is view p = b.sends s q.network q.from (body.Reply question (status_text s what)) tt p
     at_body f s q (body.Reply question text) given to is view p = p
 
-module _ (P : Core → Type 0) (Between : List ℕ → Core → Type 0) (Leaving : Core → Type 0) (Unasked : Type 0) (Given : Core → Packet → Type 0) (rules : KeepsPackets P Between Unasked Given) (rings : KeepsRinging P Given) (views : KeepsEntering P Leaving) where
+module _ (P : Core → Type 0) (Between : List ℕ → Core → Type 0) (Begun : Proposal → Type 0) (Unasked : Type 0) (Given : Core → Packet → Type 0) (Works : Core → ViewWork → Type 0) (Leaving : Install → List Lacking → Core → Type 0) (rules : KeepsPackets P Between Begun Unasked Given) (rings : KeepsRinging P Given) (views : KeepsEntering P Works Leaving Given) where
   -- ---- entering a view
 
   at_dissolved_if : {s : Core} (g : List ℕ) (old : ViewId) (c : Option Base) (q : ProviderId) (o : Option Provider) → provider_of s.sessions q ≡ o → P s → P (dissolved_if s g old c o)
@@ -213,39 +221,45 @@ module _ (P : Core → Type 0) (Between : List ℕ → Core → Type 0) (Leaving
   at_sides rows old bs p =
       at_fold P (group_dissolved old bs) (λ t row h. at_fold P (λ (u : Core) q. dissolved_if u row.name old (base_named bs row.name) (provider_of u.sessions q)) (λ u q j. at_dissolved_if row.name old (base_named bs row.name) q (provider_of u.sessions q) refl j) (present (state_in row.list)) h) rows p
 
-  at_entered : (f : Answering) {s : Core} (i : Install) (xs : List Lacking) → P s → P (entered f s i xs)
+  at_entered : (f : Answering) {s : Core} (i : Install) (xs : List Lacking) → Leaving i xs s → P (entered f s i xs)
   unfolding entered
   at_entered f {s} i xs p =
       let t : Core = fill_lists f s xs in
       let bs : List Base = bases_of i in
-      at_rest P Between Unasked Given rules f bs (at_sides (held_rows t) t.views.view bs (views.enters t i (at_filled Leaving views.beside views.fills f xs (views.leaves s p))))
+      at_rest P Between Begun Unasked Given rules f bs (at_sides (held_rows t) t.views.view bs (views.enters t i xs (at_filled (Leaving i xs) (views.beside i xs) xs (λ u x e. views.fills u i xs x e) f p)))
 
-  at_applied : (f : Answering) {s : Core} (o : Option Install) → P s → P (apply_install f s o)
+  at_applied : (f : Answering) {s : Core} (w : ViewWork) (o : Option Install) → w.install ≡ o → P s × Works s w → P (apply_install f s o)
   unfolding apply_install entered_if
-  at_applied f None p = p
-  at_applied f {s} (Some i) p = by (lacking s i)
+  at_applied f w None e p = p.0
+  at_applied f {s} w (Some i) e p = by (lacking s i) refl
     where
-      by : (o : Option (List Lacking)) → P (entered_if f s i o)
-      by None = p
-      by (Some xs) = at_entered f i xs p
+      by : (o : Option (List Lacking)) → lacking s i ≡ o → P (entered_if f s i o)
+      by None q = p.0
+      by (Some xs) q = at_entered f i xs (views.leaves s w i xs e q p.0 p.1)
 
   -- ---- the rules of views
 
-  at_views_taken : (f : Answering) {s : Core} (v : Viewing) → P s → P (views_taken f s (viewing s v))
+  at_views_sent : (w : ViewWork) (xs : List ViewSend) → ((x : ViewSend) → Has x xs → Has x w.sends) → (s : Core) → P s × Works s w → P (fold (λ t (x : ViewSend). sent t x.to (body.View x.packet)) s xs) × Works (fold (λ t (x : ViewSend). sent t x.to (body.View x.packet)) s xs) w
+  at_views_sent w [] here s p = p
+  at_views_sent w (x ∷ xs) here s p = at_views_sent w xs (λ y i. here y (inr i)) (sent s x.to (body.View x.packet)) (views.sends s w x (here x (inl refl)) p.0 p.1)
+
+  at_views_taken : (f : Answering) (s : Core) (v : Viewing) → Arisen Given s v → P s → P (views_taken f s (viewing s v))
   unfolding views_taken
-  at_views_taken f {s} v p = at_applied f (viewing s v).install (at_views_sent P rules.keeping.beside (viewing s v).sends (views.views s v p))
+  at_views_taken f s v arisen p =
+      let c : Core = record s { views = (viewing s v).views } in
+      at_applied f (viewing s v) (viewing s v).install refl (at_views_sent (viewing s v) (viewing s v).sends (λ x i. i) c (views.views s v arisen p))
 
   at_order : (f : Answering) {s : Core} (mask : Mask) → P s → P (take_order f s mask)
   unfolding take_order
-  at_order f {s} mask p = at_either P (is_fixed s.config.mode) p (at_views_taken f (Asks mask) p)
+  at_order f {s} mask p = at_either P (is_fixed s.config.mode) p (at_views_taken f s (Asks mask) tt p)
 
-  at_view : (f : Answering) {s : Core} (from inc : ℕ) (y : ViewPacket) → P s → P (view_rule f s from inc y)
+  at_view : (f : Answering) (s : Core) (q : Packet) (y : ViewPacket) → Given s q → q.body ≡ body.View y → P s → P (view_rule f s q.from q.inc y)
   unfolding view_rule
-  at_view f from inc (packet.Prepare v mask) p = at_views_taken f (Prepares from inc v mask) p
-  at_view f from inc (packet.Answer v old parts) p = at_views_taken f (Answers v (record { node = from; inc = inc; view = old; parts = parts })) p
-  at_view f from inc (packet.Refuse v n) p = at_views_taken f (Refuses v n) p
-  at_view f from inc (packet.Install i) p = at_views_taken f (Installs i) p
-  at_view f from inc (packet.Taken v) p = at_views_taken f (Takes from v) p
+  at_view f s q (packet.Prepare v mask) given is p = at_views_taken f s (Prepares q.from q.inc v mask) tt p
+  at_view f s q (packet.Answer v old parts) given is p = at_views_taken f s (Answers v (record { node = q.from; inc = q.inc; view = old; parts = parts })) (q, given, is) p
+  at_view f s q (packet.Refuse v n) given is p = at_views_taken f s (Refuses v n) tt p
+  at_view f s q (packet.Install i) given is p = at_views_taken f s (Installs i) (q, given, is) p
+  at_view f s q (packet.Taken v) given is p = at_views_taken f s (Takes q.from v) tt p
 
   -- ---- a whole step
 
@@ -254,14 +268,16 @@ module _ (P : Core → Type 0) (Between : List ℕ → Core → Type 0) (Leaving
   at_packet f s q given p = by (q.to == s.views.me) refl
     where
       by : (c : Bool) → (q.to == s.views.me) ≡ c → P (elim c as (λ _. Core) [ true ↦ take_body f s q q.body | false ↦ s ])
-      by true e = at_body P Between Unasked Given rules rings f s q q.body given (eqb-true q.to s.views.me e) refl (λ y is. at_view f q.from q.inc y p) p
+      by true e = at_body P Between Begun Unasked Given rules rings f s q q.body given (eqb-true q.to s.views.me e) refl (λ y is. at_view f s q y given is p) p
       by false e = p
 
   pub at_before_end : (f : Answering) (s : Core) (e : NodeEvent) → GivenTo Given s e → P (called s e) → P (before_end f s e)
   unfolding tick_views
   at_before_end f s step.Ticks given p =
-      let t : Core = tick_views f (tick_rings s) in
-      at_led_part P Between Unasked Given rules f (tick_owed t) (at_owed_part P rules.keeping.beside (at_views_taken f Reminds (at_views_taken f Gathers (rings.ticks s p))))
+      let r : Core = tick_rings s in
+      let u : Core = views_taken f r (viewing r Gathers) in
+      let t : Core = tick_views f r in
+      at_led_part P Between Begun Unasked Given rules f (tick_owed t) (at_owed_part P rules.keeping.beside (at_views_taken f u Reminds tt (at_views_taken f r Gathers tt (rings.ticks s p))))
   at_before_end f s (step.Asks mask) given p = at_order f mask p
   at_before_end f s (step.Given q) given p = at_packet f s q given p
   at_before_end f s (step.Calls c) given p = p
@@ -269,4 +285,4 @@ module _ (P : Core → Type 0) (Between : List ℕ → Core → Type 0) (Leaving
 
   -- what holds after the call of a step, or before any other step, holds after it
   pub at_stepped : (f : Answering) (s : Core) (e : NodeEvent) → GivenTo Given (at_work s) e → P (called (at_work s) e) → P (stepped f s e)
-  at_stepped f s e given p = subst P (sym (stepped_is f s e)) (at_ended P Between Unasked rules.keeping f (at_before_end f (at_work s) e given p))
+  at_stepped f s e given p = subst P (sym (stepped_is f s e)) (at_ended P Between Begun Unasked rules.keeping f (at_before_end f (at_work s) e given p))
