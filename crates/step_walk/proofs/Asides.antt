@@ -1,4 +1,5 @@
 -- What changes beside lists, tallies and leaders keeps what is kept by each such change: sending, noting, forgetting, waiting.
+use Rattle.node_state.specs.HandOn.{notes, noted}
 use Rattle.std.specs.Prelude.{◌-◌, drop, max, nat_le, if◌then◌else◌}
 use Rattle.proposal_core.specs.GroupView.{GroupView}
 use Rattle.proposal_core.specs.Lists.{len_in, state_in, forgotten}
@@ -33,7 +34,7 @@ use Rattle.node_state.specs.Leading.{put, put_and_hand, forget_least, with_waiti
 use Rattle.step_walk.proofs.Waiting.{Few, Apart, MildWaits, fails_few, fails_apart}
 use Rattle.rsct_packet.specs.Providers.{differ}
 use Rattle.proposal_core.specs.Lists.{list_or_new}
-use Rattle.std.proofs.Common.{zero, suc}
+use Rattle.std.proofs.Common.{zero, suc, ◌∙◌}
 use Rattle.step_walk.proofs.Changes.{put_sent, handing}
 use Rattle.step_walk.proofs.Kept.{IsCast, CastIs, cast_is_on, casts_recorded}
 use Rattle.step_walk.proofs.Evidence.{Saying, delivered, KeepsBeside}
@@ -93,6 +94,40 @@ cast_records_same s g to p (Some c) = by to (c.2).filled
     by o None = refl
     by None (Some b) = refl
     by (Some n) (Some b) = refl
+
+casts_records : (g : List ℕ) (to : Option ℕ) (cs : List Cast) (s : Core) → (fold (λ t (c : Cast). cast_sent_of t g to c.p c.cast) s cs).records ≡ s.records
+casts_records g to [] s = refl
+casts_records g to (c ∷ cs) s = casts_records g to cs (cast_sent_of s g to c.p c.cast) ∙ cast_records_same s g to c.p c.cast
+
+casts_sent_records : (s : Core) (g : List ℕ) (to : Option ℕ) (cs : List Cast) → (casts_sent s g to cs).records ≡ s.records
+unfolding casts_sent
+casts_sent_records s g to cs = by (frozen s)
+  where
+    by : (b : Bool) → (elim b as (λ _. Core) [ true ↦ s | false ↦ fold (λ t (c : Cast). cast_sent_of t g to c.p c.cast) s cs ]).records ≡ s.records
+    by true = refl
+    by false = casts_records g to cs s
+
+-- no record is lost
+abbrev pub Longer : Core → Core → Type 0
+Longer s t = (r : Happened) → Has r s.records → Has r t.records
+
+noted_longer : (s : Core) (g : List ℕ) (i : ℕ) (before after : GroupState) → Longer s (noted s g i before after)
+unfolding noted notes recorded_all
+noted_longer s g i before after r j = by (differs before after)
+  where
+    by : (b : Bool) → Has r (elim b as (λ _. Core) [ true ↦ recorded_all s (map (note_of s g (Some i) after) (filter (is_of_group g) s.sessions.subs.live)) | false ↦ s ]).records
+    by true = append_has_left r s.records (map (note_of s g (Some i) after) (filter (is_of_group g) s.sessions.subs.live)) j
+    by false = j
+
+pub handed_longer : (f : Answering) (s : Core) (to : Option ℕ) (g : List ℕ) (i : ℕ) (before after : GroupState) (e : Entry) → Longer s (hand_on f s to g i before after e)
+unfolding hand_on with_sessions recorded_all
+handed_longer f s to g i before after e r j =
+    let bs : List (Option Filled) = fills f (length s.records) s.sessions e after (hearers s.sessions g before e) in
+    let cs : List Cast = casts_out s.sessions g before after e bs in
+    let rs : List Happened = flat_map (heard s g i e after) cs in
+    let t : Core = noted (recorded_all s rs) g i before after in
+    let u : SessionState = session.handed_on s.sessions g before after e bs in
+    subst (Has r) (sym (casts_sent_records (with_sessions t u) g to cs)) (noted_longer (recorded_all s rs) g i before after r (append_has_left r s.records rs j))
 
 module _ (P : Core → Type 0) (Ok : List ℕ → Type 0) (k : KeepsBeside P Ok) where
   -- ---- what is sent and recorded

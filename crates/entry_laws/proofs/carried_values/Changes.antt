@@ -1,4 +1,6 @@
 -- What each kind of change of a step keeps.
+use Rattle.node_state.specs.Sending.{sent, network_to}
+use Rattle.proposal_core.specs.declared.proposal.Proposal.{Proposal}
 use Rattle.std.proofs.Common.{◌≡◌, ℕ, List, [], ◌++◌, Option, Some, None, Bool, true, false, refl, sym, ap, ◌∙◌, subst, inl, inr, ◌⊎◌, ◌∷◌, ⊎_elim, append_assoc, append-nil}
 use Rattle.std.specs.Prelude.{reverse, ◌==◌, find, is_none, map}
 use Rattle.std.proofs.lemmas.Bool.{and_parts}
@@ -133,6 +135,10 @@ viewing_stays s Reminds = install_again_stays s.views (views_at_work s.views) (b
 abbrev pub Every : List ℕ → Type 0
 Every g = Unit {0}
 
+-- whatever begins
+abbrev pub Anything : Proposal → Type 0
+Anything x = Unit {0}
+
 abbrev pub NoGroup : List ℕ → Type 0
 NoGroup g = ⊥
 
@@ -171,13 +177,13 @@ module _ (h : Course) where
 
   -- ---- an entry is put and heard
 
-  delivery : (T : List ℕ → Type 0) → KeepsDelivery (At h T)
-  delivery T =
+  delivery : (T : List ℕ → Type 0) (g : List ℕ) (e : Entry) → KeepsDelivery (At h T) g e
+  delivery T g e =
       record {
-        sends = (beside T).sends;
-        hears = λ s g before after e bs c i j a. at_recorded h T s (happened.Heard c.p s.views.view g i e after.members after.value) tt a;
+        sends = λ s network to v place stable a. at_sent_on h T s network to (body.Entry v g place stable e) tt a;
+        hears = λ s before after bs c i j a. at_recorded h T s (happened.Heard c.p s.views.view g i e after.members after.value) tt a;
         casts = λ s p proto phase vote value message a. at_recorded h T s (happened.Cast p proto phase vote value message) tt a;
-        handed = λ s g before after e bs kept a. at_sessions h T s (session.handed_on s.sessions g before after e bs) (λ k i. ⊎_elim (λ (j : Has k s.sessions.kept). a.kept k j) (λ (j : KeptIs s.records k). told_so s.records (records_of h.before) k.p k.proto k.phase k.ballot.filled j) (kept k i)) a;
+        handed = λ s before after bs kept a. at_sessions h T s (session.handed_on s.sessions g before after e bs) (λ k i. ⊎_elim (λ (j : Has k s.sessions.kept). a.kept k j) (λ (j : KeptIs s.records k). told_so s.records (records_of h.before) k.p k.proto k.phase k.ballot.filled j) (kept k i)) a;
       }
 
   abbrev put_row : Core → GroupRow → Entry → GroupRow
@@ -187,7 +193,7 @@ module _ (h : Course) where
   unfolding put with_row row_of len_of list_of
   at_put T U s g e ns stable bs fact others own a =
       let f : GroupRow → GroupRow = λ row. put_row s row e in
-      at_delivered (At h U) (delivery U) s g e ns stable bs (at_pushed h U (with_row s g f) (happened.Put s.views.me s.views.view g (len_in (found s g).list) e) (λ c k. (fact c, k)) (at_row_for h T U s g f (λ x. refl) others own a))
+      at_delivered (At h U) g e (delivery U g e) s ns stable bs (at_pushed h U (with_row s g f) (happened.Put s.views.me s.views.view g (len_in (found s g).list) e) (λ c k. (fact c, k)) (at_row_for h T U s g f (λ x. refl) others own a))
 
   -- what its leader puts
   put_fact : (s : Core) (v : ViewId) (g : List ℕ) (i : ℕ) (e : Entry) → EntryCarries (rs s) e → PutFact (reverse s.records) h.before v g i e
@@ -195,7 +201,7 @@ module _ (h : Course) where
 
   -- ---- what a leader does
 
-  plain_row : (s : Core) (g : List ℕ) (e : Entry) → Plain s g e → fits_at_end s g e ≡ true → Is s (found s g) → Is s (put_row s (found s g) e) × EntryCarries (rs s) e
+  plain_row : (s : Core) (g : List ℕ) (e : Entry) → Plain Anything s g e → fits_at_end s g e ≡ true → Is s (found s g) → Is s (put_row s (found s g) e) × EntryCarries (rs s) e
   unfolding fits_at_end entry_fits list_of row_of with_entry apply
   plain_row s g (Once x) plain room k =
       (row_is_idle (rs s) (leads_row s (found s g)) (found s g) (put_row s (found s g) (Once x)) refl (once_idle (state_in (found s g).list) s.views.view (list_or_new (found s g).list).len x (and_parts (fits (state_in (found s g).list) (Once x)) (has_room (list_or_new (found s g).list) (Once x)) room).0) k, tt)
@@ -206,7 +212,7 @@ module _ (h : Course) where
   plain_row s g (Approve c) plain fits k = absurd plain
   plain_row s g (Reject c) plain fits k = absurd plain
 
-  carries : (s : Core) (g : List ℕ) (e : Entry) → Turning s g e → Is s (found s g) → EntryCarries (rs s) e
+  carries : (s : Core) (g : List ℕ) (e : Entry) → Turning Anything s g e → Is s (found s g) → EntryCarries (rs s) e
   unfolding led_of state_of list_of row_of
   carries s g e turning k = by e turning
     where
@@ -217,7 +223,7 @@ module _ (h : Course) where
           at (inl none) = closing_carries (rs s) (found s g).led None (state_in (found s g).list).running e tt (ap (λ o. closing_entry (found s g).led o (state_in (found s g).list).running) (sym none) ∙ q)
           at (inr k) = closing_carries (rs s) (found s g).led (found s g).led.tally (state_in (found s g).list).running e k.1 q
 
-      by : (e : Entry) → Turning s g e → EntryCarries (rs s) e
+      by : (e : Entry) → Turning Anything s g e → EntryCarries (rs s) e
       by (Begin x) t = tt
       by (Once x) t = tt
       by (Late proto phase ps) t = tt
@@ -236,10 +242,12 @@ module _ (h : Course) where
   led_row s g f same a =
       at_row h Every s g (λ row. record row { led = f row.led }) (λ x. refl) (λ t. row_is_same (rs s) (leads_row s (found s g)) (found s g) (record (found s g) { led = f (found s g).led }) (same (found s g).led).0 (same (found s g).led).1 refl (a.tallies g t)) a
 
-  leading : KeepsLed Full (λ g. At h (But g)) (IsLed ⊥)
+  leading : KeepsLed Full (λ g. At h (But g)) Anything (IsLed ⊥)
   unfolding keep_decision tally_set with_led
   leading =
       record {
+        begins = λ x none. tt;
+        joins = λ s g b test attrs n a. tt;
         decides = λ s g q r y ok fair a. led_row s g _ (λ l. (refl, refl)) a;
         puts = λ s g e ns stable bs ok fits plain a. at_put Every Every s g e ns stable bs (λ c. put_fact s s.views.view g (len_in (found s g).list) e (plain_row s g e plain fits (a.tallies g tt)).1) (λ k u ne. tt) (λ u. (plain_row s g e plain fits (a.tallies g tt)).0) a;
         turns = λ s g e ns stable bs ok fits turning a. at_put Every (But g) s g e ns stable bs (λ c. put_fact s s.views.view g (len_in (found s g).list) e (carries s g e turning (a.tallies g tt))) (λ k u ne. tt) (λ u. absurd (u refl)) a;
@@ -247,7 +255,7 @@ module _ (h : Course) where
         opens = λ s g ok a. opened s g (sure ok) a;
       }
 
-  keeping : Keeping Full (λ g. At h (But g)) ⊥
+  keeping : Keeping Full (λ g. At h (But g)) Anything ⊥
   keeping = record { order = λ s a. inl a.order; order_between = λ g s a. inl a.order; beside = beside Every; between = λ g. beside (But g); led = leading }
 
   -- ---- packets
@@ -300,7 +308,7 @@ module _ (h : Course) where
   telling s p r y a =
       at_recorded h Every (with_sessions s (take_telling s.sessions p r y)) (happened.Told p r y) tt (at_sessions h Every s (take_telling s.sessions p r y) (λ k i. a.kept k (told_no_more s.sessions p r y k i)) a)
 
-  pub packets : KeepsPackets Full (λ g. At h (But g)) ⊥ Known
+  pub packets : KeepsPackets Full (λ g. At h (But g)) Anything ⊥ Known
   unfolding wait_join keep_decision with_tally with_led led_of row_of
   packets =
       record {
@@ -414,15 +422,16 @@ module _ (h : Course) where
         votes = votes;
       }
 
-  pub entering : KeepsEntering (Full h) Loose
-  unfolding dissolved
+  pub entering : KeepsEntering (Full h) (λ s w. Unit {0}) (λ i xs. Loose) (Known h)
+  unfolding dissolved sent
   entering =
       record {
-        views = λ s v a. let z = viewing_stays s v in at_views h Every s (viewing s v).views z.me z.view a;
-        leaves = loosened;
-        beside = beside loose NoGroup;
-        fills = λ s g e bs a. at_put loose NoGroup NoGroup s g e [] 0 bs (λ c. absurd (cc)) (λ k z ne. z) (λ z. absurd z) a;
-        enters = at_view_entered;
+        views = λ s v arisen a. (let z = viewing_stays s v in at_views h Every s (viewing s v).views z.me z.view a, tt);
+        sends = λ s w x i a works. (at_sent_on h Every s (network_to s x.to) x.to (body.View x.packet) tt a, tt);
+        leaves = λ s w i xs e q a works. loosened s a;
+        beside = λ i xs. beside loose NoGroup;
+        fills = λ s i xs x e bs here there a. at_put loose NoGroup NoGroup s x.name e [] 0 bs (λ c. absurd (cc)) (λ k z ne. z) (λ z. absurd z) a;
+        enters = λ s i xs a. at_view_entered s i a;
         dissolves = λ s q x e a. telling h s x.p (number_of (outstanding s.sessions x.p)) Dissolved a;
       }
 

@@ -18,7 +18,7 @@ use Rattle.step_walk.proofs.Stepping as stepping
 use Rattle.entry_laws.proofs.closing_rows.Steps.{entry_follows, entry_had_put, request_leads}
 use Rattle.entry_laws.specs.carried_values.Carried.{BodyTold}
 use Rattle.entry_laws.proofs.carried_values.At.{Course, At, body_on}
-use Rattle.entry_laws.proofs.carried_values.Changes.{Every, But, Loose, Known, beside, packets, calling, entering, ring}
+use Rattle.entry_laws.proofs.carried_values.Changes.{Anything, Every, But, Loose, Known, beside, packets, calling, entering, ring}
 
 -- the events before the step
 abbrev pub course : Scene → Course
@@ -53,4 +53,4 @@ module _ (w : Scene) (n : ℕ) (s : Core) (were : (p : Packet) → Has p w.sent 
 
   pub at_stepped : (f : Answering) (e : NodeEvent) → Arises w e → At (course w) Every (at_work s) → At (course w) Every (stepped f s e)
   at_stepped f e arises a =
-      stepping.at_stepped (At (course w) Every) (λ g. At (course w) (But g)) (Loose (course w)) ⊥ (Known (course w)) (packets (course w)) (by_rings (At (course w) Every) (Known (course w)) (beside (course w) Every) (packets (course w)).reach (ring (course w))) (entering (course w)) f s e (given e arises) (after_call e a)
+      stepping.at_stepped (At (course w) Every) (λ g. At (course w) (But g)) Anything ⊥ (Known (course w)) (λ s w. Unit {0}) (λ i xs. Loose (course w)) (packets (course w)) (by_rings (At (course w) Every) (Known (course w)) (beside (course w) Every) (packets (course w)).reach (ring (course w))) (entering (course w)) f s e (given e arises) (after_call e a)
