@@ -25,7 +25,7 @@ use Rattle.node_state.specs.declared.happened.Happened.{Happened}
 use Rattle.node_state.specs.declared.state.Core.{Core}
 use Rattle.node_state.specs.State.{row_of, with_row, with_led, led_of, list_of, state_of, len_of, fits_at_end, leader_of, others, recorded, row_found, is_this, leader_in, leads_in, leads, set_leader, with_sessions, has_name, held_rows, decisions_with, leader_by}
 use Rattle.node_state.specs.Sending.{sent, send_on, network_to}
-use Rattle.node_state.specs.HandOn.{fills, heard, notes, noted}
+use Rattle.node_state.specs.HandOn.{fills, heard, notes}
 use Rattle.node_state.specs.Leading.{put, tally_for, tally_set, tally_opened, closing_entry, begins, with_tally}
 use Rattle.run_safety.specs.Past.{History, records_of}
 use Rattle.step_refinement.proofs.Turns.{has_turned, has_last, has_pushed_on}
@@ -64,13 +64,13 @@ use Rattle.session_state.specs.Calls.{asked, keeps}
 use Rattle.node_state.specs.declared.packet.Body.{Body}
 use Rattle.node_state.specs.declared.packet.Packet.{Packet}
 use Rattle.node_state.specs.Step.{is_used}
-use Rattle.view_state.specs.Answers.{opened, install_of}
+use Rattle.view_state.specs.Answers.{install_of}
 use Rattle.step_walk.proofs.Changes.{Any, Viewing, Asks, Prepares, Answers, Refuses, Installs, Takes, Gathers, Reminds, viewing, KeepsRing}
 use Rattle.step_walk.proofs.Kept.{KeptIs, OneMore, told_no_more}
 use Rattle.step_walk.proofs.Waiting.{filter_differs, chosen_differ, cast_apart}
 use Rattle.step_walk.proofs.Evidence.{IsLed, Saying, delivered, Plain, Turning, Arisen, KeepsBeside, KeepsLed, Keeping, KeepsPackets, KeepsEntering, KeepsCalling, KeepsDelivery}
 use Rattle.step_walk.proofs.Delivering.{at_delivered}
-use Rattle.step_walk.proofs.Parts.{IsEntering, entering, on_enters}
+use Rattle.step_walk.proofs.Parts.{IsEntering, on_enters}
 use Rattle.row_laws.proofs.honest_votes.More.{entry_on, entries_on, install_on, ballot_on}
 use Rattle.row_laws.proofs.honest_votes.At.{found, leads_row, leads_is, RowIs, At, at_fewer, at_sent_on, more_pushed, at_recorded, at_sessions, at_views, at_row_for, at_row}
 use Rattle.row_laws.proofs.honest_votes.Closes.{closing_cast, failed_cast, ticked_cast, voted_cast, opened_cast, runs_is}
