@@ -1,6 +1,6 @@
 -- In the middle of a step: all votes that the node has, sends and records were cast.
-use Rattle.std.proofs.Common.{◌≡◌, ◌⊎◌, ℕ, List, [], ◌∷◌, ◌++◌, None, Bool, true, false, refl, sym, ap, ◌∙◌, subst, inl, inr, ⊎_elim, append_assoc, append-nil}
-use Rattle.std.specs.Prelude.{fold, find, reverse}
+use Rattle.std.proofs.Common.{◌≡◌, ◌⊎◌, ℕ, List, [], ◌∷◌, ◌++◌, None, Bool, true, false, refl, sym, subst, inl, inr, ⊎_elim}
+use Rattle.std.specs.Prelude.{find, reverse}
 use Rattle.std.specs.Str.{bytes_eq}
 use Rattle.std.proofs.lemmas.List.{reverse-append}
 use Rattle.rsct_packet.specs.Providers.{differ}
@@ -16,8 +16,8 @@ use Rattle.node_state.specs.declared.happened.Happened.{Happened}
 use Rattle.node_state.specs.declared.packet.Body.{Body}
 use Rattle.node_state.specs.declared.packet.Packet.{Packet}
 use Rattle.node_state.specs.declared.state.Core.{Core}
-use Rattle.node_state.specs.State.{InNameOrder, new_row, row_found, row_of, rows_with, with_row, is_this, leader_by, leader_in, leads_in, leads, recorded, recorded_all, with_sessions, has_name}
-use Rattle.node_state.specs.Sending.{packet_on, send_on, sent, network_to}
+use Rattle.node_state.specs.State.{InNameOrder, new_row, row_found, row_of, rows_with, with_row, is_this, leader_by, leader_in, leads_in, leads, recorded, with_sessions, has_name}
+use Rattle.node_state.specs.Sending.{packet_on, send_on}
 use Rattle.run_safety.specs.Past.{History, records_of, Within}
 use Rattle.node_state.proofs.NameOrder.{KeepsName, cases_text, row_here, row_there, rows_ordered}
 use Rattle.row_laws.specs.honest_votes.Casts.{RecordCast, ListCast, BodyCast, KeptCast, ViewsCast, TallyCast}

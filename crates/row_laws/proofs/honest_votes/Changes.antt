@@ -1,5 +1,5 @@
 -- What each kind of change of a step keeps: that votes were cast.
-use Rattle.std.proofs.Common.{◌≡◌, ◌⊎◌, ℕ, ◌-◌, List, [], ◌∷◌, ◌++◌, drop, Option, Some, None, Bool, true, false, refl, sym, ap, ◌∙◌, subst, inl, inr, ⊎_elim, length, ◌+◌}
+use Rattle.std.proofs.Common.{◌≡◌, ◌⊎◌, ℕ, ◌-◌, List, [], ◌∷◌, ◌++◌, drop, Option, Some, None, Bool, true, false, refl, sym, ap, ◌∙◌, subst, inl, inr, ⊎_elim, length}
 use Rattle.std.specs.Prelude.{not, filter, nat_le, reverse, ◌==◌, ◌&&◌, find, nat_lt, is_none, map, is_some}
 use Rattle.std.proofs.lemmas.Bool.{and_parts}
 use Rattle.rsct_packet.specs.declared.ids.ViewId.{ViewId}
@@ -25,8 +25,7 @@ use Rattle.node_state.specs.declared.happened.Happened.{Happened}
 use Rattle.node_state.specs.declared.state.Core.{Core}
 use Rattle.node_state.specs.State.{row_of, with_row, with_led, led_of, list_of, state_of, len_of, fits_at_end, leader_of, others, recorded, row_found, is_this, leader_in, leads_in, leads, set_leader, with_sessions, has_name, held_rows, decisions_with, leader_by}
 use Rattle.node_state.specs.Sending.{sent, send_on, network_to}
-use Rattle.node_state.specs.HandOn.{fills, heard, notes}
-use Rattle.node_state.specs.Leading.{put, tally_for, tally_set, tally_opened, closing_entry, begins, with_tally}
+use Rattle.node_state.specs.Leading.{put, tally_for, tally_set, tally_opened, closing_entry, with_tally}
 use Rattle.run_safety.specs.Past.{History, records_of}
 use Rattle.step_refinement.proofs.Turns.{has_turned, has_last, has_pushed_on}
 use Rattle.row_laws.specs.honest_votes.Casts.{NamesOnce, EntryCast, EntriesCast, TallyCast, IsCast, RecordCast, PartsCast, InstallCast, InstallIfCast, ViewPacketCast, BallotCast, KeptCast, BodyCast}
@@ -37,8 +36,8 @@ use Rattle.client_callbacks.specs.declared.told.Why.{Why}
 use Rattle.client_callbacks.specs.declared.told.Why.TheVariants.{Dissolved, NoSource}
 use Rattle.session_state.specs.State.{outstanding}
 use Rattle.session_state.specs.HandOn.{take_telling}
-use Rattle.node_state.specs.Deciding.{decided, keep_decision, refused, lacks_source, source_len, is_idle_empty, meant_attrs, join_refusal, keep_attrs, wait_join}
-use Rattle.node_state.specs.Following.{named, vote_cast}
+use Rattle.node_state.specs.Deciding.{keep_decision, lacks_source, source_len, is_idle_empty, meant_attrs, join_refusal, keep_attrs, wait_join}
+use Rattle.node_state.specs.Following.{vote_cast}
 use Rattle.node_state.proofs.NameOrder.{row_here}
 use Rattle.rsct_packet.specs.Ids.{same_view}
 use Rattle.view_state.specs.declared.install.Part.{Part}
@@ -51,7 +50,7 @@ use Rattle.view_state.specs.Cut.{all_fit, lacking_if, lacking_of}
 use Rattle.view_state.specs.declared.packet.ViewSend.{ViewSend}
 use Rattle.view_state.specs.declared.views.ViewWork.{ViewWork}
 use Rattle.view_state.specs.Views.{own_install, views_entered, views_at_work}
-use Rattle.node_state.specs.Applying.{part_of_list, own_parts, Lacking, lacking_in, lacking, level_set, base_row, base_leader, view_entered, number_of, dissolved, lead, entered}
+use Rattle.node_state.specs.Applying.{part_of_list, own_parts, Lacking, lacking_in, lacking, level_set, base_row, base_leader, view_entered, number_of, dissolved}
 use Rattle.step_refinement.proofs.BaseOrder.{bases_ordered, row_of_base}
 use Rattle.group_attr.specs.declared.attrs.Attrs.{Attrs}
 use Rattle.group_attr.specs.Agree.{agree}
@@ -60,11 +59,9 @@ use Rattle.node_state.specs.Ticks.{ring_ask, ticked_in}
 use Rattle.client_callbacks.specs.declared.ballot.Filled.{Filled}
 use Rattle.session_state.specs.declared.state.KeptBallot.{KeptBallot}
 use Rattle.session_state.specs.declared.state.SessionState.{SessionState}
-use Rattle.session_state.specs.Calls.{asked, keeps}
 use Rattle.node_state.specs.declared.packet.Body.{Body}
 use Rattle.node_state.specs.declared.packet.Packet.{Packet}
 use Rattle.node_state.specs.Step.{is_used}
-use Rattle.view_state.specs.Answers.{install_of}
 use Rattle.step_walk.proofs.Changes.{Any, Viewing, Asks, Prepares, Answers, Refuses, Installs, Takes, Gathers, Reminds, viewing, KeepsRing}
 use Rattle.step_walk.proofs.Kept.{KeptIs, OneMore, told_no_more}
 use Rattle.step_walk.proofs.Waiting.{filter_differs, chosen_differ, cast_apart}
