@@ -94,6 +94,9 @@ lent_keeps s g w name state =
     subst (λ (xs : List GroupRow). Keeps s (record s { groups = xs })) (sym (row_written g f s.groups w same))
     (row_itself_keeps s g f (λ x. refl) (λ o. state ∙ ap (λ (row : GroupRow). state_in row.list) (reached_found g s.groups o)))
 
+-- what a change of a lent row takes
+pub ruleset row_change = (row_written, lent_keeps)
+
 forgotten_head : (b : Bool) (l : GroupView) (start : ℕ) (entries : List Entry) → let m : GroupView = if b then record l { start = start; entries = entries } else l in m.state ≡ l.state
 forgotten_head true l start entries = refl
 forgotten_head false l start entries = refl

@@ -71,12 +71,8 @@ fn put_entry(core: &mut Core, alloc: Global, group: &Name, entry: &Entry) -> Res
         })) }
 {
     let view = core.views.view;
-    row::put(
-        row_mut(&mut core.groups, alloc, group)?,
-        alloc,
-        view,
-        entry.copy(alloc)?,
-    )
+    let row = row_mut(&mut core.groups, alloc, group)?;
+    row::put(row, alloc, view, entry.copy(alloc)?)
 }
 
 /// Puts an entry that fits at the end of the group's list, and records it.
@@ -93,7 +89,7 @@ pub fn put(core: &mut Core, alloc: Global, group: &Name, entry: &Entry) -> Resul
 }
 
 /// Lets the entries of a group's list below a place go, where the list has that place.
-#[tactic(auto, unfolding(node_state::specs::State::forget_below, node_state::specs::State::with_row), using(crate::proofs::RowLaws::row_written, crate::proofs::KeepLaws::lent_keeps, crate::proofs::KeepLaws::forgotten_state, std::proofs::lemmas::Grind::common_steps))]
+#[tactic(auto, unfolding(node_state::specs::State::forget_below, node_state::specs::State::with_row), using(crate::proofs::KeepLaws::row_change, crate::proofs::KeepLaws::forgotten_state, std::proofs::lemmas::Grind::common_steps))]
 pub fn forget_below(
     core: &mut Core,
     alloc: Global,
@@ -103,7 +99,8 @@ pub fn forget_below(
     ensures rule { OnOk result (core.new ≡ forget_below core.old group.now place) }
     ensures keeps { OnOk result (Keeps core.old core.new) }
 {
-    row::forget_below(row_mut(&mut core.groups, alloc, group)?, place);
+    let row = row_mut(&mut core.groups, alloc, group)?;
+    row::forget_below(row, place);
     Ok(())
 }
 
@@ -118,7 +115,7 @@ pub fn forget_least(core: &mut Core, alloc: Global, group: &Name) -> Result<(), 
 }
 
 /// The leader of the group is known.
-#[tactic(auto, unfolding(node_state::specs::State::set_leader, node_state::specs::State::with_row), using(crate::proofs::RowLaws::row_written, crate::proofs::KeepLaws::lent_keeps, std::proofs::lemmas::Grind::common_steps))]
+#[tactic(auto, unfolding(node_state::specs::State::set_leader, node_state::specs::State::with_row), using(crate::proofs::KeepLaws::row_change, std::proofs::lemmas::Grind::common_steps))]
 pub fn set_leader(core: &mut Core, alloc: Global, group: &Name, node: u8) -> Result<(), NoMemory>
     ensures rule { OnOk result (core.new ≡ set_leader core.old group.now node) }
     ensures keeps { OnOk result (Keeps core.old core.new) }
@@ -129,7 +126,7 @@ pub fn set_leader(core: &mut Core, alloc: Global, group: &Name, node: u8) -> Res
 }
 
 /// The provider waits as a failure of this cause, unless it waits as one already.
-#[tactic(auto, unfolding(node_state::specs::Leading::with_waiting, node_state::specs::State::with_led, node_state::specs::State::with_row), using(crate::proofs::RowLaws::row_written, crate::proofs::KeepLaws::lent_keeps, std::proofs::lemmas::Grind::common_steps))]
+#[tactic(auto, unfolding(node_state::specs::Leading::with_waiting, node_state::specs::State::with_led, node_state::specs::State::with_row), using(crate::proofs::KeepLaws::row_change, std::proofs::lemmas::Grind::common_steps))]
 pub fn wait_failure(
     core: &mut Core,
     alloc: Global,
@@ -147,7 +144,7 @@ pub fn wait_failure(
 }
 
 /// The provider's join waits no more.
-#[tactic(auto, unfolding(node_state::specs::Leading::with_waiting, node_state::specs::State::with_led, node_state::specs::State::with_row), using(crate::proofs::RowLaws::row_written, crate::proofs::KeepLaws::lent_keeps, std::proofs::lemmas::Grind::common_steps))]
+#[tactic(auto, unfolding(node_state::specs::Leading::with_waiting, node_state::specs::State::with_led, node_state::specs::State::with_row), using(crate::proofs::KeepLaws::row_change, std::proofs::lemmas::Grind::common_steps))]
 pub fn drop_join(
     core: &mut Core,
     alloc: Global,
@@ -163,7 +160,7 @@ pub fn drop_join(
 }
 
 /// The tally of the phase that runs is this one.
-#[tactic(auto, unfolding(node_state::specs::Leading::with_tally, node_state::specs::State::with_led, node_state::specs::State::with_row), using(crate::proofs::RowLaws::row_written, crate::proofs::KeepLaws::lent_keeps, std::proofs::lemmas::Grind::common_steps))]
+#[tactic(auto, unfolding(node_state::specs::Leading::with_tally, node_state::specs::State::with_led, node_state::specs::State::with_row), using(crate::proofs::KeepLaws::row_change, std::proofs::lemmas::Grind::common_steps))]
 pub fn set_tally(
     core: &mut Core,
     alloc: Global,
@@ -179,7 +176,7 @@ pub fn set_tally(
 }
 
 /// The tally of the phase that runs is this one, and no ballot has been recorded.
-#[tactic(auto, unfolding(node_state::specs::Leading::tally_set, node_state::specs::State::with_led, node_state::specs::State::with_row), using(crate::proofs::RowLaws::row_written, crate::proofs::KeepLaws::lent_keeps, std::proofs::lemmas::Grind::common_steps))]
+#[tactic(auto, unfolding(node_state::specs::Leading::tally_set, node_state::specs::State::with_led, node_state::specs::State::with_row), using(crate::proofs::KeepLaws::row_change, std::proofs::lemmas::Grind::common_steps))]
 pub fn open_tally(
     core: &mut Core,
     alloc: Global,
@@ -197,7 +194,7 @@ pub fn open_tally(
 
 /// A vote on the tally of the phase that runs, where there is one; what its ballot carries is kept where the vote is
 /// recorded.
-#[tactic(auto, unfolding(node_state::specs::State::with_led, node_state::specs::State::with_row), using(crate::proofs::RowLaws::row_written, crate::proofs::KeepLaws::lent_keeps, std::proofs::lemmas::Grind::common_steps))]
+#[tactic(auto, unfolding(node_state::specs::State::with_led, node_state::specs::State::with_row), using(crate::proofs::KeepLaws::row_change, std::proofs::lemmas::Grind::common_steps))]
 pub fn cast_vote(
     core: &mut Core,
     alloc: Global,
@@ -216,7 +213,7 @@ pub fn cast_vote(
 }
 
 /// A voter of the phase that runs has failed.
-#[tactic(auto, unfolding(node_state::specs::Leading::with_tally, node_state::specs::State::with_led, node_state::specs::State::with_row, node_state::specs::State::led_of, node_state::specs::State::row_of), using(crate::proofs::RowLaws::row_written, crate::proofs::RowLaws::reached_found, crate::proofs::KeepLaws::lent_keeps, std::proofs::lemmas::Grind::common_steps))]
+#[tactic(auto, unfolding(node_state::specs::Leading::with_tally, node_state::specs::State::with_led, node_state::specs::State::with_row, node_state::specs::State::led_of, node_state::specs::State::row_of), using(crate::proofs::KeepLaws::row_change, crate::proofs::RowLaws::reached_found, std::proofs::lemmas::Grind::common_steps))]
 pub fn fail_voter(
     core: &mut Core,
     alloc: Global,
@@ -236,7 +233,7 @@ pub fn fail_voter(
 }
 
 /// The tally of the phase that runs ticks.
-#[tactic(auto, unfolding(node_state::specs::Leading::with_tally, node_state::specs::State::with_led, node_state::specs::State::with_row, node_state::specs::State::led_of, node_state::specs::State::row_of), using(crate::proofs::RowLaws::row_written, crate::proofs::RowLaws::reached_found, crate::proofs::KeepLaws::lent_keeps, std::proofs::lemmas::Grind::common_steps))]
+#[tactic(auto, unfolding(node_state::specs::Leading::with_tally, node_state::specs::State::with_led, node_state::specs::State::with_row, node_state::specs::State::led_of, node_state::specs::State::row_of), using(crate::proofs::KeepLaws::row_change, crate::proofs::RowLaws::reached_found, std::proofs::lemmas::Grind::common_steps))]
 pub fn tick_tally(core: &mut Core, alloc: Global, group: &Name) -> Result<(), NoMemory>
     requires { InNameOrder core.old.groups }
     ensures rule { OnOk result (core.new ≡ with_tally core.old group.now
@@ -251,7 +248,7 @@ pub fn tick_tally(core: &mut Core, alloc: Global, group: &Name) -> Result<(), No
 }
 
 /// The node has acknowledged this length, or a greater one.
-#[tactic(auto, unfolding(node_state::specs::State::with_led, node_state::specs::State::with_row), using(crate::proofs::RowLaws::row_written, crate::proofs::KeepLaws::lent_keeps, std::proofs::lemmas::Grind::common_steps))]
+#[tactic(auto, unfolding(node_state::specs::State::with_led, node_state::specs::State::with_row), using(crate::proofs::KeepLaws::row_change, std::proofs::lemmas::Grind::common_steps))]
 pub fn note_acked(
     core: &mut Core,
     alloc: Global,
@@ -268,7 +265,7 @@ pub fn note_acked(
 }
 
 /// The provider is gone.
-#[tactic(auto, unfolding(node_state::specs::State::with_led, node_state::specs::State::with_row), using(crate::proofs::RowLaws::row_written, crate::proofs::KeepLaws::lent_keeps, std::proofs::lemmas::Grind::common_steps))]
+#[tactic(auto, unfolding(node_state::specs::State::with_led, node_state::specs::State::with_row), using(crate::proofs::KeepLaws::row_change, std::proofs::lemmas::Grind::common_steps))]
 pub fn mark_gone(
     core: &mut Core,
     alloc: Global,
@@ -284,7 +281,7 @@ pub fn mark_gone(
 }
 
 /// The last decision on the requester is this one.
-#[tactic(auto, unfolding(node_state::specs::Deciding::keep_decision, node_state::specs::State::with_led, node_state::specs::State::with_row), using(crate::proofs::RowLaws::row_written, crate::proofs::KeepLaws::lent_keeps, std::proofs::lemmas::Grind::common_steps))]
+#[tactic(auto, unfolding(node_state::specs::Deciding::keep_decision, node_state::specs::State::with_led, node_state::specs::State::with_row), using(crate::proofs::KeepLaws::row_change, std::proofs::lemmas::Grind::common_steps))]
 pub fn keep_decision(
     core: &mut Core,
     alloc: Global,
