@@ -1,5 +1,5 @@
 -- What a provider asks of its group.
-use Rattle.std.specs.Prelude.{ℕ, ◌<◌, ◌^◌, List, length, find, Option, Some, None, Result, Err}
+use Rattle.std.specs.Prelude.{ℕ, ◌<◌, ◌^◌, List, length, Option, Some, None, Result, Err}
 use Rattle.rsct_packet.specs.declared.ids.ProviderId.{ProviderId}
 use Rattle.rsct_packet.specs.Providers.{AreProviders}
 use Rattle.group_attr.specs.declared.attrs.Phases.{Phases}
@@ -11,8 +11,7 @@ use Rattle.session_state.specs.declared.fault.GsFault.TheVariants as fault
 use Rattle.session_state.specs.declared.state.MemberToken.{MemberToken}
 use Rattle.session_state.specs.declared.state.Provider.{Provider}
 use Rattle.session_state.specs.declared.state.SessionState.{SessionState}
-use Rattle.session_state.specs.State.{is_member_of}
-use Rattle.session_state.specs.Calls.{is_empty, if_session, unless_fault, ask_fault, asked, value_fault, message_fault, targets_fault, attributes_fault, left, expelled, state_changed, message_sent, attributes_changed}
+use Rattle.session_state.specs.Calls.{unless_fault, ask_fault, asked, value_fault, message_fault, targets_fault, attributes_fault, left, expelled, state_changed, message_sent, attributes_changed}
 use Rattle.session_calls.specs.declared.asking.Asked.{Asked}
 use Rattle.session_calls.specs.declared.asking.Asked.TheVariants as asks
 
