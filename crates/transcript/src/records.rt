@@ -45,20 +45,23 @@ fn put_cast_value(out: &mut Vec<u8>, value: &Option<Text>) -> Result<(), NoMemor
     }
 }
 
+/// A place of a group's list in a view.
+#[derive(Clone, Copy)]
+struct Place<'a> {
+    view: ViewId,
+    group: &'a Name,
+    place: u32,
+}
+
 /// The view, the group and the place, each with the space behind it.
 #[tactic(auto, unfolding(world_model::specs::Text::place_text))]
-fn put_place(
-    alloc: Global,
-    out: &mut Vec<u8>,
-    view: ViewId,
-    group: &[u8],
-    place: u32,
-) -> Result<(), NoMemory>
-    ensures { OnOk result (out.new.items ≡ out.old.items ++ place_text view group.now place) }
+fn put_place(alloc: Global, out: &mut Vec<u8>, at: &Place<'_>) -> Result<(), NoMemory>
+    ensures { OnOk result (out.new.items ≡ out.old.items
+        ++ place_text at.now.view at.now.group.now at.now.place) }
 {
-    put_view_word(alloc, out, view)?;
-    put_word(out, group)?;
-    put_number_word(alloc, out, place)
+    put_view_word(alloc, out, at.view)?;
+    put_word(out, at.group.bytes())?;
+    put_number_word(alloc, out, at.place)
 }
 
 /// The node and the client's name.
@@ -132,6 +135,14 @@ fn put_in_view(
     put_members(alloc, out, members.as_slice())
 }
 
+/// What a group begins with in a view: the old view and the length of the list that it comes from, and its state.
+#[derive(Clone, Copy)]
+struct Base<'a> {
+    old: ViewId,
+    len: u32,
+    state: &'a GroupState,
+}
+
 /// The state of a group, as the record of its base ends.
 #[tactic(auto, unfolding(node_state::specs::Wording::word))]
 fn put_base_state(alloc: Global, out: &mut Vec<u8>, state: &GroupState) -> Result<(), NoMemory>
@@ -152,19 +163,18 @@ fn put_base(
     node: u8,
     view: ViewId,
     group: &Name,
-    old: ViewId,
-    len: u32,
-    state: &GroupState,
+    base: &Base<'_>,
 ) -> Result<(), NoMemory>
     ensures { OnOk result (out.new.items ≡ out.old.items
-        ++ record_text (happened.Base node view group.now old len state.now)) }
+        ++ record_text (happened.Base node view group.now base.now.old base.now.len
+        base.now.state.now)) }
 {
     put_node(alloc, out, b"base ", node)?;
     put_view_word(alloc, out, view)?;
     put_word(out, group.bytes())?;
-    put_view_word(alloc, out, old)?;
-    put_number_word(alloc, out, len)?;
-    put_base_state(alloc, out, state)
+    put_view_word(alloc, out, base.old)?;
+    put_number_word(alloc, out, base.len)?;
+    put_base_state(alloc, out, base.state)
 }
 
 #[tactic(auto, unfolding(world_model::specs::Text::record_text))]
@@ -172,16 +182,14 @@ fn put_appended(
     alloc: Global,
     out: &mut Vec<u8>,
     node: u8,
-    view: ViewId,
-    group: &Name,
-    place: u32,
+    at: &Place<'_>,
     entry: &Entry,
 ) -> Result<(), NoMemory>
     ensures { OnOk result (out.new.items ≡ out.old.items
-        ++ record_text (happened.Put node view group.now place entry.now)) }
+        ++ record_text (happened.Put node at.now.view at.now.group.now at.now.place entry.now)) }
 {
     put_node(alloc, out, b"put ", node)?;
-    put_place(alloc, out, view, group.bytes(), place)?;
+    put_place(alloc, out, at)?;
     put_entry(alloc, out, entry)
 }
 
@@ -190,20 +198,18 @@ fn put_heard(
     alloc: Global,
     out: &mut Vec<u8>,
     provider: ProviderId,
-    view: ViewId,
-    group: &Name,
-    place: u32,
+    at: &Place<'_>,
     entry: &Entry,
     members: &Providers,
     value: &Text,
 ) -> Result<(), NoMemory>
     ensures { OnOk result (out.new.items ≡ out.old.items
-        ++ record_text (happened.Heard provider view group.now place entry.now members.now
-        value.now)) }
+        ++ record_text (happened.Heard provider at.now.view at.now.group.now at.now.place entry.now
+        members.now value.now)) }
 {
     put_text(out, b"heard ")?;
     put_provider_word(alloc, out, provider)?;
-    put_place(alloc, out, view, group.bytes(), place)?;
+    put_place(alloc, out, at)?;
     put_what_word(out, entry)?;
     put_state(alloc, out, members.as_slice(), value.bytes())
 }
@@ -310,14 +316,28 @@ fn put_record(alloc: Global, out: &mut Vec<u8>, happened: &Happened) -> Result<(
             old,
             len,
             state,
-        } => put_base(alloc, out, *node, *view, group, *old, *len, state),
+        } => {
+            let base = Base {
+                old: *old,
+                len: *len,
+                state,
+            };
+            put_base(alloc, out, *node, *view, group, &base)
+        }
         Happened::Put {
             node,
             view,
             group,
             place,
             entry,
-        } => put_appended(alloc, out, *node, *view, group, *place, entry),
+        } => {
+            let at = Place {
+                view: *view,
+                group,
+                place: *place,
+            };
+            put_appended(alloc, out, *node, &at, entry)
+        }
         Happened::Heard {
             p,
             view,
@@ -326,7 +346,14 @@ fn put_record(alloc: Global, out: &mut Vec<u8>, happened: &Happened) -> Result<(
             entry,
             members,
             value,
-        } => put_heard(alloc, out, *p, *view, group, *place, entry, members, value),
+        } => {
+            let at = Place {
+                view: *view,
+                group,
+                place: *place,
+            };
+            put_heard(alloc, out, *p, &at, entry, members, value)
+        }
         Happened::Cast {
             p,
             proto,
