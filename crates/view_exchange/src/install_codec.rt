@@ -1,6 +1,5 @@
 //! How installs are spelled.
 ghost use Rattle.std.specs.Prelude.{◌≡◌, ◌++◌, ◌&&◌, [], IfOk, IfSome, OnOk, OnErr, flat_map};
-ghost use Rattle.std.specs.List.{list_any, list_all};
 ghost use Rattle.std.specs.Option.{option_map};
 ghost use Rattle.rsct_packet.specs.Format.{IsBytes, EachFits};
 ghost use Rattle.proposal_core.specs.EntryCodec.{whole};

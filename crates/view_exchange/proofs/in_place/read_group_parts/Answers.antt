@@ -1,4 +1,4 @@
-use Rattle.std.proofs.Common.{arith, sym, ◌∙◌}
+use Rattle.std.proofs.Common.{arith}
 use Rattle.view_exchange.proofs.InOrder.{leads_more, leads_stop, leads_astray, leads_all, leads_some}
 use Rattle.view_exchange.proofs.in_place.read_group_parts.Goals as goal
 
