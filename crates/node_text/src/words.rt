@@ -3,6 +3,7 @@ ghost use Rattle.std.specs.Prelude.{◌≡◌, ◌++◌, ◌<◌, OnOk, codes, f
 ghost use Rattle.rsct_packet.specs.Mask.{nodes_of};
 ghost use Rattle.node_state.specs.Wording.{word, view_text, provider_text, ring_text, proto_text, member_text, joined, nodes_text, members_text, providers_text, hex_digit, byte_text, escaped, value_text, kind_text};
 
+use itoa::Buffer;
 use proposal_core::Proposal;
 use rsct_packet::{Mask, Member, NoMemory, ProtoId, ProviderId, RingId, ViewId};
 use std::alloc::Global;
@@ -15,11 +16,12 @@ pub fn put_text(out: &mut Vec<u8>, bytes: &[u8]) -> Result<(), NoMemory>
     Ok(())
 }
 
-pub fn put_number(alloc: Global, out: &mut Vec<u8>, number: u32) -> Result<(), NoMemory>
+/// The digits of a number, which are made on the stack: a line of many members has many numbers.
+pub fn put_number(_alloc: Global, out: &mut Vec<u8>, number: u32) -> Result<(), NoMemory>
     ensures { OnOk result (out.new.items ≡ out.old.items ++ decimal number) }
 {
-    let digits = number.to_string(alloc)?;
-    put_text(out, digits.as_bytes())
+    let mut digits = Buffer::new();
+    put_text(out, digits.format(number).as_bytes())
 }
 
 /// These bytes and a space.
@@ -41,11 +43,11 @@ pub fn put_number_word(alloc: Global, out: &mut Vec<u8>, number: u32) -> Result<
 
 /// A count and a space.
 #[tactic(auto, unfolding(node_state::specs::Wording::word))]
-pub fn put_count_word(alloc: Global, out: &mut Vec<u8>, count: usize) -> Result<(), NoMemory>
+pub fn put_count_word(_alloc: Global, out: &mut Vec<u8>, count: usize) -> Result<(), NoMemory>
     ensures { OnOk result (out.new.items ≡ out.old.items ++ word (decimal count)) }
 {
-    let digits = count.to_string(alloc)?;
-    put_word(out, digits.as_bytes())
+    let mut digits = Buffer::new();
+    put_word(out, digits.format(count).as_bytes())
 }
 
 /// A label, and bytes behind it.
