@@ -1,5 +1,6 @@
 //! A new entry of a group's list, as it is handed on.
 ghost use Rattle.std.specs.Prelude.{◌≡◌, [], Option};
+ghost use Rattle.proposal_core.specs.Fold;
 ghost use Rattle.session_state.specs.HandOn.{is_late, opens_phase, asks, running_phase, brought_by};
 
 use crate::state::OpenPhase;
