@@ -1,2 +1,5 @@
 pub mod Quiet
+pub mod Idle
+pub mod Ran
+pub mod Laws
 pub mod Invariants

@@ -32,7 +32,7 @@ use Rattle.row_laws.proofs.failed_rows.Between.{who_is}
 use Rattle.row_laws.proofs.failed_rows.Starting.{with_is}
 use Rattle.row_laws.proofs.failed_rows.Facts.{Unasked}
 use Rattle.row_laws.proofs.hearing.Incarnations.{incs_of}
-use Rattle.row_laws.proofs.hearing.Listening.{reverse_has}
+use Rattle.run_induction.proofs.Idle.{reverse_has}
 use Rattle.row_laws.proofs.failed_rows.Law.{reached, played_honest, asked_by_call, asked_here}
 
 -- each request in one group

@@ -37,7 +37,7 @@ use Rattle.step_refinement.proofs.Turns.{has_turned}
 use Rattle.row_laws.proofs.honest_votes.At.{found, leads_row}
 use Rattle.row_laws.proofs.honest_votes.Ending.{Every, NoGroup}
 use Rattle.row_laws.proofs.hearing.Incarnations.{incs_of}
-use Rattle.row_laws.proofs.hearing.Listening.{reverse_has}
+use Rattle.run_induction.proofs.Idle.{reverse_has}
 use Rattle.row_laws.specs.failed_rows.Failures.{GoneCause, SaidGoodbye}
 use Rattle.row_laws.specs.failed_rows.Scenes.{Names, Played, Nothing, AllStart, Starts, Stops, Steps, Notes, FailuresAreHonest}
 use Rattle.row_laws.proofs.failed_rows.Fitting.{noted_fit}

@@ -37,7 +37,7 @@ use Rattle.step_refinement.proofs.SessionLaws.{provider_same}
 use Rattle.step_refinement.specs.Rules.{over, start_with, stopped, with_records, starts_too}
 use Rattle.step_refinement.specs.Runs.{IsNote, noted}
 use Rattle.step_refinement.proofs.Changed.{each_set}
-use Rattle.row_laws.proofs.hearing.Listening.{reverse_has}
+use Rattle.run_induction.proofs.Idle.{reverse_has}
 use Rattle.row_laws.proofs.honest_votes.At.{found}
 use Rattle.row_laws.specs.failed_rows.Failures.{EachPut, FailuresHaveCauses}
 use Rattle.row_laws.proofs.failed_rows.Fitting.{empty_fits, asked_seen}
