@@ -97,7 +97,7 @@ module _ (P : List Happened → History → Happened → Type 0) (quiet : (r : H
 
 -- ---- what such records leave as it is of a node
 
-other_node : (n m : ℕ) → n ≢ m → (n == m) ≡ false
+pub other_node : (n m : ℕ) → n ≢ m → (n == m) ≡ false
 other_node n m ne = by (n == m) refl
   where
     by : (b : Bool) → (n == m) ≡ b → b ≡ false
@@ -145,7 +145,7 @@ module _ (c : Config) (n j : ℕ) where
   unfolding started with_sessions
   started_records = refl
 
-  started_turned : (xs : List Happened) → reverse (started c n j).records ++ xs ≡ entry ∷ reverse rings ++ happened.Up n j ∷ xs
+  pub started_turned : (xs : List Happened) → reverse (started c n j).records ++ xs ≡ entry ∷ reverse rings ++ happened.Up n j ∷ xs
   started_turned xs =
       ap (λ z. reverse z ++ xs) started_records ∙ ap (λ z. z ++ xs) (reverse-append (happened.Up n j ∷ []) (rings ++ entry ∷ []) ∙ ap (λ z. z ++ happened.Up n j ∷ []) (reverse-append rings (entry ∷ []))) ∙ ap (λ z. entry ∷ z) (append_assoc (reverse rings) (happened.Up n j ∷ []) xs)
 

@@ -84,7 +84,7 @@ module _ (Sent : OfPackets) (Node : OfNodes) (Line : OfRecords) (law : Invariant
         none = tt;
         sent_on = λ e h p k. law.sent_on (records_of h) (e.records ++ records_of h) (λ r i. append_has_right r e.records (records_of h) i) p k;
         stays = λ w e t o m s up all k. law.node_on w.sent w.sent (λ p i. i) (records_of w.before) (e.records ++ records_of w.before) (λ r i. append_has_right r e.records (records_of w.before) i) s k;
-        comes = λ w e t o m came. law.starts w.sent (e.records ++ records_of w.before) c m (w.incs m + 1);
+        comes = λ w e t o m came down. law.starts w.sent (e.records ++ records_of w.before) c m (w.incs m + 1);
         lines_on = λ w e t o k. (within_idle Line (λ r now h idle. law.quiet r now h (idle_puts_none r idle)) e.records w.before o.idle, k);
         steps = λ w n f s e v r next up arises told k a. over_done w n v (stepped f s e) (law.steps w n f s e v up (λ g. reached_rests c w (ran_reached anyhow c w r) g) (λ g. reached_rests c (ended w n v (stepped f s e)) (ran_reached anyhow c (ended w n v (stepped f s e)) next) g) arises k a) k;
       }

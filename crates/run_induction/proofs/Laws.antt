@@ -124,7 +124,7 @@ pub record UpLaw (k : Telling) (c : Config) (p : UpClaim) : Type 0 where
   pub none : p.lines []
   pub sent_on : (e : Happening) (h : History) (x : Packet) → p.sent h x → p.sent (e ∷ h) x
   pub stays : (w : Scene) (e : Happening) (t : Scene) → Outer k c w e t → (m : ℕ) (s : Core) → w.cores m ≡ Some s → AllElsewhere m e.records → p.node m (w.incs m) w.sent w.before s → p.node m (w.incs m) w.sent (e ∷ w.before) s
-  pub comes : (w : Scene) (e : Happening) (t : Scene) → Outer k c w e t → (m : ℕ) → Came c m (w.incs m + 1) e.records → p.node m (w.incs m + 1) w.sent (e ∷ w.before) (started c m (w.incs m + 1))
+  pub comes : (w : Scene) (e : Happening) (t : Scene) → Outer k c w e t → (m : ℕ) → Came c m (w.incs m + 1) e.records → w.cores m ≡ None → p.node m (w.incs m + 1) w.sent (e ∷ w.before) (started c m (w.incs m + 1))
   pub lines_on : (w : Scene) (e : Happening) (t : Scene) → Outer k c w e t → p.lines w.before → p.lines (e ∷ w.before)
   pub steps : (w : Scene) (n : ℕ) (f : Answering) (s : Core) (e : NodeEvent) (v : Event) → Ran k c w → Ran k c (ended w n v (stepped f s e)) → w.cores n ≡ Some s → Arises w e → k.steps n e v → Holds (if_up p) w → p.node n (w.incs n) w.sent w.before s → UpDone p w n v (stepped f s e)
 
@@ -136,7 +136,7 @@ module _ (k : Telling) (c : Config) (p : UpClaim) (law : UpLaw k c p) where
         none = law.none;
         sent_on = law.sent_on;
         stays = λ w e t o m all a. if_up_on (p.node m (w.incs m) w.sent w.before) (p.node m (w.incs m) w.sent (e ∷ w.before)) (w.cores m) (λ s up k. law.stays w e t o m s up all k) a;
-        comes = λ w e t o m came down a. law.comes w e t o m came;
+        comes = λ w e t o m came down a. law.comes w e t o m came down;
         goes = λ w e t o m s down up a. tt;
         lines_on = law.lines_on;
         steps = λ w n f s e v r next up arises told h. done w n v (stepped f s e) (law.steps w n f s e v r next up arises told h (subst (IfUp (p.node n (w.incs n) w.sent w.before)) up (h.nodes n)));
@@ -157,3 +157,30 @@ module _ (k : Telling) (c : Config) (p : UpClaim) (law : UpLaw k c p) where
   -- of a node that is up
   pub up_holds : (w : Scene) → Ran k c w → (n : ℕ) (s : Core) → w.cores n ≡ Some s → p.node n (w.incs n) w.sent w.before s
   up_holds w r n s up = subst (IfUp (p.node n (w.incs n) w.sent w.before)) up ((ups_hold w r).nodes n)
+
+-- ---- where something is said of the events that are over alone
+
+pub record PastLaw (k : Telling) (c : Config) (P : History → Type 0) : Type 0 where
+  pub none : P []
+  pub outer : (w : Scene) (e : Happening) (t : Scene) → Outer k c w e t → P w.before → P (e ∷ w.before)
+  pub steps : (w : Scene) (n : ℕ) (f : Answering) (s : Core) (e : NodeEvent) (v : Event) → Ran k c w → Ran k c (ended w n v (stepped f s e)) → w.cores n ≡ Some s → Arises w e → k.steps n e v → P w.before → P (over v (stepped f s e) ∷ w.before)
+
+module _ (k : Telling) (c : Config) (P : History → Type 0) (law : PastLaw k c P) where
+  abbrev past : Claim
+  past = record { sent = λ h x. Unit {0}; node = λ m i ps h o. Unit {0}; lines = P }
+
+  past_law : Law k c past
+  past_law =
+      record {
+        waits = λ m. tt;
+        none = law.none;
+        sent_on = λ e h x a. tt;
+        stays = λ w e t o m all a. tt;
+        comes = λ w e t o m came down a. tt;
+        goes = λ w e t o m s down up a. tt;
+        lines_on = law.outer;
+        steps = λ w n f s e v r next up arises told h. record { sends = λ x i. tt; node = tt; others = λ m ne a. tt; lines = law.steps w n f s e v r next up arises told h.lines };
+      }
+
+  pub past_holds : (w : Scene) → Ran k c w → P w.before
+  past_holds w r = (ran_holds k c past past_law w r).lines

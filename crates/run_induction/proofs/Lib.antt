@@ -1,5 +1,6 @@
 pub mod Quiet
 pub mod Idle
 pub mod Ran
+pub mod Renoted
 pub mod Laws
 pub mod Invariants
