@@ -53,6 +53,9 @@ recounted_ran c _ (Steps w n f s e v k up arises says is) =
     runs.Steps w n f s e v (recounted_ran c w k) up arises (says, is)
 recounted_ran c _ (Notes w e rs k notes down) = runs.Notes w e rs (recounted_ran c w k) notes down
 
+pub reached : (c : Config) (w : Scene) → Ran recounting c w → Reached c w
+reached c w r = ran_reached recounting c w r
+
 -- ---- what is said of a number
 
 abbrev Unused_at : ℕ → ℕ → Option Core → ProviderId → Type 0
@@ -162,6 +165,9 @@ clean c w r = clean_of w (ran_holds recounting c cleanly (leaving c) w r)
 pub who_is_let_go : WhoIsLetGoHearsNothing
 who_is_let_go c w k = (clean c w (recounted_ran c w k)).law
 
+pub stay_in : (c : Config) (w : Scene) → Ran recounting c w → (n : ℕ) (s : Core) → w.cores n ≡ Some s → (x : Provider) → Has x s.sessions.providers → was_let_go x.p w.before ≡ false
+stay_in c w r n s up x i =
+    let z : Kept w.before s = subst (KeptIf w.before) up ((clean c w r).nodes n) in z.unlet x i
+
 pub providers_stay : ProvidersWereNotLetGo
-providers_stay c w k n s up x i =
-    let z : Kept w.before s = subst (KeptIf w.before) up ((clean c w (recounted_ran c w k)).nodes n) in z.unlet x i
+providers_stay c w k = stay_in c w (recounted_ran c w k)

@@ -1,7 +1,6 @@
 -- In every scene: between events each node that is up and not frozen rests, so the event of a goodbye puts nothing.
 use Rattle.std.proofs.Common.{◌≡◌, ℕ, ◌+◌, List, [], ◌∷◌, ◌++◌, Option, Some, None, false, refl, sym, ap, ◌∙◌, subst}
 use Rattle.std.specs.Prelude.{fold, find, reverse}
-use Rattle.rsct_packet.specs.Mask.{nodes_of}
 use Rattle.rsct_packet.specs.Search.{Has}
 use Rattle.view_state.specs.Views.{is_frozen}
 use Rattle.node_state.specs.declared.call.CallLine.TheVariants.{Goodbye}
@@ -18,10 +17,8 @@ use Rattle.world_model.specs.declared.event.Event.{Event}
 use Rattle.world_model.specs.declared.event.Event.TheVariants as event
 use Rattle.run_safety.specs.Past.{History, EachEvent}
 use Rattle.step_refinement.specs.Tied.{Scene}
-use Rattle.step_refinement.specs.Rules.{over, nothing_yet, with_records, starts_too, all_started}
+use Rattle.step_refinement.specs.Rules.{over}
 use Rattle.step_refinement.specs.Runs.{Reached}
-use Rattle.step_refinement.specs.Runs as runs
-use Rattle.step_refinement.proofs.Changed.{each_set}
 use Rattle.run_induction.proofs.Idle.{Idle, reverse_has}
 use Rattle.run_induction.proofs.Ran.{anyhow, ran_reached, reached_ran}
 use Rattle.run_induction.proofs.Laws.{UpClaim, UpLaw, up_holds, PastLaw, past_holds}
@@ -42,10 +39,6 @@ use Rattle.provider_laws.proofs.resting.Ending.{ended_rests, ended_frozen, ended
 pub record Resting (s : Core) : Type 0 where
   pub orderly : Orderly s
   pub rests : frozen s ≡ false → AllRest s
-
-abbrev pub RestingIf : Option Core → Type 0
-RestingIf None = Unit {0}
-RestingIf (Some s) = Resting s
 
 -- a state of the same groups, view and config
 resting_same : (s t : Core) → t.groups ≡ s.groups → t.views ≡ s.views → t.config ≡ s.config → Resting s → Resting t

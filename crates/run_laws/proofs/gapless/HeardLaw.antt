@@ -18,7 +18,7 @@ use Rattle.run_safety.specs.Stays.{stays, part, takes_part, was_let_go}
 use Rattle.step_refinement.specs.Tied.{Scene}
 use Rattle.step_refinement.specs.Rules.{over, nothing_yet, Arises}
 use Rattle.step_refinement.specs.Runs.{Reached}
-use Rattle.row_laws.proofs.hearing.Listening.{reverse_has}
+use Rattle.run_induction.proofs.Idle.{reverse_has}
 use Rattle.row_laws.specs.failed_rows.Scenes.{Names}
 use Rattle.row_laws.proofs.failed_rows.Origin.{root_of}
 use Rattle.provider_laws.specs.leaving.Scenes.{IsCall, Nothing, AllStart, Starts, Stops, Steps, Notes}

@@ -23,9 +23,10 @@ use Rattle.run_safety.proofs.Tests.{any_has}
 use Rattle.step_refinement.specs.Tied.{Scene}
 use Rattle.step_refinement.specs.Rules.{over, nothing_yet, Arises}
 use Rattle.step_refinement.specs.Runs.{Reached}
-use Rattle.row_laws.proofs.hearing.Listening.{reverse_has, reached_attends}
+use Rattle.run_induction.proofs.Idle.{reverse_has}
+use Rattle.row_laws.proofs.hearing.Listening.{reached_attends}
 use Rattle.row_laws.proofs.hearing.Listening as listening
-use Rattle.provider_laws.proofs.attending.OrderLaw.{Placed, reached_orderly}
+use Rattle.provider_laws.proofs.attending.OrderLaw.{Placed, node_placed}
 use Rattle.provider_laws.specs.leaving.Scenes.{Recounted, Nothing, AllStart, Starts, Stops, Steps, Notes}
 use Rattle.provider_laws.proofs.leaving.Law.{reached}
 use Rattle.run_laws.specs.gapless.Takers.{Taker, Stood}
@@ -89,7 +90,7 @@ stands_first c w k n s up p node lives final =
     here = (reached_attends c w r).up n s up
 
     placed : Placed (records_of w.before) n s
-    placed = ((reached_orderly c w r).up n s up).0
+    placed = (node_placed c w r n s up).0
 
     known : Known p w.before s
     known = subst (KnownIf p w.before) (ap w.cores node ∙ up) (rest.known p lives)

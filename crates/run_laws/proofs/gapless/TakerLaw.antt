@@ -28,7 +28,8 @@ use Rattle.step_refinement.specs.Runs as runs
 use Rattle.step_refinement.proofs.Changed.{each_set, set_here}
 use Rattle.step_refinement.proofs.RunLaw.{reached_rests}
 use Rattle.step_refinement.proofs.SessionLaws.{provider_self, provider_same}
-use Rattle.row_laws.proofs.hearing.Listening.{start_each, reverse_has}
+use Rattle.run_induction.proofs.Idle.{reverse_has}
+use Rattle.row_laws.proofs.hearing.Listening.{start_each}
 use Rattle.row_laws.proofs.hearing.Incarnations.{incs_of}
 use Rattle.provider_laws.proofs.attending.Staying.{InStay}
 use Rattle.provider_laws.proofs.attending.OrderLaw.{inner_all, others_stay, note_inner, reached_orderly}

@@ -34,33 +34,12 @@ use Rattle.run_laws.proofs.ring_runs.Ticking.{played_rings}
 use Rattle.run_laws.proofs.ring_runs.Starting.{Stands, Plays, start_plays}
 use Rattle.step_walk.proofs.Walking.{GivenBy, on_called, on_stepped}
 
-reverse_has : {A : Type 0} (x : A) (xs : List A) → Has x (reverse xs) → Has x xs
-reverse_has x [] h = h
-reverse_has x (y ∷ ys) h = ⊎_elim (λ (a : Has x (reverse ys)). inr (reverse_has x ys a)) (λ (a : Has x (y ∷ [])). last a) (has_append x (reverse ys) (y ∷ []) (subst (Has x) (reverse-append (y ∷ []) ys) h))
-  where
-    last : Has x (y ∷ []) → Has x (y ∷ ys)
-    last (inl e) = inl e
-    last (inr z) = absurd z
-
 -- what stands for a scene
 abbrev PlaysIn : ℕ → Scene → Type 0
 PlaysIn net w = Plays net w.config w.cores w.incs w.sent (records_of w.before)
 
 config_is : (c : Config) (w : Scene) → Reached c w → w.config ≡ c
-config_is c _ Nothing = refl
-config_is c _ (AllStart fixed) = all (nodes_of c.nodes) (record (nothing_yet c) { before = record { event = None; records = [] } ∷ [] }) refl
-  where
-    one : (w : Scene) (n : ℕ) (o : Option Core) → w.config ≡ c → (starts_too w n o).config ≡ c
-    one w n (Some s) e = e
-    one w n None e = e
-
-    all : (ns : List ℕ) (w : Scene) → w.config ≡ c → (fold (λ (w : Scene) n. starts_too w n (w.cores n)) w ns).config ≡ c
-    all [] w e = e
-    all (n ∷ ns) w e = all ns (starts_too w n (w.cores n)) (one w n (w.cores n) e)
-config_is c _ (Starts w n e k free real down) = config_is c w k
-config_is c _ (Stops w n e s k up) = config_is c w k
-config_is c _ (Steps w n f s e v k up arises) = config_is c w k
-config_is c _ (Notes w e rs k notes) = config_is c w k
+config_is c w k = config_of anyhow c w (reached_ran c w k)
 
 -- a node that starts sends nothing
 no_sends : (c : Config) (n j : ℕ) → (started c n j).sends ≡ []

@@ -31,7 +31,8 @@ use Rattle.step_refinement.specs.Rules.{at_node, over, ended, starts_too, with_r
 use Rattle.step_refinement.specs.Runs.{IsNote, Reached, Nothing, AllStart, Starts, Stops, Steps, Notes}
 use Rattle.step_refinement.proofs.Changed.{set_here, set_there, each_set}
 use Rattle.step_refinement.proofs.RunLaw.{reached_rests}
-use Rattle.row_laws.proofs.hearing.Listening.{reverse_has, steps_change}
+use Rattle.run_induction.proofs.Idle.{reverse_has}
+use Rattle.row_laws.proofs.hearing.Listening.{steps_change}
 use Rattle.run_laws.proofs.seen_runs.LineRules.{bare, Entered, last_in, LinesSeen}
 use Rattle.run_laws.proofs.seen_runs.LineLaws.{lines_seen}
 use Rattle.run_laws.proofs.seen_runs.LastViews.{entered_by, at_last}

@@ -17,7 +17,7 @@ use Rattle.node_state.specs.State.{with_sessions}
 use Rattle.node_state.specs.Step.{started, ring_record, own_rings, first_view, first_members}
 use Rattle.run_safety.specs.Past.{History, records_of, Within, view_now, inc_now}
 use Rattle.run_safety.specs.SafeLists.{is_later}
-use Rattle.row_laws.proofs.hearing.Listening.{reverse_has}
+use Rattle.run_induction.proofs.Idle.{reverse_has}
 use Rattle.run_laws.proofs.seen_runs.Nodes.{NodeShown}
 
 abbrev pub ShownIn : History → List Happened → Happened → Type 0
