@@ -116,8 +116,5 @@ left_law c =
       steps = λ w n f s e v r next up arises told k. (step_told c w n f s e v r up arises, k);
     }
 
-pub told_were_left : (c : Config) (w : Scene) → Ran recounting c w → EachEvent ToldWereLeft w.before
-told_were_left c w r = past_holds recounting c (EachEvent ToldWereLeft) (left_law c) w r
-
-pub the_told_were_left : TheToldWereLeftBehind
-the_told_were_left c w k = told_were_left c w (recounted_ran c w k)
+pub told_were_left : TheToldWereLeftBehind
+told_were_left c w k = past_holds recounting c (EachEvent ToldWereLeft) (left_law c) w (recounted_ran c w k)

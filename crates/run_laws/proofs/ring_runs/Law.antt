@@ -27,6 +27,8 @@ use Rattle.step_refinement.specs.Tied.{Scene}
 use Rattle.step_refinement.specs.Rules.{at_node, ended, stopped, nothing_yet, with_records, starts_too, Arises}
 use Rattle.step_refinement.specs.Runs.{IsNote, Reached, Nothing, AllStart, Starts, Stops, Steps, Notes}
 use Rattle.step_refinement.proofs.Changed.{each_set}
+use Rattle.run_induction.proofs.Idle.{reverse_has}
+use Rattle.run_induction.proofs.Ran.{anyhow, reached_ran, config_of}
 use Rattle.run_laws.specs.ring_runs.Rings.{ring_settings, told_on, rings_told, RingsAgreeInRuns}
 use Rattle.run_laws.proofs.ring_runs.Finding.{gone_here, gone_there}
 use Rattle.run_laws.proofs.ring_runs.Playing.{ring_on, Own, Tells, comes_on, At, Played, played_rules, played_views, played_calls}
