@@ -17,6 +17,7 @@ use Rattle.node_state.specs.declared.happened.Happened.TheVariants as happened
 use Rattle.node_state.specs.State.{with_sessions}
 use Rattle.node_state.specs.Step.{started, first_view, first_members, own_rings, ring_record}
 use Rattle.run_safety.specs.Past.{History, Within, inc_after, inc_now}
+use Rattle.run_safety.specs.SafeHeard.{enters}
 use Rattle.run_safety.specs.Stays.{Stay, with_base, with_entry, stays_after, stays}
 use Rattle.step_refinement.specs.Runs.{IsNote}
 
@@ -108,16 +109,20 @@ inc_one : (m : ℕ) (r : Happened) (old : ℕ) → Elsewhere m r → inc_after m
 inc_one m (happened.Up n j) old ne = ap (λ b. if b then j else old) (other_node n m ne)
 inc_one m _ old ne = refl
 
-stay_one : (m : ℕ) (g : List ℕ) (r : Happened) (old : List Stay) → Elsewhere m r → stays_after m g r old ≡ old
-stay_one m g (happened.Up n j) old ne = ap (λ b. if b then [] else old) (other_node n m ne)
-stay_one m g (happened.Down n) old ne = ap (λ b. if b then [] else old) (other_node n m ne)
-stay_one m g (happened.In n v ms) old ne =
+pub stay_elsewhere : (m : ℕ) (g : List ℕ) (r : Happened) (old : List Stay) → Elsewhere m r → stays_after m g r old ≡ old
+stay_elsewhere m g (happened.Up n j) old ne = ap (λ b. if b then [] else old) (other_node n m ne)
+stay_elsewhere m g (happened.Down n) old ne = ap (λ b. if b then [] else old) (other_node n m ne)
+stay_elsewhere m g (happened.In n v ms) old ne =
     ap (λ b. if b then record { view = v; base = empty_state; entries = [] } ∷ old else old) (other_node n m ne)
-stay_one m g (happened.Base n v h u len s) old ne =
+stay_elsewhere m g (happened.Base n v h u len s) old ne =
     ap (λ b. if b && bytes_eq h g then with_base s old else old) (other_node n m ne)
-stay_one m g (happened.Put n v h i e) old ne =
+stay_elsewhere m g (happened.Put n v h i e) old ne =
     ap (λ b. if b && bytes_eq h g then with_entry e old else old) (other_node n m ne)
-stay_one m g _ old ne = refl
+stay_elsewhere m g _ old ne = refl
+
+pub enters_elsewhere : (m : ℕ) (r : Happened) → Elsewhere m r → enters m r ≡ false
+enters_elsewhere m (happened.In n v ms) ne = other_node n m ne
+enters_elsewhere m _ ne = refl
 
 pub inc_elsewhere : (m : ℕ) (rs xs : List Happened) → AllElsewhere m rs → inc_now m (rs ++ xs) ≡ inc_now m xs
 inc_elsewhere m [] xs all = refl
@@ -127,7 +132,7 @@ inc_elsewhere m (r ∷ rs) xs all =
 pub stays_elsewhere : (m : ℕ) (g : List ℕ) (rs xs : List Happened) → AllElsewhere m rs → stays m g (rs ++ xs) ≡ stays m g xs
 stays_elsewhere m g [] xs all = refl
 stays_elsewhere m g (r ∷ rs) xs all =
-    stay_one m g r (stays m g (rs ++ xs)) (all r (inl refl)) ∙ stays_elsewhere m g rs xs (λ q i. all q (inr i))
+    stay_elsewhere m g r (stays m g (rs ++ xs)) (all r (inl refl)) ∙ stays_elsewhere m g rs xs (λ q i. all q (inr i))
 
 -- ---- a node that has started
 

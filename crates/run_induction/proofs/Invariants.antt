@@ -7,7 +7,6 @@ use Rattle.rsct_packet.specs.Search.{Has}
 use Rattle.rsct_packet.proofs.HasLaws.{append_has_right}
 use Rattle.node_state.specs.declared.config.Config.{Config}
 use Rattle.node_state.specs.declared.happened.Happened.{Happened}
-use Rattle.node_state.specs.declared.happened.Happened.TheVariants as happened
 use Rattle.node_state.specs.declared.packet.Packet.{Packet}
 use Rattle.node_state.specs.declared.state.Core.{Core}
 use Rattle.node_state.specs.HandOn.{Answering}
@@ -19,8 +18,8 @@ use Rattle.step_refinement.specs.Rules.{over, ended, Arises}
 use Rattle.step_refinement.specs.Runs.{Reached}
 use Rattle.step_refinement.proofs.RunLaw.{reached_rests}
 use Rattle.step_refinement.proofs.Turns.{has_turned}
-use Rattle.run_induction.proofs.Quiet.{PutsNone}
-use Rattle.run_induction.proofs.Idle.{Idle, within_idle}
+use Rattle.run_induction.proofs.Quiet.{PutsNone, idle_puts_none}
+use Rattle.run_induction.proofs.Idle.{within_idle}
 use Rattle.run_induction.proofs.Ran.{anyhow, reached_ran, ran_reached}
 use Rattle.run_induction.proofs.Laws as laws
 use Rattle.run_induction.proofs.Laws.{UpClaim, UpLaw, UpDone, if_up, ups_hold, up_holds}
@@ -59,10 +58,6 @@ pub record Invariant (Sent : OfPackets) (Node : OfNodes) (Line : OfRecords) : Ty
   pub starts : (ps : List Packet) (rs : List Happened) (c : Config) (n j : ℕ) → Node ps rs (started c n j)
   pub quiet : (r : Happened) (now : List Happened) (before : History) → PutsNone r → Line now before r
   pub steps : (w : Scene) (n : ℕ) (f : Answering) (s : Core) (e : NodeEvent) (v : Event) → w.cores n ≡ Some s → ((g : List ℕ) → Rests g w) → ((g : List ℕ) → Rests g (ended w n v (stepped f s e))) → Arises w e → Holds Sent Node Line w → Node w.sent (records_of w.before) s → Done Sent Node Line w (stepped f s e)
-
-idle_puts_none : (r : Happened) → Idle r → PutsNone r
-idle_puts_none (happened.Put n v g i e) a = absurd a
-idle_puts_none _ a = tt
 
 module _ (Sent : OfPackets) (Node : OfNodes) (Line : OfRecords) (law : Invariant Sent Node Line) (c : Config) where
   -- the event is over

@@ -1,5 +1,5 @@
-pub mod Quiet
 pub mod Idle
+pub mod Quiet
 pub mod Ran
 pub mod Renoted
 pub mod Laws

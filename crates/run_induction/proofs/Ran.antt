@@ -1,6 +1,6 @@
 -- Runs, by how their events are noted; and the events in which no node takes a step: nodes start, one stops, or no node changes. Of
 -- each number one of three things is true of such an event: its node stays as it is, comes or goes.
-use Rattle.std.proofs.Common.{◌≡◌, ◌≢◌, ◌⊎◌, ℕ, ◌+◌, List, [], ◌∷◌, ◌++◌, Option, Some, None, true, false, refl, sym, ap, ◌∙◌, subst, inl, inr, ⊎_elim, append_assoc, append-nil}
+use Rattle.std.proofs.Common.{◌≡◌, ◌≢◌, ℕ, ◌+◌, List, [], ◌∷◌, ◌++◌, Option, Some, None, true, false, refl, sym, ap, subst, inl, inr, ⊎_elim, append-nil}
 use Rattle.std.specs.Prelude.{fold, reverse}
 use Rattle.std.proofs.lemmas.Bool.{cases_eq}
 use Rattle.rsct_packet.specs.Search.{Has}
@@ -125,13 +125,27 @@ too_opened c w n None down k =
     here =
         subst (λ (z : Config × ℕ). Opens c n (reverse (started z.0 n (z.1 + 1)).records ++ k.records) (z.1 + 1) (Some (started z.0 n (z.1 + 1)))) (λ i. (sym k.config i, sym waits.0 i)) (Stands (record { later = []; first = k.records; is = refl; after = λ r i. absurd i; before = waits.1 }))
 
-fold_opened : (c : Config) (ns : List ℕ) (w : Scene) → Opened c w → Opened c (fold (λ (w : Scene) n. starts_too w n (w.cores n)) w ns)
-fold_opened c [] w k = k
-fold_opened c (n ∷ ns) w k = fold_opened c ns (starts_too w n (w.cores n)) (too_opened c w n (w.cores n) refl k)
+-- what holds before any has started, and goes on as one more starts in that event, holds as all have
+module _ (c : Config) (P : Scene → Type 0) (next : (w : Scene) (n : ℕ) → Opened c w → Has n (nodes_of c.nodes) → w.cores n ≡ None → P w → P (starts_too w n None)) where
+  too_holds : (w : Scene) (n : ℕ) (o : Option Core) → w.cores n ≡ o → Opened c w → Has n (nodes_of c.nodes) → P w → P (starts_too w n o)
+  too_holds w n (Some s) up k there p = p
+  too_holds w n None down k there p = next w n k there down p
+
+  fold_holds : (ns : List ℕ) (w : Scene) → ((n : ℕ) → Has n ns → Has n (nodes_of c.nodes)) → Opened c w → P w → let t : Scene = fold (λ (w : Scene) n. starts_too w n (w.cores n)) w ns in Opened c t × P t
+  fold_holds [] w there k p = (k, p)
+  fold_holds (n ∷ ns) w there k p =
+      fold_holds ns (starts_too w n (w.cores n)) (λ m h. there m (inr h)) (too_opened c w n (w.cores n) refl k) (too_holds w n (w.cores n) refl k (there n (inl refl)) p)
+
+  pub all_start_holds : P (record (nothing_yet c) { before = record { event = None; records = [] } ∷ [] }) → Opened c (all_started c) × P (all_started c)
+  all_start_holds p =
+      fold_holds (nodes_of c.nodes) (record (nothing_yet c) { before = record { event = None; records = [] } ∷ [] }) (λ n h. h) (record { records = []; before = refl; config = refl; sent = refl; idle = λ r i. absurd i; nodes = λ m. Waits (λ r i. absurd i) }) p
 
 pub all_opened : (c : Config) → Opened c (all_started c)
-all_opened c =
-    fold_opened c (nodes_of c.nodes) (record (nothing_yet c) { before = record { event = None; records = [] } ∷ [] }) (record { records = []; before = refl; config = refl; sent = refl; idle = λ r i. absurd i; nodes = λ m. Waits (λ r i. absurd i) })
+all_opened c = (all_start_holds c (λ w. Unit {0}) (λ w n k there down p. tt) tt).0
+
+-- where none is up, none was
+pub opened_inc : (c : Config) (w : Scene) (n : ℕ) → Opened c w → w.cores n ≡ None → w.incs n ≡ 0
+opened_inc c w n k down = (waits_in c n k.records (w.incs n) (w.cores n) (k.nodes n) down).0
 
 -- a run's settings stay
 pub config_of : (k : Telling) (c : Config) (w : Scene) → Ran k c w → w.config ≡ c
@@ -159,7 +173,7 @@ starts_silent : (c : Config) (n j : ℕ) → (started c n j).sends ≡ []
 unfolding started with_sessions
 starts_silent c n j = refl
 
--- of an event by which one that is up, or comes up, or none is set
+-- what is asked of this event is asked of what is noted
 told_of : (k : Telling) (w : Scene) (e : Event) → k.others w e → (v : Event) → Some e ≡ Some v → k.others w v
 told_of k w e told v q = let z : e ≡ v = cc in subst (k.others w) z told
 

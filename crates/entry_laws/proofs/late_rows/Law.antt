@@ -34,7 +34,7 @@ use Rattle.step_refinement.specs.Runs.{Reached, Nothing, AllStart, Starts, Stops
 use Rattle.step_refinement.proofs.Begins.{begin_tied}
 use Rattle.step_refinement.proofs.Turns.{has_turned}
 use Rattle.step_refinement.proofs.RunLaw.{reached_rests}
-use Rattle.run_induction.proofs.Idle.{Idle, Elsewhere, other_node, reverse_has, within_idle, Came, started_turned, first_stay, came_is, came_stays}
+use Rattle.run_induction.proofs.Idle.{Idle, Elsewhere, other_node, stay_elsewhere, enters_elsewhere, reverse_has, within_idle, Came, started_turned, first_stay, came_is, came_stays}
 use Rattle.run_induction.proofs.Ran as runs
 use Rattle.run_induction.proofs.Ran.{Telling, Ran, ran_reached, config_of}
 use Rattle.run_induction.proofs.Laws.{UpClaim, UpDone, UpLaw, ups_hold}
@@ -53,23 +53,17 @@ record Aside (m : ℕ) (r : Happened) : Type 0 where
   opens_not : (g : List ℕ) → opens m g r ≡ false
   members : (old : List Member) → members_after m r old ≡ old
 
+elsewhere_opens : (m : ℕ) (g : List ℕ) (r : Happened) → Elsewhere m r → opens m g r ≡ false
+elsewhere_opens m g (happened.Put k v h i e) ne = ap (λ b. b && (bytes_eq h g && opens_phase e)) (other_node k m ne)
+elsewhere_opens m g _ ne = refl
+
+elsewhere_members : (m : ℕ) (r : Happened) (old : List Member) → Elsewhere m r → members_after m r old ≡ old
+elsewhere_members m (happened.In k v ms) old ne = ap (λ b. if b then ms else old) (other_node k m ne)
+elsewhere_members m _ old ne = refl
+
 elsewhere_aside : (m : ℕ) (r : Happened) → Elsewhere m r → Aside m r
-elsewhere_aside m (happened.Up k j) ne =
-    let o : (k == m) ≡ false = other_node k m ne in
-    record { stays = λ g old. ap (λ b. if b then [] else old) o; enters_not = refl; opens_not = λ g. refl; members = λ old. refl }
-elsewhere_aside m (happened.Down k) ne =
-    let o : (k == m) ≡ false = other_node k m ne in
-    record { stays = λ g old. ap (λ b. if b then [] else old) o; enters_not = refl; opens_not = λ g. refl; members = λ old. refl }
-elsewhere_aside m (happened.In k v ms) ne =
-    let o : (k == m) ≡ false = other_node k m ne in
-    record { stays = λ g old. ap (λ b. if b then record { view = v; base = empty_state; entries = [] } ∷ old else old) o; enters_not = o; opens_not = λ g. refl; members = λ old. ap (λ b. if b then ms else old) o }
-elsewhere_aside m (happened.Base k v h u len s) ne =
-    let o : (k == m) ≡ false = other_node k m ne in
-    record { stays = λ g old. ap (λ b. if b && bytes_eq h g then stay.with_base s old else old) o; enters_not = refl; opens_not = λ g. refl; members = λ old. refl }
-elsewhere_aside m (happened.Put k v h i e) ne =
-    let o : (k == m) ≡ false = other_node k m ne in
-    record { stays = λ g old. ap (λ b. if b && bytes_eq h g then stay.with_entry e old else old) o; enters_not = refl; opens_not = λ g. ap (λ b. b && (bytes_eq h g && opens_phase e)) o; members = λ old. refl }
-elsewhere_aside m _ ne = record { stays = λ g old. refl; enters_not = refl; opens_not = λ g. refl; members = λ old. refl }
+elsewhere_aside m r ne =
+    record { stays = λ g old. stay_elsewhere m g r old ne; enters_not = enters_elsewhere m r ne; opens_not = λ g. elsewhere_opens m g r ne; members = λ old. elsewhere_members m r old ne }
 
 -- a record of another node
 mine_aside : (n m : ℕ) → n ≢ m → (r : Happened) → Mine n r → Aside m r

@@ -19,7 +19,7 @@ use Rattle.run_safety.proofs.Tests.{any_has}
 use Rattle.step_refinement.specs.Tied.{Scene}
 use Rattle.step_refinement.specs.Rules.{over, Arises}
 use Rattle.step_refinement.specs.Runs.{Reached}
-use Rattle.run_induction.proofs.Idle.{Elsewhere, other_node, came_stays}
+use Rattle.run_induction.proofs.Idle.{enters_elsewhere, came_stays}
 use Rattle.run_induction.proofs.Ran.{Ran, Moves, Stays, Comes, Goes, Outer}
 use Rattle.run_induction.proofs.Laws.{PastLaw, past_holds}
 use Rattle.row_laws.proofs.hearing.Listening.{reached_attends}
@@ -38,10 +38,6 @@ use Rattle.run_laws.proofs.gapless.LeftLaw.{told_were_left}
 
 -- ---- an event in which no node takes a step
 
-elsewhere_enters : (m : ℕ) (r : Happened) → Elsewhere m r → enters m r ≡ false
-elsewhere_enters m (happened.In n v ms) ne = other_node n m ne
-elsewhere_enters m _ ne = refl
-
 -- whose node enters a view in it has just come up
 outer_left : (c : Config) (w : Scene) (e : Happening) (t : Scene) → Outer recounting c w e t → LeftAreTold e w.before
 outer_left c w e t o p l =
@@ -50,7 +46,7 @@ outer_left c w e t o p l =
     by : (i : ℕ) (q : Option Core) (j : ℕ) (r : Option Core) → Moves c p.node e.records i q j r → ⊥
     by _ _ _ _ (Stays i q all) =
         let z = any_has (enters p.node) e.records l.entered in
-        let y : false ≡ true = sym (elsewhere_enters p.node z.0 (all z.0 z.1)) ∙ z.2 in cc
+        let y : false ≡ true = sym (enters_elsewhere p.node z.0 (all z.0 z.1)) ∙ z.2 in cc
     by _ _ _ _ (Comes i came) =
         let y : true ≡ false = sym l.left ∙ ap (is_left_behind p) (came_stays c p.node (i + 1) e.records came l.group (records_of w.before)) in
         cc
