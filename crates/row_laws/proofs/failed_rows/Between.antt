@@ -1,9 +1,7 @@
 -- Between events: what each node has of who failed, and that it goes on.
-use Rattle.std.proofs.Common.{◌≡◌, ◌≢◌, ℕ, List, [], ◌∷◌, ◌++◌, Option, Some, None, Bool, true, false, refl, sym, ap, ◌∙◌, subst, inl, inr, ⊎_elim}
+use Rattle.std.proofs.Common.{◌≡◌, ℕ, List, [], ◌∷◌, ◌++◌, Option, Some, None, Bool, true, false, refl, sym, ap, ◌∙◌, subst, inl, inr, ⊎_elim}
 use Rattle.std.specs.Prelude.{◌==◌, ◌&&◌, ◌||◌, if◌then◌else◌}
 use Rattle.std.specs.List.{list_any}
-use Rattle.std.specs.Str.{bytes_eq}
-use Rattle.std.proofs.lemmas.Bool.{eqb-true}
 use Rattle.rsct_packet.specs.declared.ids.ViewId.{ViewId}
 use Rattle.rsct_packet.specs.declared.ids.ProviderId.{ProviderId}
 use Rattle.rsct_packet.specs.Providers.{among, same_provider}
@@ -15,7 +13,7 @@ use Rattle.proposal_core.specs.declared.entry.RowVote.{RowVote}
 use Rattle.proposal_core.specs.declared.entry.RowVote.TheVariants as row_vote
 use Rattle.proposal_core.specs.declared.group_state.GroupState.{GroupState}
 use Rattle.proposal_core.specs.declared.group_state.Running.{Running}
-use Rattle.proposal_core.specs.Fold.{empty_state, joiners_fit}
+use Rattle.proposal_core.specs.Fold.{joiners_fit}
 use Rattle.proposal_core.specs.Lists.{len_in, state_in}
 use Rattle.vote_phases.specs.Tally.{TallyView}
 use Rattle.session_state.specs.declared.state.Provider.{Provider}
@@ -24,11 +22,10 @@ use Rattle.node_state.specs.declared.happened.Happened.{Happened}
 use Rattle.node_state.specs.declared.happened.Happened.TheVariants as happened
 use Rattle.node_state.specs.declared.packet.Body.{Body}
 use Rattle.node_state.specs.declared.packet.Body.TheVariants as body
-use Rattle.node_state.specs.declared.packet.Packet.{Packet}
 use Rattle.node_state.specs.declared.state.Core.{Core}
 use Rattle.world_model.specs.Run.{Happening}
 use Rattle.run_safety.specs.Past.{History, records_of}
-use Rattle.run_safety.specs.Stays.{Stay, stays, stays_after, with_base, with_entry, asks_join, client_of, joining_client}
+use Rattle.run_safety.specs.Stays.{stays, asks_join, client_of, joining_client}
 use Rattle.node_state.specs.State.{InNameOrder}
 use Rattle.step_refinement.specs.Tied.{Scene, NodeIsIf, Rests}
 use Rattle.step_refinement.proofs.SessionLaws.{provider_same}

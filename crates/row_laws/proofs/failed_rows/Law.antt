@@ -1,12 +1,11 @@
 -- Each scene that events lead to.
 use Rattle.std.proofs.Common.{◌≡◌, ◌⊎◌, ℕ, ◌+◌, List, [], ◌∷◌, ◌++◌, Some, None, true, false, refl, sym, ap, ◌∙◌, subst, inl, inr}
-use Rattle.std.specs.Prelude.{◌&&◌, ◌||◌, fold, reverse, if◌then◌else◌}
+use Rattle.std.specs.Prelude.{◌&&◌, ◌||◌, reverse, if◌then◌else◌}
 use Rattle.std.specs.List.{list_any}
 use Rattle.std.proofs.lemmas.Bool.{eq-eqb}
 use Rattle.rsct_packet.specs.declared.ids.ProviderId.{ProviderId}
-use Rattle.rsct_packet.specs.Mask.{nodes_of}
 use Rattle.rsct_packet.specs.Search.{Has}
-use Rattle.rsct_packet.proofs.HasLaws.{has_append, append_has_left, has_filter}
+use Rattle.rsct_packet.proofs.HasLaws.{append_has_left, has_filter}
 use Rattle.proposal_core.specs.Lists.{state_in}
 use Rattle.session_state.specs.declared.state.Provider.{Provider}
 use Rattle.session_state.specs.State.{is_client_of, client_token}
@@ -18,7 +17,6 @@ use Rattle.node_state.specs.declared.happened.Happened.TheVariants as happened
 use Rattle.proposal_core.specs.declared.proposal.Proposal.{Proposal}
 use Rattle.node_state.specs.declared.packet.Body.{Body}
 use Rattle.node_state.specs.declared.packet.Body.TheVariants as body
-use Rattle.node_state.specs.declared.packet.Packet.{Packet}
 use Rattle.node_state.specs.declared.state.Core.{Core}
 use Rattle.node_state.specs.HandOn.{Answering}
 use Rattle.node_state.specs.Calls.{take_call}
@@ -27,7 +25,7 @@ use Rattle.world_model.specs.declared.event.Event.{Event}
 use Rattle.run_safety.specs.Past.{records_of, inc_now}
 use Rattle.run_safety.specs.Stays.{is_refused, asks_join, client_of, joining_client, goodbye_of, is_named}
 use Rattle.step_refinement.specs.Tied.{Scene, NodeIs, NodeIsIf, Rests}
-use Rattle.step_refinement.specs.Rules.{over, ended, nothing_yet, starts_too, Arises}
+use Rattle.step_refinement.specs.Rules.{over, ended, Arises}
 use Rattle.step_refinement.specs.Runs.{Reached}
 use Rattle.step_refinement.proofs.Changed.{set_here}
 use Rattle.step_refinement.proofs.Begins.{begin_tied}

@@ -1,49 +1,33 @@
 -- Nodes start and stop, and no node takes a step.
-use Rattle.std.proofs.Common.{◌≤◌, ◌≡◌, ◌≢◌, ◌⊎◌, ℕ, suc, ◌+◌, List, [], ◌∷◌, ◌++◌, Option, Some, None, Bool, true, false, refl, sym, ap, ◌∙◌, subst, inl, inr, ⊎_elim, append_assoc, append-nil, arith}
-use Rattle.std.specs.Prelude.{◌==◌, ◌&&◌, fold, map, reverse, if◌then◌else◌, find}
+use Rattle.std.proofs.Common.{◌≤◌, ◌≡◌, ℕ, ◌+◌, List, [], ◌∷◌, ◌++◌, None, Bool, true, false, refl, sym, ap, ◌∙◌, subst, inl, inr, arith}
+use Rattle.std.specs.Prelude.{◌==◌, ◌&&◌}
 use Rattle.std.specs.List.{list_any}
-use Rattle.std.proofs.lemmas.Bool.{eq-eqb}
-use Rattle.std.proofs.lemmas.List.{reverse-append}
-use Rattle.rsct_packet.specs.declared.ids.ViewId.{ViewId}
-use Rattle.rsct_packet.specs.declared.ids.Member.{Member}
 use Rattle.rsct_packet.specs.declared.ids.ProviderId.{ProviderId}
-use Rattle.rsct_packet.specs.Providers.{among, same_provider}
+use Rattle.rsct_packet.specs.Providers.{same_provider}
 use Rattle.rsct_packet.specs.Search.{Has}
-use Rattle.rsct_packet.proofs.HasLaws.{has_append, has_map}
-use Rattle.proposal_core.specs.Fold.{empty_state, joiners_fit_at, joiners_fit}
-use Rattle.proposal_core.specs.Lists.{len_in, state_in}
+use Rattle.proposal_core.specs.Fold.{joiners_fit_at, joiners_fit}
 use Rattle.proposal_core.specs.declared.proposal.Proposal.{Proposal}
 use Rattle.view_state.specs.Views.{views_new}
 use Rattle.node_state.specs.declared.config.Config.{Config}
-use Rattle.node_state.specs.declared.group.GroupRow.{GroupRow}
 use Rattle.node_state.specs.declared.happened.Happened.{Happened}
 use Rattle.node_state.specs.declared.happened.Happened.TheVariants as happened
-use Rattle.node_state.specs.declared.packet.Packet.{Packet}
-use Rattle.session_state.specs.declared.state.Provider.{Provider}
-use Rattle.session_state.specs.State.{is_provider, provider_of}
-use Rattle.node_state.specs.declared.state.Core.{Core}
-use Rattle.node_state.specs.State.{InNameOrder, with_sessions}
+use Rattle.session_state.specs.State.{provider_of}
+use Rattle.node_state.specs.State.{with_sessions}
 use Rattle.node_state.specs.Applying.{level_set}
-use Rattle.node_state.specs.Step.{started, first_view, first_members, own_rings, ring_record}
+use Rattle.node_state.specs.Step.{started}
 use Rattle.world_model.specs.Run.{Happening}
-use Rattle.world_model.specs.declared.event.Event.{Event}
 use Rattle.run_safety.specs.Past.{History, records_of}
-use Rattle.run_safety.specs.Stays.{Stay, stays, asks_join}
+use Rattle.run_safety.specs.Stays.{asks_join}
 use Rattle.run_safety.specs.Group.{Noted}
 use Rattle.run_safety.specs.Group as group
 use Rattle.step_refinement.specs.Ghost.{asking}
 use Rattle.step_refinement.specs.Tied.{Scene, NodeIsIf, Rests}
 use Rattle.step_refinement.proofs.SessionLaws.{provider_same}
-use Rattle.step_refinement.specs.Rules.{over, start_with, stopped, with_records, starts_too}
-use Rattle.step_refinement.specs.Runs.{IsNote, noted}
-use Rattle.step_refinement.proofs.Changed.{each_set}
 use Rattle.run_induction.proofs.Idle.{Idle, AllIdle, Came, first_stay, came_stays}
-use Rattle.row_laws.proofs.honest_votes.At.{found}
-use Rattle.row_laws.specs.failed_rows.Failures.{EachPut, FailuresHaveCauses}
-use Rattle.row_laws.proofs.failed_rows.Fitting.{empty_fits, asked_seen}
+use Rattle.row_laws.specs.failed_rows.Failures.{EachPut}
+use Rattle.row_laws.proofs.failed_rows.Fitting.{asked_seen}
 use Rattle.row_laws.proofs.failed_rows.Facts.{Unasked}
 use Rattle.row_laws.proofs.failed_rows.Owners.{any_has}
-use Rattle.row_laws.proofs.failed_rows.Steps.{BodyGone}
 use Rattle.row_laws.proofs.failed_rows.Between.{CoreFails}
 
 pub idle_asks : (r : Happened) → Idle r → Unasked r

@@ -1,15 +1,9 @@
 -- In every scene that events lead to, providers hear in a row.
-use Rattle.std.proofs.Common.{◌≡◌, ◌≢◌, ◌≤◌, ◌<◌, ℕ, ◌+◌, List, [], ◌∷◌, ◌++◌, Option, Some, None, refl, sym, ap, ◌∙◌, subst, inl, inr, ⊎_elim, append_assoc, arith}
-use Rattle.std.specs.Prelude.{reverse, map, fold, find}
-use Rattle.std.proofs.lemmas.List.{append-nil, reverse-append}
-use Rattle.std.proofs.lemmas.Bool.{cases_eq}
+use Rattle.std.proofs.Common.{◌≡◌, ◌≤◌, ◌<◌, ℕ, ◌+◌, List, [], ◌∷◌, ◌++◌, Option, Some, None, refl, sym, ap, ◌∙◌, subst, inl, inr, arith}
+use Rattle.std.specs.Prelude.{find}
 use Rattle.rsct_packet.specs.declared.ids.ViewId.{ViewId}
 use Rattle.rsct_packet.specs.declared.ids.ProviderId.{ProviderId}
-use Rattle.rsct_packet.specs.declared.ids.Member.{Member}
-use Rattle.rsct_packet.specs.Mask.{nodes_of}
 use Rattle.rsct_packet.specs.Search.{Has}
-use Rattle.rsct_packet.proofs.HasLaws.{has_append, has_map}
-use Rattle.adapter_ring.specs.declared.ring.Ring.{Ring}
 use Rattle.session_state.specs.State.{is_provider, provider_of}
 use Rattle.session_state.specs.declared.state.Provider.{Provider}
 use Rattle.view_state.specs.Views.{views_new}
@@ -21,14 +15,13 @@ use Rattle.node_state.specs.declared.state.Core.{Core}
 use Rattle.node_state.specs.State.{row_of, list_of, len_of, state_of, with_sessions}
 use Rattle.node_state.specs.HandOn.{Answering}
 use Rattle.node_state.specs.Applying.{level_set}
-use Rattle.node_state.specs.Step.{NodeEvent, at_work, stepped, started, ring_record, own_rings, first_view, first_members}
+use Rattle.node_state.specs.Step.{NodeEvent, at_work, stepped, started, first_view, first_members}
 use Rattle.world_model.specs.declared.event.Event.{Event}
 use Rattle.world_model.specs.Run.{Happening}
-use Rattle.run_safety.specs.Past.{History, Within, records_of}
+use Rattle.run_safety.specs.Past.{History, records_of}
 use Rattle.step_refinement.specs.Tied.{Scene}
 use Rattle.step_refinement.specs.Rules.{over}
 use Rattle.step_refinement.specs.Runs.{Reached}
-use Rattle.step_refinement.proofs.Changed.{set_here, set_there, each_set}
 use Rattle.step_refinement.proofs.Begins.{idle_start}
 use Rattle.step_refinement.proofs.RunLaw.{reached_rests}
 use Rattle.run_induction.proofs.Idle.{Idle, AllIdle, within_idle}

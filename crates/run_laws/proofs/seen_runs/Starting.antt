@@ -26,6 +26,7 @@ ShownIn before now r = NodeShown (now ++ records_of before) r
 abbrev pub AllIn : List Happened → History → Type 0
 AllIn now before = Within (λ now before r. NodeShown (now ++ records_of before) r) now before
 
+module _ (c : Config) (n j : ℕ) (now : List Happened) (before : History) where
   abbrev v : ViewId
   v = first_view c c.mode n j
 
