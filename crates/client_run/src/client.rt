@@ -162,7 +162,7 @@ impl Client {
         let mut text = Vec::new(alloc);
         if let Some(taken) = answer {
             self.answered = risen(self.answered);
-            put_answer(alloc, &mut text, self.answered, taken)?;
+            put_answer(&mut text, self.answered, taken)?;
         }
         self.told = put_events(&mut text, &self.far, self.told)?;
         write(text.as_slice(), out)

@@ -5,20 +5,14 @@ ghost use Rattle.client_run.specs.Turns.{answer_line, event_lines};
 use node_text::{put_number, put_text};
 use remote_session::Far;
 use rsct_packet::NoMemory;
-use std::alloc::Global;
 
 /// The line of the answer to the call of this number, at the end.
 #[tactic(auto, unfolding(crate::specs::Turns::answer_line))]
-pub fn put_answer(
-    alloc: Global,
-    out: &mut Vec<u8>,
-    number: u32,
-    taken: bool,
-) -> Result<(), NoMemory>
+pub fn put_answer(out: &mut Vec<u8>, number: u32, taken: bool) -> Result<(), NoMemory>
     ensures { OnOk result (out.new.items ≡ out.old.items ++ answer_line number taken) }
 {
     put_text(out, b"did ")?;
-    put_number(alloc, out, number)?;
+    put_number(out, number)?;
     put_text(out, if taken { b" taken\n" } else { b" refused\n" })
 }
 

@@ -5,4 +5,4 @@
 mod reads;
 mod sessions;
 
-pub use sessions::Sessions;
+pub use sessions::{PutEntry, Sessions};

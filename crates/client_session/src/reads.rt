@@ -1,7 +1,7 @@
 //! What a node reads of its sessions.
-ghost use Rattle.std.specs.Prelude.{◌≡◌, IfOk, is_some, find, slice_get, option_copied};
+ghost use Rattle.std.specs.Prelude.{◌≡◌, IfOk, is_some, slice_get, option_copied};
 ghost use Rattle.subscribe_core.specs.Subs.{notes_of};
-ghost use Rattle.session_state.specs.State.{is_session, provider_of, client_token, member_token, sub_token, client_name};
+ghost use Rattle.session_state.specs.State.{provider_of, client_token, member_token, sub_token, client_name};
 ghost use Rattle.session_clients.specs.Clients.{client_named};
 
 use crate::sessions::Sessions;
@@ -10,15 +10,9 @@ use proposal_core::GroupState;
 use rsct_packet::{NoMemory, ProviderId};
 use session_calls::{client_token, member_token, session_place, sub_token};
 use session_delivery::is_live;
-use session_state::{KeptBallot, MemberToken, Provider, Request, Session};
+use session_state::{KeptBallot, MemberToken, Provider, Request};
 use std::alloc::Global;
 use subscribe_core::{ClientToken, SubToken, Subscription, Tokens};
-
-fn session_of(rows: &[Session], client: ClientToken) -> Option<&Session>
-    ensures { option_copied result ≡ find (is_session client) rows.now }
-{
-    rows.iter().find(|x| x.token == client)
-}
 
 impl<C: Callbacks> Sessions<C> {
     /// The i-th outstanding request, in the order of their numbers.
@@ -102,13 +96,9 @@ impl<C: Callbacks> Sessions<C> {
     }
 
     /// The name of a live client.
-    #[tactic(auto, unfolding(session_state::specs::State::client_name))]
     pub fn client_name(&self, client: ClientToken) -> Option<&[u8]>
         ensures { option_copied result ≡ client_name self.now.state client }
     {
-        match session_of(self.state().sessions.as_slice(), client) {
-            None => None,
-            Some(x) => Some(x.name.as_slice()),
-        }
+        self.state().client_name(client)
     }
 }

@@ -22,6 +22,17 @@ use std::alloc::Global;
 use std::marker::Model;
 use subscribe_core::{ClientToken, SubToken, Subs};
 
+/// An entry that was put at a place of a group's list in a view, with the group's states before and after it.
+#[derive(Clone, Copy)]
+pub struct PutEntry<'a> {
+    pub view: ViewId,
+    pub group: &'a Name,
+    pub place: u32,
+    pub entry: &'a Entry,
+    pub before: &'a GroupState,
+    pub after: &'a GroupState,
+}
+
 /// The sessions of a node: what it has of its clients, and the clients.
 #[derive(Drop)]
 pub struct Sessions<C: Callbacks> {
@@ -249,44 +260,51 @@ impl<C: Callbacks> Sessions<C> {
     }
 
     /// Hands an entry on: each local provider that takes part hears it, members before the entry first, then
-    /// running joiners, then new ones. Its client may fill a ballot where the entry asks for votes. `before` and
-    /// `after` are the group's states before and after the entry. What was handed and cast goes to the end of
-    /// `out`: each client stands for its notice with the ballot that is cast. A client that is handed nothing keeps its value, also where memory runs out.
+    /// running joiners, then new ones. Its client may fill a ballot where the entry asks for votes. What was handed
+    /// and cast goes to the end of `out`: each client stands for its notice with the ballot that is cast. A client
+    /// that is handed nothing keeps its value, also where memory runs out.
     pub fn hand_on(
         &mut self,
         alloc: Global,
-        view: ViewId,
-        group: &Name,
-        place: u32,
-        before: &GroupState,
-        after: &GroupState,
-        entry: &Entry,
+        put: &PutEntry<'_>,
         out: &mut Casts,
     ) -> Result<(), NoMemory>
-        requires { IsTrue (joiners_fit after.now) }
+        requires { IsTrue (joiners_fit put.now.after.now) }
         ensures scripts { OnOk result (KeepsScripts C.script self.old.clients self.new.clients) }
         ensures others { KeepsAllBut (hears_at self.old.state
-            (hearers self.old.state group.now before.now entry.now)) self.old.clients
-            self.new.clients }
+            (hearers self.old.state put.now.group.now put.now.before.now put.now.entry.now))
+            self.old.clients self.new.clients }
         ensures handed { OnOk result ((bs : List (Option Filled))
-            × Fillings (map C.script self.old.clients) self.old.state entry.now after.now
-            (hearers self.old.state group.now before.now entry.now) bs
-            × (self.new.state ≡ handed_on self.old.state group.now before.now after.now entry.now
-            bs) × (out.new ≡ out.old ++ casts_out self.old.state group.now before.now after.now
-            entry.now bs) × StandAfter C.stands_for self.old.clients self.new.clients
-            (notified self.old.state view group.now place entry.now after.now
-            (casts_out self.old.state group.now before.now after.now entry.now bs))) }
+            × Fillings (map C.script self.old.clients) self.old.state put.now.entry.now
+            put.now.after.now
+            (hearers self.old.state put.now.group.now put.now.before.now put.now.entry.now) bs
+            × (self.new.state ≡ handed_on self.old.state put.now.group.now put.now.before.now
+            put.now.after.now put.now.entry.now bs)
+            × (out.new ≡ out.old ++ casts_out self.old.state put.now.group.now put.now.before.now
+            put.now.after.now put.now.entry.now bs)
+            × StandAfter C.stands_for self.old.clients self.new.clients
+            (notified self.old.state put.now.view put.now.group.now put.now.place
+            put.now.entry.now put.now.after.now
+            (casts_out self.old.state put.now.group.now put.now.before.now put.now.after.now
+            put.now.entry.now bs))) }
     {
-        let voters = after.voters(alloc)?;
-        let n = NewEntry {
-            view,
-            group,
-            place,
-            entry,
-            after,
+        let voters = put.after.voters(alloc)?;
+        let entry = NewEntry {
+            view: put.view,
+            group: put.group,
+            place: put.place,
+            entry: put.entry,
+            after: put.after,
             voters: voters.as_slice(),
         };
-        hand_entry_on(&mut self.state, &mut self.clients, alloc, &n, before, out)
+        hand_entry_on(
+            &mut self.state,
+            &mut self.clients,
+            alloc,
+            &entry,
+            put.before,
+            out,
+        )
     }
 
     /// Tells a provider's client that its request was refused. It answers true exactly where the provider is live

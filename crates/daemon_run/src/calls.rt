@@ -195,7 +195,8 @@ impl<C: Callbacks> Running<C> {
         ensures keeps { KeepsLink (L.places link.old) (L.places link.new) (L.opened link.old)
             (L.opened link.new) (L.faults link.old) (L.faults link.new) }
         ensures later { K.faults out.old ≤ K.faults out.new }
-        ensures fault { result ≡ Err Stop.WriteFault → Rose (K.faults out.old) (K.faults out.new) }
+        ensures fault { result ≡ Err Stop.WriteFault
+            → Rose (K.faults out.old) (K.faults out.new) }
     {
         if self.call_plain(alloc, call, hosts).is_err() {
             return Err(Stop::NoMemory);
@@ -224,7 +225,8 @@ impl<C: Callbacks> Running<C> {
         ensures keeps { KeepsLink (L.places link.old) (L.places link.new) (L.opened link.old)
             (L.opened link.new) (L.faults link.old) (L.faults link.new) }
         ensures later { K.faults out.old ≤ K.faults out.new }
-        ensures fault { result ≡ Err Stop.WriteFault → Rose (K.faults out.old) (K.faults out.new) }
+        ensures fault { result ≡ Err Stop.WriteFault
+            → Rose (K.faults out.old) (K.faults out.new) }
     {
         if self.call(alloc, call, hosts).is_err() {
             return Err(Stop::NoMemory);
@@ -253,7 +255,8 @@ impl<C: Callbacks> Running<C> {
         ensures keeps { KeepsLink (L.places link.old) (L.places link.new) (L.opened link.old)
             (L.opened link.new) (L.faults link.old) (L.faults link.new) }
         ensures later { K.faults out.old ≤ K.faults out.new }
-        ensures fault { result ≡ Err Stop.WriteFault → Rose (K.faults out.old) (K.faults out.new) }
+        ensures fault { result ≡ Err Stop.WriteFault
+            → Rose (K.faults out.old) (K.faults out.new) }
     {
         match own_call(self.me, line) {
             Some(call) => self.carry_call(alloc, call, hosts, out, link),
@@ -282,7 +285,8 @@ impl<C: Callbacks> Running<C> {
         ensures keeps { KeepsLink (L.places link.old) (L.places link.new) (L.opened link.old)
             (L.opened link.new) (L.faults link.old) (L.faults link.new) }
         ensures later { K.faults out.old ≤ K.faults out.new }
-        ensures fault { result ≡ Err Stop.WriteFault → Rose (K.faults out.old) (K.faults out.new) }
+        ensures fault { result ≡ Err Stop.WriteFault
+            → Rose (K.faults out.old) (K.faults out.new) }
     {
         for line in lines {
             self.carry_line(alloc, line, hosts, out, link)?;

@@ -96,7 +96,8 @@ impl<C: Callbacks> Running<C> {
         ensures keeps { KeepsLink (L.places link.old) (L.places link.new) (L.opened link.old)
             (L.opened link.new) (L.faults link.old) (L.faults link.new) }
         ensures later { K.faults out.old ≤ K.faults out.new }
-        ensures fault { result ≡ Err Stop.WriteFault → Rose (K.faults out.old) (K.faults out.new) }
+        ensures fault { result ≡ Err Stop.WriteFault
+            → Rose (K.faults out.old) (K.faults out.new) }
     {
         let call = match self.call_in(alloc, key, line) {
             Ok(Some(call)) => call,
@@ -170,7 +171,8 @@ impl<C: Callbacks> Running<C> {
         ensures keeps { KeepsLink (L.places link.old) (L.places link.new) (L.opened link.old)
             (L.opened link.new) (L.faults link.old) (L.faults link.new) }
         ensures later { K.faults out.old ≤ K.faults out.new }
-        ensures fault { result ≡ Err Stop.WriteFault → Rose (K.faults out.old) (K.faults out.new) }
+        ensures fault { result ≡ Err Stop.WriteFault
+            → Rose (K.faults out.old) (K.faults out.new) }
     {
         let Ok(seen) = self.take_up(alloc, message) else {
             return Err(Stop::NoMemory);

@@ -75,7 +75,8 @@ impl<C: Callbacks> Running<C> {
         ensures keeps { KeepsLink (L.places link.old) (L.places link.new) (L.opened link.old)
             (L.opened link.new) (L.faults link.old) (L.faults link.new) }
         ensures later { K.faults out.old ≤ K.faults out.new }
-        ensures fault { result ≡ Err Stop.WriteFault → Rose (K.faults out.old) (K.faults out.new) }
+        ensures fault { result ≡ Err Stop.WriteFault
+            → Rose (K.faults out.old) (K.faults out.new) }
     {
         let sends = self.node.take_sends(alloc);
         let records = self.node.take_records(alloc);
@@ -107,7 +108,8 @@ impl<C: Callbacks> Running<C> {
         ensures keeps { KeepsLink (L.places link.old) (L.places link.new) (L.opened link.old)
             (L.opened link.new) (L.faults link.old) (L.faults link.new) }
         ensures later { K.faults out.old ≤ K.faults out.new }
-        ensures fault { result ≡ Err Stop.WriteFault → Rose (K.faults out.old) (K.faults out.new) }
+        ensures fault { result ≡ Err Stop.WriteFault
+            → Rose (K.faults out.old) (K.faults out.new) }
     {
         let _refused = self.settle_for(alloc, None, out, link)?;
         Ok(())
@@ -146,7 +148,8 @@ impl<C: Callbacks> Running<C> {
         ensures keeps { KeepsLink (L.places link.old) (L.places link.new) (L.opened link.old)
             (L.opened link.new) (L.faults link.old) (L.faults link.new) }
         ensures later { K.faults out.old ≤ K.faults out.new }
-        ensures fault { result ≡ Err Stop.WriteFault → Rose (K.faults out.old) (K.faults out.new) }
+        ensures fault { result ≡ Err Stop.WriteFault
+            → Rose (K.faults out.old) (K.faults out.new) }
     {
         if self.happen(alloc, event).is_err() {
             return Err(Stop::NoMemory);

@@ -49,7 +49,8 @@ impl<C: Callbacks> Running<C> {
         ensures keeps { KeepsLink (L.places link.old) (L.places link.new) (L.opened link.old)
             (L.opened link.new) (L.faults link.old) (L.faults link.new) }
         ensures later { K.faults out.old ≤ K.faults out.new }
-        ensures fault { result ≡ Err Stop.WriteFault → Rose (K.faults out.old) (K.faults out.new) }
+        ensures fault { result ≡ Err Stop.WriteFault
+            → Rose (K.faults out.old) (K.faults out.new) }
     {
         if moment.saturating_sub(self.last) >= TICK {
             self.last = moment;
@@ -79,7 +80,8 @@ impl<C: Callbacks> Running<C> {
         ensures keeps { KeepsLink (L.places link.old) (L.places link.new) (L.opened link.old)
             (L.opened link.new) (L.faults link.old) (L.faults link.new) }
         ensures later { K.faults out.old ≤ K.faults out.new }
-        ensures fault { result ≡ Err Stop.WriteFault → Rose (K.faults out.old) (K.faults out.new) }
+        ensures fault { result ≡ Err Stop.WriteFault
+            → Rose (K.faults out.old) (K.faults out.new) }
     {
         match self.joiner.take(alloc, datagram) {
             Ok(Some(message)) => self.give(alloc, message.as_slice(), network, hosts, out, link),
@@ -112,7 +114,8 @@ impl<C: Callbacks> Running<C> {
         ensures keeps { KeepsLink (L.places link.old) (L.places link.new) (L.opened link.old)
             (L.opened link.new) (L.faults link.old) (L.faults link.new) }
         ensures later { K.faults out.old ≤ K.faults out.new }
-        ensures fault { result ≡ Err Stop.WriteFault → Rose (K.faults out.old) (K.faults out.new) }
+        ensures fault { result ≡ Err Stop.WriteFault
+            → Rose (K.faults out.old) (K.faults out.new) }
     {
         match link.recv(buf) {
             Got::Datagram(len, network) => {
@@ -156,7 +159,8 @@ impl<C: Callbacks> Running<C> {
         ensures keeps { KeepsLink (L.places link.old) (L.places link.new) (L.opened link.old)
             (L.opened link.new) (L.faults link.old) (L.faults link.new) }
         ensures later { K.faults out.old ≤ K.faults out.new }
-        ensures fault { result ≡ Err Stop.WriteFault → Rose (K.faults out.old) (K.faults out.new) }
+        ensures fault { result ≡ Err Stop.WriteFault
+            → Rose (K.faults out.old) (K.faults out.new) }
     {
         let moment = clock.now();
         self.tick_if_due(alloc, moment, out, link)?;

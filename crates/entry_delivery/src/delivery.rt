@@ -1,5 +1,5 @@
 //! Handing an entry on.
-ghost use Rattle.std.specs.Prelude.{◌≡◌, [], OnOk, map, length, List, Option, option_copied};
+ghost use Rattle.std.specs.Prelude.{◌≡◌, [], OnOk, map, length, List, Option};
 ghost use Rattle.session_clients.specs.Clients.{KeepsScripts};
 ghost use Rattle.std.specs.List.{fold, flat_map};
 ghost use Rattle.client_callbacks.specs.declared.ballot.Filled.{Filled};
@@ -8,45 +8,24 @@ ghost use Rattle.session_state.specs.HandOn.{casts_out, hearers};
 ghost use Rattle.session_state.specs.Calls.{SameSessions};
 ghost use Rattle.session_state.specs.HandOn as session;
 ghost use Rattle.node_state.specs.State.{state_of, recorded_all, with_sessions};
-ghost use Rattle.node_state.specs.HandOn.{noted, ballot_sent, cast_sent_of, casts_sent, hand_on};
+ghost use Rattle.node_state.specs.HandOn.{noted, cast_sent_of, casts_sent, hand_on};
 ghost use Rattle.entry_delivery.specs.Telling.{heard_in, heard_handings, noted_handings};
 ghost use Rattle.entry_delivery.specs.Received.{Receive};
 ghost use Rattle.entry_delivery.specs.Doing.{Ready, RuleDoes};
 
 use crate::notes::{News, note_all, record_all_heard};
-use client_callbacks::{Callbacks, Filled};
-use node_sending::{is_frozen, send_vote};
+use client_callbacks::Callbacks;
+use node_sending::{FilledBallot, is_frozen, send_vote};
 use node_state::Core;
 use proposal_core::GroupState;
-use rsct_packet::{List, Name, NoMemory, ProtoId, ProviderId};
+use rsct_packet::{List, Name, NoMemory};
 use session_clients::hand_entry_on;
 use session_state::{Cast, Casts, NewEntry};
 use std::alloc::Global;
 use subscribe_core::differ;
 
-/// Sends a ballot, where it is filled, to a leader that may be unknown.
-#[tactic(auto, unfolding(node_state::specs::HandOn::ballot_sent))]
-fn send_ballot(
-    core: &mut Core,
-    alloc: Global,
-    group: &Name,
-    to: Option<u8>,
-    provider: ProviderId,
-    proto: ProtoId,
-    phase: u16,
-    filled: Option<&Filled>,
-) -> Result<(), NoMemory>
-    ensures { OnOk result (core.new ≡ ballot_sent core.old group.now to provider proto phase
-        (option_copied filled.entry)) }
-{
-    match filled {
-        None => Ok(()),
-        Some(filled) => send_vote(core, alloc, to, group, proto, phase, provider, filled),
-    }
-}
-
-/// Sends what a provider casts to a leader that may be unknown.
-#[tactic(auto, unfolding(node_state::specs::HandOn::cast_sent_of))]
+/// Sends what a provider casts, where its ballot is filled, to a leader that may be unknown.
+#[tactic(auto, unfolding(node_state::specs::HandOn::cast_sent_of, node_state::specs::HandOn::ballot_sent))]
 fn send_cast(
     core: &mut Core,
     alloc: Global,
@@ -54,22 +33,24 @@ fn send_cast(
     to: Option<u8>,
     cast: &Cast,
 ) -> Result<(), NoMemory>
-    ensures { OnOk result (core.new ≡ cast_sent_of core.old group.now to cast.now.p cast.now.cast) }
+    ensures { OnOk result
+        (core.new ≡ cast_sent_of core.old group.now to cast.now.p cast.now.cast) }
 {
     match &cast.cast {
         None => Ok(()),
-        Some((proto, phase, ballot)) => {
-            send_ballot(
-                core,
-                alloc,
-                group,
-                to,
-                cast.p,
-                *proto,
-                *phase,
-                ballot.filled(),
-            )
-        }
+        Some((proto, phase, ballot)) => match ballot.filled() {
+            None => Ok(()),
+            Some(filled) => {
+                let vote = FilledBallot {
+                    group,
+                    proto: *proto,
+                    phase: *phase,
+                    provider: cast.p,
+                    filled,
+                };
+                send_vote(core, alloc, to, &vote)
+            }
+        },
     }
 }
 
@@ -82,8 +63,8 @@ fn send_each_cast(
     to: Option<u8>,
     casts: &[Cast],
 ) -> Result<(), NoMemory>
-    ensures { OnOk result (core.new ≡ fold (λ t c. cast_sent_of t group.now to c.p c.cast) core.old
-        casts.now) }
+    ensures { OnOk result
+        (core.new ≡ fold (λ t c. cast_sent_of t group.now to c.p c.cast) core.old casts.now) }
 {
     for c in casts {
         send_cast(core, alloc, group, to, c)?;
@@ -172,8 +153,8 @@ fn hand<C: Callbacks>(
 }
 
 /// Hands an entry of the view on: clients hear it and cast, subscribers are told, and the ballots go to `to`, which
-/// may be unknown, where the node is not frozen. `before` is the group's state before the entry; `n.after` is that of
-/// the node's list, which has the entry already.
+/// may be unknown, where the node is not frozen. `before` is the group's state before the entry; `entry.after` is that
+/// of the node's list, which has the entry already.
 pub fn hand_on<C: Callbacks>(
     core: &mut Core,
     clients: &mut Vec<C>,
@@ -188,8 +169,8 @@ pub fn hand_on<C: Callbacks>(
     ensures ready { OnOk result (Ready core.new clients.new.items) }
     ensures scripts { OnOk result (KeepsScripts C.script clients.old.items clients.new.items) }
     ensures does { OnOk result (RuleDoes C.script C.stands_for clients.old.items clients.new.items
-        core.old core.new (λ f. hand_on f core.old to entry.now.group.now entry.now.place before.now
-        entry.now.after.now entry.now.entry.now)) }
+        core.old core.new (λ f. hand_on f core.old to entry.now.group.now entry.now.place
+        before.now entry.now.after.now entry.now.entry.now)) }
 {
     let mut casts = List::new(alloc);
     hand(core, clients, alloc, entry, before, &mut casts)?;

@@ -5,3 +5,4 @@ mod delivery;
 mod notes;
 
 pub use delivery::hand_on;
+pub use notes::subscriber_name;

@@ -1,9 +1,8 @@
 //! Records of what clients are handed.
-ghost use Rattle.std.specs.Prelude.{◌≡◌, ◌++◌, ◌∷◌, [], OnOk, IfOk, map, filter, length, find, option_copied};
+ghost use Rattle.std.specs.Prelude.{◌≡◌, ◌++◌, ◌∷◌, [], OnOk, IfOk, map, filter, length, option_copied};
 ghost use Rattle.session_clients.specs.Clients.{KeepsScripts};
 ghost use Rattle.std.specs.List.{flat_map};
 ghost use Rattle.subscribe_core.specs.Subs.{is_of_group};
-ghost use Rattle.session_state.specs.State.{is_session};
 ghost use Rattle.client_callbacks.specs.declared.told.Told.TheVariants as told;
 ghost use Rattle.node_state.specs.declared.happened.Happened.TheVariants as happened;
 ghost use Rattle.node_state.specs.HandOn.{cast_record, cast_records, subscriber_name};
@@ -16,9 +15,9 @@ use proposal_core::GroupState;
 use rsct_packet::{List, Name, NoMemory, ProtoId, ProviderId, ViewId};
 use session_clients::tell_at;
 use session_delivery::client_place;
-use session_state::{Cast, NewEntry, Session, SessionState};
+use session_state::{Cast, NewEntry, SessionState};
 use std::alloc::Global;
-use subscribe_core::{ClientToken, Subscription};
+use subscribe_core::Subscription;
 
 /// What the subscribers of a group are told at a node in a view: what the group is, at a place of its list or at
 /// an install.
@@ -128,24 +127,18 @@ pub fn record_all_heard(
     Ok(())
 }
 
-fn session_of(rows: &[Session], client: ClientToken) -> Option<&Session>
-    ensures { option_copied result ≡ find (is_session client) rows.now }
-{
-    rows.iter().find(|x| x.token == client)
-}
-
 /// The name of a subscription's client; no bytes where it has no session.
-#[tactic(auto, unfolding(node_state::specs::HandOn::subscriber_name, session_state::specs::State::client_name))]
-fn subscriber_name(
+#[tactic(auto, unfolding(node_state::specs::HandOn::subscriber_name))]
+pub fn subscriber_name(
     alloc: Global,
     sessions: &SessionState,
     subscription: &Subscription,
 ) -> Result<List<u8>, NoMemory>
     ensures { IfOk result (λ l. l ≡ subscriber_name sessions.now subscription.now) }
 {
-    match session_of(sessions.sessions.as_slice(), subscription.client) {
+    match sessions.client_name(subscription.client) {
         None => Ok(List::new(alloc)),
-        Some(x) => List::of(alloc, x.name.as_slice()),
+        Some(name) => List::of(alloc, name),
     }
 }
 

@@ -12,12 +12,13 @@ ghost use Rattle.node_state.specs.Deciding.{keep_decision, expelled_by, has_othe
 use crate::limits::full_refusal;
 use crate::refusals::refuse;
 use client_callbacks::{Callbacks, Why};
-use group_attr::{Attrs, Phases};
+use group_attr::Attrs;
 use group_leading::begin;
 use node_groups::{gone_of, keep_decision, state_of};
 use node_state::Core;
 use proposal_core::{GroupState, Proposal, Running};
 use rsct_packet::{Name, NoMemory, ProviderId, is_among};
+use session_state::Request;
 use std::alloc::Global;
 
 /// Whom a proposal expels.
@@ -116,21 +117,25 @@ fn grant<C: Callbacks>(
     core: &mut Core,
     clients: &mut Vec<C>,
     alloc: Global,
-    group: &Name,
-    provider: ProviderId,
-    request: u32,
-    phases: Phases,
-    proposal: &Proposal,
+    asked: &Request,
 ) -> Result<(), NoMemory>
     requires work { AtWork core.old clients.old.items }
     ensures work { OnOk result (AtWork core.new clients.new.items) }
     ensures scripts { OnOk result (KeepsScripts C.script clients.old.items clients.new.items) }
     ensures does { OnOk result (RuleDoes C.script C.stands_for clients.old.items clients.new.items
-        core.old core.new (λ f. begins f (keep_decision core.old group.now provider request None)
-        group.now proposal.now phases)) }
+        core.old core.new (λ f. begins f
+        (keep_decision core.old asked.now.group asked.now.p asked.now.r None) asked.now.group
+        asked.now.proposal asked.now.phases)) }
 {
-    keep_decision(core, alloc, group, provider, request, None)?;
-    begin(core, clients, alloc, group, proposal, phases)
+    keep_decision(core, alloc, &asked.group, asked.p, asked.r, None)?;
+    begin(
+        core,
+        clients,
+        alloc,
+        &asked.group,
+        &asked.proposal,
+        asked.phases,
+    )
 }
 
 /// Decides a request that is no join: what is requested begins or is refused.
@@ -139,23 +144,18 @@ pub(crate) fn decide_change<C: Callbacks>(
     core: &mut Core,
     clients: &mut Vec<C>,
     alloc: Global,
-    group: &Name,
-    provider: ProviderId,
-    request: u32,
-    phases: Phases,
-    proposal: &Proposal,
+    asked: &Request,
 ) -> Result<(), NoMemory>
     requires work { AtWork core.old clients.old.items }
     ensures work { OnOk result (AtWork core.new clients.new.items) }
     ensures scripts { OnOk result (KeepsScripts C.script clients.old.items clients.new.items) }
     ensures does { OnOk result (RuleDoes C.script C.stands_for clients.old.items clients.new.items
-        core.old core.new (λ f. decide_change f core.old group.now provider request phases
-        proposal.now (other_refusal core.old group.now provider proposal.now))) }
+        core.old core.new (λ f. decide_change f core.old asked.now.group asked.now.p asked.now.r
+        asked.now.phases asked.now.proposal
+        (other_refusal core.old asked.now.group asked.now.p asked.now.proposal))) }
 {
-    match other_refusal(core, alloc, group.bytes(), provider, proposal)? {
-        None => grant(
-            core, clients, alloc, group, provider, request, phases, proposal,
-        ),
-        Some(y) => refuse(core, alloc, group, provider, request, y),
+    match other_refusal(core, alloc, asked.group.bytes(), asked.p, &asked.proposal)? {
+        None => grant(core, clients, alloc, asked),
+        Some(y) => refuse(core, alloc, &asked.group, asked.p, asked.r, y),
     }
 }

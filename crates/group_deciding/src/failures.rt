@@ -66,7 +66,8 @@ pub fn begin_failures<C: Callbacks>(
     ensures work { OnOk result (AtWork core.new clients.new.items) }
     ensures scripts { OnOk result (KeepsScripts C.script clients.old.items clients.new.items) }
     ensures does { IfOk result (λ began. PassDoes C.script C.stands_for clients.old.items
-        clients.new.items core.old core.new began (λ f. failures_begin most f core.old group.now)) }
+        clients.new.items core.old core.new began
+        (λ f. failures_begin most f core.old group.now)) }
 {
     if most == 0 {
         return Ok(false);

@@ -135,8 +135,8 @@ pub(crate) fn decide_join(
     attrs: &Attrs,
 ) -> Result<(), NoMemory>
     requires order { InNameOrder core.old.groups }
-    ensures rule { OnOk result (core.new ≡ decide_join core.old group.now provider request attrs.now
-        (join_refusal core.old group.now provider attrs.now)) }
+    ensures rule { OnOk result (core.new ≡ decide_join core.old group.now provider request
+        attrs.now (join_refusal core.old group.now provider attrs.now)) }
     ensures keeps { OnOk result (Keeps core.old core.new) }
 {
     let state = state_of(core, alloc, group.bytes())?;

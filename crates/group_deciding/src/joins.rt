@@ -105,7 +105,8 @@ fn refuse_unsourced(
     source: &Option<Name>,
     providers: &[ProviderId],
 ) -> Result<(), NoMemory>
-    ensures { OnOk result (core.new ≡ source_refused core.old group.now source.now providers.now) }
+    ensures { OnOk result
+        (core.new ≡ source_refused core.old group.now source.now providers.now) }
 {
     for p in providers {
         let why = Why::NoSource(source_len(core, source));
@@ -124,7 +125,8 @@ fn next_joiners(
     requires order { InNameOrder core.old.groups }
     requires state { state.now ≡ state_of core.old group.now }
     ensures attrs { IfOk result (λ j. j.attrs ≡ chosen_attrs core.old group.now) }
-    ensures ps { IfOk result (λ j. j.ps ≡ sourced core.old (chosen_attrs core.old group.now).source
+    ensures ps { IfOk result (λ j. j.ps
+        ≡ sourced core.old (chosen_attrs core.old group.now).source
         (chosen_joins core.old group.now)) }
     ensures rule { OnOk result (core.new ≡ joins_chosen core.old group.now) }
     ensures keeps { OnOk result (Keeps core.old core.new) }

@@ -8,10 +8,10 @@ ghost use Rattle.node_state.specs.Deciding.{decided};
 use crate::changes::decide_change;
 use crate::join_requests::decide_join;
 use client_callbacks::Callbacks;
-use group_attr::Phases;
 use node_state::Core;
 use proposal_core::Proposal;
-use rsct_packet::{Name, NoMemory, ProviderId};
+use rsct_packet::NoMemory;
+use session_state::Request;
 use std::alloc::Global;
 
 /// Decides a request: a join waits or is refused, another proposal begins or is refused.
@@ -20,23 +20,19 @@ pub fn decide<C: Callbacks>(
     core: &mut Core,
     clients: &mut Vec<C>,
     alloc: Global,
-    group: &Name,
-    provider: ProviderId,
-    request: u32,
-    phases: Phases,
-    proposal: &Proposal,
+    asked: &Request,
 ) -> Result<(), NoMemory>
     requires work { AtWork core.old clients.old.items }
     ensures work { OnOk result (AtWork core.new clients.new.items) }
     ensures scripts { OnOk result (KeepsScripts C.script clients.old.items clients.new.items) }
     ensures does { OnOk result (RuleDoes C.script C.stands_for clients.old.items clients.new.items
-        core.old core.new (λ f. decided f core.old group.now provider request phases
-        proposal.now)) }
+        core.old core.new (λ f. decided f core.old asked.now.group asked.now.p asked.now.r
+        asked.now.phases asked.now.proposal)) }
 {
-    match proposal {
-        Proposal::Join { attrs, .. } => decide_join(core, alloc, group, provider, request, attrs),
-        _ => decide_change(
-            core, clients, alloc, group, provider, request, phases, proposal,
-        ),
+    match &asked.proposal {
+        Proposal::Join { attrs, .. } => {
+            decide_join(core, alloc, &asked.group, asked.p, asked.r, attrs)
+        }
+        _ => decide_change(core, clients, alloc, asked),
     }
 }

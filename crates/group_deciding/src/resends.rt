@@ -98,7 +98,8 @@ fn send_to_each(core: &mut Core, alloc: Global, group: &Name, nodes: &[u8]) -> R
 
 /// Sends entries of the group to the other members again.
 pub fn send_to_others(core: &mut Core, alloc: Global, group: &Name) -> Result<(), NoMemory>
-    ensures rule { OnOk result (core.new ≡ fold (sent_again group.now) core.old (others core.old)) }
+    ensures rule { OnOk result
+        (core.new ≡ fold (sent_again group.now) core.old (others core.old)) }
     ensures keeps { OnOk result (Keeps core.old core.new) }
 {
     let nodes = others(core, alloc)?;

@@ -24,7 +24,8 @@ pub fn take_failures(
     requires { InNameOrder core.old.groups }
     ensures taken { IfOk result (λ out. out.items
         ≡ next_failures batch (led_of core.old group.now).waiting) }
-    ensures rule { OnOk result (core.new ≡ with_waiting core.old group.now (failures_left batch)) }
+    ensures rule { OnOk result
+        (core.new ≡ with_waiting core.old group.now (failures_left batch)) }
 {
     let i = open(&mut core.groups, alloc, group)?;
     let row = &mut core.groups.rows[i];

@@ -20,7 +20,6 @@ use Rattle.node_groups.proofs.KeepLaws.{keeps_itself, keeps_then, keeps_as, led_
 use Rattle.entry_delivery.specs.Received.{Handing}
 use Rattle.entry_delivery.specs.Doing.{Does, Ready}
 use Rattle.entry_delivery.proofs.DoingLaws.{does_nothing, does_after, does_before, does_as}
-use Rattle.group_leading.specs.Appending.{sent_and_handed, append_finished}
 use Rattle.group_leading.specs.Waiting.{new_ones_wait}
 use Rattle.group_leading.specs.Working.{AtWork}
 use Rattle.group_leading.proofs.HandedLaws.{handed_order}
@@ -77,12 +76,12 @@ pub handed_work : {C : Type 0} (scripts : List (Option (List (Option VoteItem)))
 handed_work scripts P s t cs ds to g i before after e work handing =
     record { ready = handing.0; order = handed_order scripts P s t to g i before after e handing.1 work.order }
 
-pub put_and_handed_does : (scripts : List (Option (List (Option VoteItem)))) (P : List Handing → Type 0) (s t u : Core) (to : Option ℕ) (g : List ℕ) (e : Entry) (i : ℕ) (before : GroupState) → t ≡ put s g e → Keeps s t → i ≡ len_of s g → before ≡ state_of s g
-    → Does scripts P t u (λ f. hand_on f t to g i before (state_of t g) e) → Does scripts P s u (λ f. put_and_hand f s to g e)
+pub put_and_handed_does : (scripts : List (Option (List (Option VoteItem)))) (P : List Handing → Type 0) (s t u : Core) (to : Option ℕ) (g : List ℕ) (e : Entry) (i : ℕ) (before after : GroupState) → t ≡ put s g e → Keeps s t → i ≡ len_of s g → before ≡ state_of s g → after ≡ state_of t g
+    → Does scripts P t u (λ f. hand_on f t to g i before after e) → Does scripts P s u (λ f. put_and_hand f s to g e)
 unfolding put_and_hand
-put_and_handed_does scripts P s t u to g e i before putting keeps at old handing =
-    does_as scripts P s u (λ f. hand_on f t to g i before (state_of t g) e) (λ f. put_and_hand f s to g e) (λ f. rw (putting, at, old) refl)
-    (does_after scripts P s t u (λ f. hand_on f t to g i before (state_of t g) e) (keeps_follows s t keeps) handing)
+put_and_handed_does scripts P s t u to g e i before after putting keeps at old new handing =
+    does_as scripts P s u (λ f. hand_on f t to g i before after e) (λ f. put_and_hand f s to g e) (λ f. rw (new, putting, at, old) refl)
+    (does_after scripts P s t u (λ f. hand_on f t to g i before after e) (keeps_follows s t keeps) handing)
 
 each_sent_groups : (s : Core) (ns : List ℕ) (b : Body) → (fold (λ t n. sent t n b) s ns).groups ≡ s.groups
 unfolding sent send_on
@@ -97,30 +96,18 @@ sent_state s t ns b g sending = state_as s t g (ap (λ (x : Core). x.groups) sen
 pub sent_keeps_as : (s t : Core) (ns : List ℕ) (b : Body) → t ≡ send_all s ns b → Keeps s t
 sent_keeps_as s t ns b sending = keeps_as s (send_all s ns b) t sending (sent_all_keeps s ns b)
 
-pub sent_and_handed_does : (scripts : List (Option (List (Option VoteItem)))) (P : List Handing → Type 0) (s t u : Core) (g : List ℕ) (i : ℕ) (before after : GroupState) (e : Entry) → t ≡ send_all s (others s) (body.Entry s.views.view g i (least_acked s g) e)
-    → Does scripts P t u (λ f. hand_on f t (leader_of t g) g i before after e) → Does scripts P s u (λ f. sent_and_handed f s g i before after e)
-unfolding sent_and_handed
-sent_and_handed_does scripts P s t u g i before after e sending handing =
-    does_as scripts P s u (λ f. hand_on f t (leader_of t g) g i before after e) (λ f. sent_and_handed f s g i before after e) (λ f. rw sending refl)
-    (does_after scripts P s t u (λ f. hand_on f t (leader_of t g) g i before after e) (keeps_follows s t (sent_keeps_as s t _ _ sending)) handing)
-
 pub waiting_keeps : (s t u : Core) (g : List ℕ) (before after : GroupState) → Keeps s t → u ≡ new_members_wait t g before after → Keeps s u
 waiting_keeps s t u g before after forgets waiting = keeps_then s t u forgets (keeps_as t (new_members_wait t g before after) u waiting (new_members_keeps t g before after))
 
-pub append_finished_does : (scripts : List (Option (List (Option VoteItem)))) (P : List Handing → Type 0) (s t u w : Core) (g : List ℕ) (i : ℕ) (before after : GroupState) (e : Entry) → after ≡ state_of s g → Does scripts P s t (λ f. sent_and_handed f s g i before after e)
-    → u ≡ forget_least t g → Keeps t u → w ≡ new_members_wait u g before after → Does scripts P s w (λ f. append_finished f s g i before e)
-unfolding append_finished
-append_finished_does scripts P s t u w g i before after e new handing forgetting forgets waiting =
-    let behind : w ≡ new_members_wait (forget_least t g) g before after = waiting ∙ ap (λ (x : Core). new_members_wait x g before after) forgetting in
-    rw (← new)
-    (does_before scripts P s t w (λ f. sent_and_handed f s g i before after e) (λ x. new_members_wait (forget_least x g) g before after) handing behind (keeps_follows t w (waiting_keeps t u w g before after forgets waiting)))
-
-pub appended_does : (scripts : List (Option (List (Option VoteItem)))) (P : List Handing → Type 0) (s t u : Core) (g : List ℕ) (e : Entry) (i : ℕ) (before : GroupState) → t ≡ put s g e → Keeps s t → i ≡ len_of s g → before ≡ state_of s g
-    → Does scripts P t u (λ f. append_finished f t g i before e) → Does scripts P s u (λ f. appended f s g e)
-unfolding appended append_finished sent_and_handed
-appended_does scripts P s t u g e i before putting keeps at old finishing =
-    does_as scripts P s u (λ f. append_finished f t g i before e) (λ f. appended f s g e) (λ f. rw (putting, at, old) refl)
-    (does_after scripts P s t u (λ f. append_finished f t g i before e) (keeps_follows s t keeps) finishing)
+pub appended_does : (scripts : List (Option (List (Option VoteItem)))) (P : List Handing → Type 0) (s t u w x y : Core) (g : List ℕ) (e : Entry) (i : ℕ) (before after : GroupState) → t ≡ put s g e → Keeps s t → i ≡ len_of s g → before ≡ state_of s g → after ≡ state_of t g
+    → u ≡ send_all t (others t) (body.Entry t.views.view g i (least_acked t g) e) → Does scripts P u w (λ f. hand_on f u (leader_of u g) g i before after e)
+    → x ≡ forget_least w g → Keeps w x → y ≡ new_members_wait x g before after → Does scripts P s y (λ f. appended f s g e)
+unfolding appended
+appended_does scripts P s t u w x y g e i before after putting keeps at old new sending handing forgetting forgets waiting =
+    let behind : y ≡ new_members_wait (forget_least w g) g before after = waiting ∙ ap (λ (z : Core). new_members_wait z g before after) forgetting in
+    does_as scripts P s y (λ f. new_members_wait (forget_least (hand_on f u (leader_of u g) g i before after e) g) g before after) (λ f. appended f s g e) (λ f. rw (sending, new, putting, at, old) refl)
+    (does_after scripts P s u y (λ f. new_members_wait (forget_least (hand_on f u (leader_of u g) g i before after e) g) g before after) (keeps_follows s u (keeps_then s t u keeps (sent_keeps_as t u _ _ sending)))
+    (does_before scripts P u w y (λ f. hand_on f u (leader_of u g) g i before after e) (λ z. new_members_wait (forget_least z g) g before after) handing behind (keeps_follows w y (waiting_keeps w x y g before after forgets waiting))))
 
 -- where it fits, and where it does not
 pub appended_where : (scripts : List (Option (List (Option VoteItem)))) (P : List Handing → Type 0) (s t : Core) (g : List ℕ) (e : Entry) (fits : Bool) → fits ≡ true → Does scripts P s t (λ f. appended f s g e) → Does scripts P s t (λ f. append_if_fits f s g e fits)

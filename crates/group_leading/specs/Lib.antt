@@ -1,4 +1,3 @@
-pub mod Appending
 pub mod Closing
 pub mod Waiting
 pub mod Working

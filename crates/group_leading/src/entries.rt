@@ -1,14 +1,14 @@
 //! Appending to a list, and what follows.
-ghost use Rattle.std.specs.Prelude.{◌≡◌, OnOk, IsTrue};
+ghost use Rattle.std.specs.Prelude.{◌≡◌, OnOk, IfOk, IsTrue};
 ghost use Rattle.session_clients.specs.Clients.{KeepsScripts};
 ghost use Rattle.node_state.specs.declared.packet.Body.TheVariants as body;
 ghost use Rattle.proposal_core.specs.Fold.{joiners_fit};
-ghost use Rattle.node_state.specs.State.{state_of, fits_at_end, others, least_acked};
+ghost use Rattle.node_state.specs.State.{InNameOrder, len_of, state_of, fits_at_end, others, least_acked};
 ghost use Rattle.node_state.specs.Sending.{send_all};
-ghost use Rattle.node_state.specs.Leading.{put_and_hand, appended, append_if_fits};
+ghost use Rattle.node_state.specs.Leading.{put, put_and_hand, appended, append_if_fits};
 ghost use Rattle.node_state.specs.HandOn.{hand_on};
+ghost use Rattle.node_groups.specs.Keeps.{Keeps};
 ghost use Rattle.entry_delivery.specs.Doing.{RuleDoes};
-ghost use Rattle.group_leading.specs.Appending.{sent_and_handed, append_finished};
 ghost use Rattle.group_leading.specs.Working.{AtWork};
 
 use crate::waiting_members::new_members_wait;
@@ -59,61 +59,70 @@ fn send_entry_to_others(
     send_entry_to(core, alloc, nodes.as_slice(), group, place, stable, entry)
 }
 
-/// Hands on an entry that stands at this place, with the states before and after it.
+/// Where an entry was put: its place in the group's list, and the group's states before and behind it.
+#[derive(Drop)]
+struct Placed {
+    place: u32,
+    before: GroupState,
+    after: GroupState,
+}
+
+/// Puts an entry that fits at the end of the group's list.
+fn put_at_end(
+    core: &mut Core,
+    alloc: Global,
+    group: &Name,
+    entry: &Entry,
+) -> Result<Placed, NoMemory>
+    requires order { InNameOrder core.old.groups }
+    requires fits { IsTrue (fits_at_end core.old group.now entry.now) }
+    ensures rule { OnOk result (core.new ≡ put core.old group.now entry.now) }
+    ensures keeps { OnOk result (Keeps core.old core.new) }
+    ensures place { IfOk result (λ x. x.place ≡ len_of core.old group.now) }
+    ensures before { IfOk result (λ x. x.before ≡ state_of core.old group.now) }
+    ensures after { IfOk result (λ x. x.after ≡ state_of core.new group.now) }
+    ensures joiners { IfOk result (λ x. IsTrue (joiners_fit x.after)) }
+{
+    let place = len_of(core, group.bytes());
+    let before = state_of(core, alloc, group.bytes())?;
+    put(core, alloc, group, entry)?;
+    let after = state_of(core, alloc, group.bytes())?;
+    Ok(Placed {
+        place,
+        before,
+        after,
+    })
+}
+
+/// Hands on an entry that was put; ballots go to `to`, which may be unknown.
 fn hand<C: Callbacks>(
     core: &mut Core,
     clients: &mut Vec<C>,
     alloc: Global,
     to: Option<u8>,
     group: &Name,
-    place: u32,
     entry: &Entry,
-    before: &GroupState,
-    after: &GroupState,
+    placed: &Placed,
 ) -> Result<(), NoMemory>
     requires work { AtWork core.old clients.old.items }
-    requires joiners { IsTrue (joiners_fit after.now) }
-    requires state { after.now ≡ state_of core.old group.now }
+    requires joiners { IsTrue (joiners_fit placed.now.after) }
+    requires state { placed.now.after ≡ state_of core.old group.now }
     ensures work { OnOk result (AtWork core.new clients.new.items) }
     ensures scripts { OnOk result (KeepsScripts C.script clients.old.items clients.new.items) }
     ensures does { OnOk result (RuleDoes C.script C.stands_for clients.old.items clients.new.items
-        core.old core.new (λ f. hand_on f core.old to group.now place before.now after.now
-        entry.now)) }
+        core.old core.new (λ f. hand_on f core.old to group.now placed.now.place placed.now.before
+        placed.now.after entry.now)) }
 {
-    let voters = after.voters(alloc)?;
-    let n = NewEntry {
+    let voters = placed.after.voters(alloc)?;
+    let new = NewEntry {
         view: core.views.view,
         group,
-        place,
+        place: placed.place,
         entry,
-        after,
+        after: &placed.after,
         voters: voters.as_slice(),
     };
-    hand_on(core, clients, alloc, to, before, &n)
-}
-
-/// Hands on the entry that was put last, at this place. `before` is the group's state before it.
-fn hand_put<C: Callbacks>(
-    core: &mut Core,
-    clients: &mut Vec<C>,
-    alloc: Global,
-    to: Option<u8>,
-    group: &Name,
-    place: u32,
-    entry: &Entry,
-    before: &GroupState,
-) -> Result<(), NoMemory>
-    requires work { AtWork core.old clients.old.items }
-    ensures work { OnOk result (AtWork core.new clients.new.items) }
-    ensures scripts { OnOk result (KeepsScripts C.script clients.old.items clients.new.items) }
-    ensures does { OnOk result (RuleDoes C.script C.stands_for clients.old.items clients.new.items
-        core.old core.new (λ f. hand_on f core.old to group.now place before.now
-        (state_of core.old group.now) entry.now)) }
-{
-    let after = state_of(core, alloc, group.bytes())?;
-    hand(
-        core, clients, alloc, to, group, place, entry, before, &after,
-    )
+    hand_on(core, clients, alloc, to, &placed.before, &new)
 }
 
 /// Puts an entry that fits, and hands it on; ballots go to `to`, which may be unknown.
@@ -132,85 +141,12 @@ pub fn put_and_hand<C: Callbacks>(
     ensures does { OnOk result (RuleDoes C.script C.stands_for clients.old.items clients.new.items
         core.old core.new (λ f. put_and_hand f core.old to group.now entry.now)) }
 {
-    let place = len_of(core, group.bytes());
-    let before = state_of(core, alloc, group.bytes())?;
-    put(core, alloc, group, entry)?;
-    hand_put(core, clients, alloc, to, group, place, entry, &before)
+    let placed = put_at_end(core, alloc, group, entry)?;
+    hand(core, clients, alloc, to, group, entry, &placed)
 }
 
-/// Sends an entry to each other member, and hands it on; ballots go to the group's leader.
-fn send_and_hand<C: Callbacks>(
-    core: &mut Core,
-    clients: &mut Vec<C>,
-    alloc: Global,
-    group: &Name,
-    place: u32,
-    entry: &Entry,
-    before: &GroupState,
-    after: &GroupState,
-) -> Result<(), NoMemory>
-    requires work { AtWork core.old clients.old.items }
-    requires joiners { IsTrue (joiners_fit after.now) }
-    requires state { after.now ≡ state_of core.old group.now }
-    ensures work { OnOk result (AtWork core.new clients.new.items) }
-    ensures scripts { OnOk result (KeepsScripts C.script clients.old.items clients.new.items) }
-    ensures does { OnOk result (RuleDoes C.script C.stands_for clients.old.items clients.new.items
-        core.old core.new (λ f. sent_and_handed f core.old group.now place before.now after.now
-        entry.now)) }
-{
-    send_entry_to_others(core, alloc, group, place, entry)?;
-    let leader = leader_of(core, group.bytes());
-    hand(
-        core, clients, alloc, leader, group, place, entry, before, after,
-    )
-}
-
-/// Sends an entry that was put and hands it on; what all have is forgotten, and new members that failed or are gone
-/// wait. `after` is the group's state with the entry.
-fn send_and_settle<C: Callbacks>(
-    core: &mut Core,
-    clients: &mut Vec<C>,
-    alloc: Global,
-    group: &Name,
-    place: u32,
-    entry: &Entry,
-    before: &GroupState,
-    after: &GroupState,
-) -> Result<(), NoMemory>
-    requires work { AtWork core.old clients.old.items }
-    requires joiners { IsTrue (joiners_fit after.now) }
-    requires state { after.now ≡ state_of core.old group.now }
-    ensures work { OnOk result (AtWork core.new clients.new.items) }
-    ensures scripts { OnOk result (KeepsScripts C.script clients.old.items clients.new.items) }
-    ensures does { OnOk result (RuleDoes C.script C.stands_for clients.old.items clients.new.items
-        core.old core.new (λ f. append_finished f core.old group.now place before.now entry.now)) }
-{
-    send_and_hand(core, clients, alloc, group, place, entry, before, after)?;
-    forget_least(core, alloc, group)?;
-    new_members_wait(core, alloc, group, before, after)
-}
-
-/// What follows where the entry was put, with the group's state as it is now.
-fn finish_append<C: Callbacks>(
-    core: &mut Core,
-    clients: &mut Vec<C>,
-    alloc: Global,
-    group: &Name,
-    place: u32,
-    entry: &Entry,
-    before: &GroupState,
-) -> Result<(), NoMemory>
-    requires work { AtWork core.old clients.old.items }
-    ensures work { OnOk result (AtWork core.new clients.new.items) }
-    ensures scripts { OnOk result (KeepsScripts C.script clients.old.items clients.new.items) }
-    ensures does { OnOk result (RuleDoes C.script C.stands_for clients.old.items clients.new.items
-        core.old core.new (λ f. append_finished f core.old group.now place before.now entry.now)) }
-{
-    let after = state_of(core, alloc, group.bytes())?;
-    send_and_settle(core, clients, alloc, group, place, entry, before, &after)
-}
-
-/// Appends an entry that fits: it is put, sent to each other member and handed on; then what all have is forgotten.
+/// Appends an entry that fits: it is put, sent to each other member and handed on, with the ballots to the group's
+/// leader; then what all have is forgotten, and new members that failed or are gone wait.
 pub fn append<C: Callbacks>(
     core: &mut Core,
     clients: &mut Vec<C>,
@@ -225,10 +161,12 @@ pub fn append<C: Callbacks>(
     ensures does { OnOk result (RuleDoes C.script C.stands_for clients.old.items clients.new.items
         core.old core.new (λ f. appended f core.old group.now entry.now)) }
 {
-    let place = len_of(core, group.bytes());
-    let before = state_of(core, alloc, group.bytes())?;
-    put(core, alloc, group, entry)?;
-    finish_append(core, clients, alloc, group, place, entry, &before)
+    let placed = put_at_end(core, alloc, group, entry)?;
+    send_entry_to_others(core, alloc, group, placed.place, entry)?;
+    let leader = leader_of(core, group.bytes());
+    hand(core, clients, alloc, leader, group, entry, &placed)?;
+    forget_least(core, alloc, group)?;
+    new_members_wait(core, alloc, group, &placed.before, &placed.after)
 }
 
 /// Appends an entry where it fits.

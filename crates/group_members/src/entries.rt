@@ -47,25 +47,33 @@ fn follow(
     forget_below(core, alloc, group, stable)
 }
 
+/// An entry at its place of a group's list, as the group's leader sends it; all members hold the entries below `stable`.
+#[derive(Clone, Copy)]
+pub struct PlacedEntry<'a> {
+    pub group: &'a Name,
+    pub place: u32,
+    pub stable: u32,
+    pub entry: &'a Entry,
+}
+
 /// An entry that fits at the end of the list is put, handed on and acknowledged to the leader that sent it.
 fn put_next<C: Callbacks>(
     core: &mut Core,
     clients: &mut Vec<C>,
     alloc: Global,
     from: u8,
-    group: &Name,
-    stable: u32,
-    entry: &Entry,
+    placed: &PlacedEntry<'_>,
 ) -> Result<(), NoMemory>
     requires work { AtWork core.old clients.old.items }
-    requires fits { IsTrue (fits_at_end core.old group.now entry.now) }
+    requires fits { IsTrue (fits_at_end core.old placed.now.group.now placed.now.entry.now) }
     ensures work { OnOk result (AtWork core.new clients.new.items) }
     ensures scripts { OnOk result (KeepsScripts C.script clients.old.items clients.new.items) }
     ensures does { OnOk result (RuleDoes C.script C.stands_for clients.old.items clients.new.items
-        core.old core.new (λ f. entry_next f core.old from group.now stable entry.now true)) }
+        core.old core.new (λ f. entry_next f core.old from placed.now.group.now placed.now.stable
+        placed.now.entry.now true)) }
 {
-    put_and_hand(core, clients, alloc, Some(from), group, entry)?;
-    follow(core, alloc, from, group, stable)
+    put_and_hand(core, clients, alloc, Some(from), placed.group, placed.entry)?;
+    follow(core, alloc, from, placed.group, placed.stable)
 }
 
 /// An entry that is held already is acknowledged, and one beyond the end is not; what all members hold is
@@ -75,21 +83,19 @@ fn pass_over(
     core: &mut Core,
     alloc: Global,
     from: u8,
-    group: &Name,
-    place: u32,
-    stable: u32,
+    placed: &PlacedEntry<'_>,
 ) -> Result<(), NoMemory>
-    ensures { OnOk result (core.new ≡ entry_elsewhere core.old from group.now stable
-        (nat_lt place (len_of core.old group.now))) }
+    ensures { OnOk result (core.new ≡ entry_elsewhere core.old from placed.now.group.now
+        placed.now.stable (nat_lt placed.now.place (len_of core.old placed.now.group.now))) }
 {
-    if place < len_of(core, group.bytes()) {
-        acknowledge(core, alloc, from, group)?;
-        return forget_below(core, alloc, group, stable);
+    if placed.place < len_of(core, placed.group.bytes()) {
+        acknowledge(core, alloc, from, placed.group)?;
+        return forget_below(core, alloc, placed.group, placed.stable);
     }
-    if !holds(core, group.bytes()) {
+    if !holds(core, placed.group.bytes()) {
         return Ok(());
     }
-    forget_below(core, alloc, group, stable)
+    forget_below(core, alloc, placed.group, placed.stable)
 }
 
 /// ENTRY: at the end of the list it is put, handed on and acknowledged.
@@ -98,22 +104,20 @@ pub fn take_entry<C: Callbacks>(
     clients: &mut Vec<C>,
     alloc: Global,
     from: u8,
-    group: &Name,
-    place: u32,
-    stable: u32,
-    entry: &Entry,
+    placed: &PlacedEntry<'_>,
 ) -> Result<(), NoMemory>
     requires work { AtWork core.old clients.old.items }
     ensures work { OnOk result (AtWork core.new clients.new.items) }
     ensures scripts { OnOk result (KeepsScripts C.script clients.old.items clients.new.items) }
     ensures does { OnOk result (RuleDoes C.script C.stands_for clients.old.items clients.new.items
-        core.old core.new (λ f. take_entry f core.old from group.now place stable entry.now)) }
+        core.old core.new (λ f. take_entry f core.old from placed.now.group.now placed.now.place
+        placed.now.stable placed.now.entry.now)) }
 {
-    if place != len_of(core, group.bytes()) {
-        return pass_over(core, alloc, from, group, place, stable);
+    if placed.place != len_of(core, placed.group.bytes()) {
+        return pass_over(core, alloc, from, placed);
     }
-    if !fits_at_end(core, alloc, group.bytes(), entry) {
+    if !fits_at_end(core, alloc, placed.group.bytes(), placed.entry) {
         return Ok(());
     }
-    put_next(core, clients, alloc, from, group, stable, entry)
+    put_next(core, clients, alloc, from, placed)
 }

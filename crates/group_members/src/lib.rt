@@ -5,6 +5,6 @@ mod entries;
 mod names;
 mod tells;
 
-pub use entries::take_entry;
+pub use entries::{PlacedEntry, take_entry};
 pub use names::{send_name, take_lookup, take_name};
 pub use tells::take_tell;

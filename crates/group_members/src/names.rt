@@ -115,8 +115,8 @@ fn refuse_requests<C: Callbacks>(
 /// Keeps the leader of the group, and sends it the outstanding requests.
 #[tactic(auto, using(crate::proofs::NameLaws::requests_led))]
 fn know_leader(core: &mut Core, alloc: Global, group: &Name, leader: u8) -> Result<(), NoMemory>
-    ensures rule { OnOk result (core.new ≡ fold send_request (set_leader core.old group.now leader)
-        (requests_of core.old group.now)) }
+    ensures rule { OnOk result (core.new ≡ fold send_request
+        (set_leader core.old group.now leader) (requests_of core.old group.now)) }
     ensures keeps { OnOk result (Keeps core.old core.new) }
 {
     set_leader(core, alloc, group, leader)?;

@@ -20,7 +20,7 @@ use Rattle.node_state.specs.Leading.{with_waiting, with_tally, closes}
 use Rattle.node_state.specs.Following.{tally_failed, wait_gone, marked, gone_present, gone_of, take_gone}
 use Rattle.node_groups.specs.Keeps.{Keeps}
 use Rattle.node_state.proofs.NameOrder.{after_less, none_after}
-use Rattle.node_groups.proofs.TallyLaws.{changed_in, same_rows}
+use Rattle.node_groups.proofs.RowLaws.{changed_in, same_rows}
 use Rattle.node_groups.proofs.KeepLaws.{keeps_itself, keeps_as, led_keeps}
 use Rattle.entry_delivery.specs.Received.{Handing}
 use Rattle.entry_delivery.specs.Doing.{Does}

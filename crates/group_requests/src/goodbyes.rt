@@ -2,7 +2,7 @@
 ghost use Rattle.std.specs.Prelude.{◌≡◌, OnOk, false};
 ghost use Rattle.session_clients.specs.Clients.{KeepsScripts};
 ghost use Rattle.rsct_packet.specs.Providers.{among};
-ghost use Rattle.proposal_core.specs.Fold.{joiners_in, present};
+ghost use Rattle.proposal_core.specs.Fold.{present};
 ghost use Rattle.entry_delivery.specs.Doing.{RuleDoes};
 ghost use Rattle.node_groups.specs.Keeps.{Keeps};
 ghost use Rattle.group_leading.specs.Working.{AtWork};
@@ -16,7 +16,7 @@ use node_groups::{
     drop_join, fail_voter, held_state, leads, mark_gone, row_of, tally_of, wait_failure,
 };
 use node_state::Core;
-use proposal_core::{Cause, Proposal, Running};
+use proposal_core::Cause;
 use rsct_packet::{Name, NoMemory, ProviderId, is_among};
 use std::alloc::Global;
 
@@ -30,19 +30,6 @@ fn is_member(core: &Core, group: &[u8], provider: ProviderId) -> bool
     }
 }
 
-/// The running joiners.
-fn joiners(running: &Option<Running>) -> &[ProviderId]
-    ensures { result.now ≡ joiners_in running.now }
-{
-    match running {
-        None => &[],
-        Some(run) => match &run.proposal {
-            Proposal::Join { ps, .. } => ps.as_slice(),
-            _ => &[],
-        },
-    }
-}
-
 /// Is the provider a member of the group, or a running joiner?
 #[tactic(auto, using(proposal_core::proofs::FoldLaws::among_both))]
 fn is_present(core: &Core, group: &[u8], provider: ProviderId) -> bool
@@ -50,10 +37,7 @@ fn is_present(core: &Core, group: &[u8], provider: ProviderId) -> bool
 {
     match held_state(core, group) {
         None => false,
-        Some(state) => {
-            is_among(state.members.as_slice(), provider)
-                || is_among(joiners(&state.running), provider)
-        }
+        Some(state) => state.is_present(provider),
     }
 }
 

@@ -6,14 +6,13 @@ ghost use Rattle.group_leading.specs.Working.{AtWork};
 ghost use Rattle.node_state.specs.Following.{tell_again, decide_new, is_group_refused, take_request};
 
 use client_callbacks::{Callbacks, Why};
-use group_attr::Phases;
 use group_deciding::{decide, tell};
 use group_members::send_name;
 use node_groups::{decision_of, held_count, holds, set_leader};
 use node_sending::{is_fixed, send};
 use node_state::Core;
-use proposal_core::Proposal;
 use rsct_packet::{Name, NoMemory, ProviderId};
+use session_state::Request;
 use std::alloc::Global;
 
 /// How many groups a view has.
@@ -53,23 +52,17 @@ fn decide_new<C: Callbacks>(
     core: &mut Core,
     clients: &mut Vec<C>,
     alloc: Global,
-    group: &Name,
-    provider: ProviderId,
-    request: u32,
-    phases: Phases,
-    proposal: &Proposal,
+    asked: &Request,
 ) -> Result<(), NoMemory>
     requires work { AtWork core.old clients.old.items }
     ensures work { OnOk result (AtWork core.new clients.new.items) }
     ensures scripts { OnOk result (KeepsScripts C.script clients.old.items clients.new.items) }
     ensures does { OnOk result (RuleDoes C.script C.stands_for clients.old.items clients.new.items
-        core.old core.new (λ f. decide_new f core.old group.now provider request phases
-        proposal.now)) }
+        core.old core.new (λ f. decide_new f core.old asked.now.group asked.now.p asked.now.r
+        asked.now.phases asked.now.proposal)) }
 {
-    set_leader(core, alloc, group, core.views.me)?;
-    decide(
-        core, clients, alloc, group, provider, request, phases, proposal,
-    )
+    set_leader(core, alloc, &asked.group, core.views.me)?;
+    decide(core, clients, alloc, asked)
 }
 
 /// REQUEST: a request is decided, or told again; it is dropped where a later one was decided.
@@ -78,34 +71,26 @@ pub fn take_request<C: Callbacks>(
     clients: &mut Vec<C>,
     alloc: Global,
     from: u8,
-    group: &Name,
-    provider: ProviderId,
-    request: u32,
-    phases: Phases,
-    proposal: &Proposal,
+    asked: &Request,
 ) -> Result<(), NoMemory>
     requires work { AtWork core.old clients.old.items }
     ensures work { OnOk result (AtWork core.new clients.new.items) }
     ensures scripts { OnOk result (KeepsScripts C.script clients.old.items clients.new.items) }
     ensures does { OnOk result (RuleDoes C.script C.stands_for clients.old.items clients.new.items
-        core.old core.new (λ f. take_request f core.old from group.now provider request phases
-        proposal.now)) }
+        core.old core.new (λ f. take_request f core.old from asked.now.group asked.now.p
+        asked.now.r asked.now.phases asked.now.proposal)) }
 {
-    if is_group_refused(core, group.bytes()) {
-        return send_name(core, alloc, from, group, 0);
+    if is_group_refused(core, asked.group.bytes()) {
+        return send_name(core, alloc, from, &asked.group, 0);
     }
-    let Some(last) = decision_of(core, group.bytes(), provider) else {
-        return decide_new(
-            core, clients, alloc, group, provider, request, phases, proposal,
-        );
+    let Some(last) = decision_of(core, asked.group.bytes(), asked.p) else {
+        return decide_new(core, clients, alloc, asked);
     };
-    if request < last.r {
+    if asked.r < last.r {
         return Ok(());
     }
-    if request == last.r {
-        return tell_again(core, alloc, group, provider, request, last.why);
+    if asked.r == last.r {
+        return tell_again(core, alloc, &asked.group, asked.p, asked.r, last.why);
     }
-    decide_new(
-        core, clients, alloc, group, provider, request, phases, proposal,
-    )
+    decide_new(core, clients, alloc, asked)
 }

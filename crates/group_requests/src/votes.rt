@@ -1,5 +1,5 @@
 //! Ballots that come to the leader of a group.
-ghost use Rattle.std.specs.Prelude.{◌≡◌, ◌&&◌, IfOk, OnOk, option_copied};
+ghost use Rattle.std.specs.Prelude.{◌≡◌, ◌&&◌, OnOk};
 ghost use Rattle.session_clients.specs.Clients.{KeepsScripts};
 ghost use Rattle.proposal_core.specs.Fold.{runs};
 ghost use Rattle.entry_delivery.specs.Doing.{Does, RuleDoes};
@@ -7,23 +7,13 @@ ghost use Rattle.group_leading.specs.Working.{AtWork};
 ghost use Rattle.node_state.specs.State.{leads, state_of};
 ghost use Rattle.node_state.specs.Following.{take_vote};
 
-use client_callbacks::Callbacks;
+use client_callbacks::{Callbacks, Filled};
 use group_leading::close;
 use node_groups::{cast_vote, is_running, leads};
+use node_sending::FilledBallot;
 use node_state::Core;
-use proposal_core::Vote;
-use rsct_packet::{Name, NoMemory, ProtoId, ProviderId, Text};
+use rsct_packet::{NoMemory, ProtoId};
 use std::alloc::Global;
-
-/// A copy of a text, or none.
-fn copied(alloc: Global, text: Option<&Text>) -> Result<Option<Text>, NoMemory>
-    ensures { IfOk result (λ t. t ≡ option_copied text.entry) }
-{
-    match text {
-        None => Ok(None),
-        Some(text) => Ok(Some(text.copy(alloc)?)),
-    }
-}
 
 /// Does the node lead the group, in which this phase runs?
 fn takes_votes(core: &Core, group: &[u8], proto: ProtoId, phase: u16) -> bool
@@ -38,26 +28,32 @@ pub fn take_vote<C: Callbacks>(
     core: &mut Core,
     clients: &mut Vec<C>,
     alloc: Global,
-    group: &Name,
-    proto: ProtoId,
-    phase: u16,
-    provider: ProviderId,
-    vote: Vote,
-    value: Option<&Text>,
-    message: Option<&Text>,
+    ballot: &FilledBallot<'_>,
 ) -> Result<(), NoMemory>
     requires work { AtWork core.old clients.old.items }
     ensures work { OnOk result (AtWork core.new clients.new.items) }
     ensures scripts { OnOk result (KeepsScripts C.script clients.old.items clients.new.items) }
     ensures does { OnOk result (RuleDoes C.script C.stands_for clients.old.items clients.new.items
-        core.old core.new (λ f. take_vote f core.old group.now proto phase provider vote
-        (option_copied value.entry) (option_copied message.entry))) }
+        core.old core.new (λ f. take_vote f core.old ballot.now.group.now ballot.now.proto
+        ballot.now.phase ballot.now.provider ballot.now.filled.now.vote
+        ballot.now.filled.now.value ballot.now.filled.now.message)) }
 {
-    if !takes_votes(core, group.bytes(), proto, phase) {
+    if !takes_votes(core, ballot.group.bytes(), ballot.proto, ballot.phase) {
         return Ok(());
     }
-    let value = copied(alloc, value)?;
-    let message = copied(alloc, message)?;
-    cast_vote(core, alloc, group, provider, vote, value, message)?;
-    close(core, clients, alloc, group)
+    let Filled {
+        vote,
+        value,
+        message,
+    } = ballot.filled.copy(alloc)?;
+    cast_vote(
+        core,
+        alloc,
+        ballot.group,
+        ballot.provider,
+        vote,
+        value,
+        message,
+    )?;
+    close(core, clients, alloc, ballot.group)
 }

@@ -242,7 +242,8 @@ fn help_or_version(about: Option<CommandName>, words: &[String]) -> Option<Comma
 /// `daemon` with the words after it.
 #[tactic(auto, unfolding(crate::specs::Commands::daemon_after))]
 fn daemon_after(alloc: Global, words: &[String]) -> Result<Option<Command>, NoMemory>
-    ensures value { IfOk result (λ command. command ≡ daemon_after (map string_bytes words.now)) }
+    ensures value { IfOk result
+        (λ command. command ≡ daemon_after (map string_bytes words.now)) }
     ensures within { IfOk result (λ command. IfSome command IsWithin) }
 {
     let Some(split) = take_flag(alloc, words)? else {

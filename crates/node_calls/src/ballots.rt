@@ -20,7 +20,8 @@ use std::alloc::Global;
 /// Records a kept ballot, where it is filled.
 #[tactic(auto, unfolding(node_state::specs::Calls::record_ballot, node_state::specs::State::recorded), using(crate::proofs::CallLaws::ballot_recorded_keeps))]
 fn record_ballot(core: &mut Core, alloc: Global, kept: &KeptBallot) -> Result<(), NoMemory>
-    ensures rule { OnOk result (core.new ≡ record_ballot core.old kept.now kept.now.ballot.filled) }
+    ensures rule { OnOk result
+        (core.new ≡ record_ballot core.old kept.now kept.now.ballot.filled) }
     ensures keeps { OnOk result (Stays core.old core.new) }
 {
     match kept.ballot.filled() {

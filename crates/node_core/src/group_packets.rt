@@ -16,17 +16,16 @@ ghost use Rattle.node_state.specs.Following.{take_lookup, take_name, take_reques
 ghost use Rattle.node_state.specs.Step.{is_used, used_if};
 ghost use Rattle.packet_codec.specs.InPlace.{packet_in};
 
-use client_callbacks::{Callbacks, Why};
-use group_attr::Phases;
-use group_codec::{EntryRef, ProposalRef};
-use group_members::{take_entry, take_lookup, take_name, take_tell};
+use client_callbacks::{Callbacks, Filled};
+use group_members::{PlacedEntry, take_entry, take_lookup, take_name, take_tell};
 use group_requests::{take_ack, take_gone, take_request, take_vote};
-use node_sending::is_frozen;
+use node_sending::{FilledBallot, is_frozen};
 use node_state::Core;
 use packet_bodies::{Ack, Gone, GroupRef, Leader};
-use packet_codec::PacketRef;
-use proposal_core::{Vote, optional_text_of};
-use rsct_packet::{Member, Name, NoMemory, ProtoId, ProviderId, ViewId};
+use packet_codec::{PacketRef, PlacedRef, RequestRef, TellRef, VoteRef};
+use proposal_core::optional_text_of;
+use rsct_packet::{Member, Name, NoMemory, ViewId};
+use session_state::Request;
 use std::alloc::Global;
 
 /// Is the node a member, in this incarnation?
@@ -106,38 +105,30 @@ pub fn take_request_packet<C: Callbacks>(
     clients: &mut Vec<C>,
     alloc: Global,
     packet: &PacketRef<'_>,
-    group: &GroupRef<'_>,
-    by: ProviderId,
-    request: u32,
-    phases: Phases,
-    proposal: &ProposalRef<'_>,
+    body: &RequestRef<'_>,
 ) -> Result<(), NoMemory>
-    requires name { IsName group.now.name }
-    requires proposal { IsProposal (proposal_in proposal.now) }
+    requires name { IsName body.now.group.name }
+    requires proposal { IsProposal (proposal_in body.now.proposal) }
     requires work { AtWork core.old clients.old.items }
     ensures work { OnOk result (AtWork core.new clients.new.items) }
     ensures scripts { OnOk result (KeepsScripts C.script clients.old.items clients.new.items) }
     ensures does { OnOk result (RuleDoes C.script C.stands_for clients.old.items clients.new.items
         core.old core.new (λ f. used_if core.old (take_request f core.old packet.now.from
-        group.now.name by request phases (proposal_in proposal.now))
-        (is_used core.old (packet_in packet.now) group.now.view))) }
+        body.now.group.name body.now.provider body.now.request body.now.phases
+        (proposal_in body.now.proposal))
+        (is_used core.old (packet_in packet.now) body.now.group.view))) }
 {
-    if !is_used(core, packet, group.view()) {
+    if !is_used(core, packet, body.group.view()) {
         return Ok(());
     }
-    let name = name_of(alloc, group)?;
-    let own = proposal.own(alloc)?;
-    take_request(
-        core,
-        clients,
-        alloc,
-        packet.from,
-        &name,
-        by,
-        request,
-        phases,
-        &own,
-    )
+    let asked = Request {
+        p: body.provider,
+        r: body.request,
+        group: name_of(alloc, &body.group)?,
+        phases: body.phases,
+        proposal: body.proposal.own(alloc)?,
+    };
+    take_request(core, clients, alloc, packet.from, &asked)
 }
 
 /// TELL.
@@ -146,22 +137,20 @@ pub fn take_tell_packet<C: Callbacks>(
     clients: &mut Vec<C>,
     alloc: Global,
     packet: &PacketRef<'_>,
-    group: &GroupRef<'_>,
-    by: ProviderId,
-    request: u32,
-    why: Why,
+    body: &TellRef<'_>,
 ) -> Result<(), NoMemory>
     requires work { AtWork core.old clients.old.items }
     ensures work { OnOk result (AtWork core.new clients.new.items) }
     ensures scripts { OnOk result (KeepsScripts C.script clients.old.items clients.new.items) }
     ensures does { OnOk result (RuleDoes C.script C.stands_for clients.old.items clients.new.items
-        core.old core.new (λ f. used_if core.old (take_tell core.old by request why)
-        (is_used core.old (packet_in packet.now) group.now.view))) }
+        core.old core.new (λ f. used_if core.old
+        (take_tell core.old body.now.provider body.now.request body.now.why)
+        (is_used core.old (packet_in packet.now) body.now.group.view))) }
 {
-    if !is_used(core, packet, group.view()) {
+    if !is_used(core, packet, body.group.view()) {
         return Ok(());
     }
-    take_tell(core, clients, alloc, by, request, why)
+    take_tell(core, clients, alloc, body.provider, body.request, body.why)
 }
 
 /// ENTRY.
@@ -170,36 +159,30 @@ pub fn take_entry_packet<C: Callbacks>(
     clients: &mut Vec<C>,
     alloc: Global,
     packet: &PacketRef<'_>,
-    group: &GroupRef<'_>,
-    place: u32,
-    stable: u32,
-    entry: &EntryRef<'_>,
+    body: &PlacedRef<'_>,
 ) -> Result<(), NoMemory>
-    requires name { IsName group.now.name }
-    requires entry { IsEntry (entry_in entry.now) }
+    requires name { IsName body.now.group.name }
+    requires entry { IsEntry (entry_in body.now.entry) }
     requires work { AtWork core.old clients.old.items }
     ensures work { OnOk result (AtWork core.new clients.new.items) }
     ensures scripts { OnOk result (KeepsScripts C.script clients.old.items clients.new.items) }
     ensures does { OnOk result (RuleDoes C.script C.stands_for clients.old.items clients.new.items
         core.old core.new (λ f. used_if core.old (take_entry f core.old packet.now.from
-        group.now.name place stable (entry_in entry.now))
-        (is_used core.old (packet_in packet.now) group.now.view))) }
+        body.now.group.name body.now.place body.now.stable (entry_in body.now.entry))
+        (is_used core.old (packet_in packet.now) body.now.group.view))) }
 {
-    if !is_used(core, packet, group.view()) {
+    if !is_used(core, packet, body.group.view()) {
         return Ok(());
     }
-    let name = name_of(alloc, group)?;
-    let own = entry.own(alloc)?;
-    take_entry(
-        core,
-        clients,
-        alloc,
-        packet.from,
-        &name,
-        place,
-        stable,
-        &own,
-    )
+    let name = name_of(alloc, &body.group)?;
+    let own = body.entry.own(alloc)?;
+    let placed = PlacedEntry {
+        group: &name,
+        place: body.place,
+        stable: body.stable,
+        entry: &own,
+    };
+    take_entry(core, clients, alloc, packet.from, &placed)
 }
 
 /// ACK.
@@ -229,43 +212,37 @@ pub fn take_vote_packet<C: Callbacks>(
     clients: &mut Vec<C>,
     alloc: Global,
     packet: &PacketRef<'_>,
-    group: &GroupRef<'_>,
-    proto: ProtoId,
-    phase: u16,
-    by: ProviderId,
-    vote: Vote,
-    value: Option<&[u8]>,
-    message: Option<&[u8]>,
+    body: &VoteRef<'_>,
 ) -> Result<(), NoMemory>
-    requires name { IsName group.now.name }
-    requires value { OptionFits AreShort (option_copied value) }
-    requires message { OptionFits AreShort (option_copied message) }
+    requires name { IsName body.now.group.name }
+    requires value { OptionFits AreShort (option_copied body.now.value) }
+    requires message { OptionFits AreShort (option_copied body.now.message) }
     requires work { AtWork core.old clients.old.items }
     ensures work { OnOk result (AtWork core.new clients.new.items) }
     ensures scripts { OnOk result (KeepsScripts C.script clients.old.items clients.new.items) }
     ensures does { OnOk result (RuleDoes C.script C.stands_for clients.old.items clients.new.items
-        core.old core.new (λ f. used_if core.old (take_vote f core.old group.now.name proto phase by
-        vote (option_copied value.entry) (option_copied message.entry))
-        (is_used core.old (packet_in packet.now) group.now.view))) }
+        core.old core.new (λ f. used_if core.old (take_vote f core.old body.now.group.name
+        body.now.proto body.now.phase body.now.provider body.now.vote
+        (option_copied body.now.value) (option_copied body.now.message))
+        (is_used core.old (packet_in packet.now) body.now.group.view))) }
 {
-    if !is_used(core, packet, group.view()) {
+    if !is_used(core, packet, body.group.view()) {
         return Ok(());
     }
-    let name = name_of(alloc, group)?;
-    let value = optional_text_of(alloc, value)?;
-    let message = optional_text_of(alloc, message)?;
-    take_vote(
-        core,
-        clients,
-        alloc,
-        &name,
-        proto,
-        phase,
-        by,
-        vote,
-        value.as_ref(),
-        message.as_ref(),
-    )
+    let name = name_of(alloc, &body.group)?;
+    let filled = Filled {
+        vote: body.vote,
+        value: optional_text_of(alloc, body.value)?,
+        message: optional_text_of(alloc, body.message)?,
+    };
+    let ballot = FilledBallot {
+        group: &name,
+        proto: body.proto,
+        phase: body.phase,
+        provider: body.provider,
+        filled: &filled,
+    };
+    take_vote(core, clients, alloc, &ballot)
 }
 
 /// GONE.

@@ -90,52 +90,20 @@ fn take_body<C: Callbacks>(
             )
         }
         BodyRef::Report(rows) => take_report_packet(core, alloc, rows),
-        BodyRef::Prepare { view, mask } => take_prepare(core, clients, alloc, packet, *view, *mask),
-        BodyRef::Answer { view, answer } => take_answer(
-            core, clients, alloc, packet, *view, answer,
-        ),
-        BodyRef::Refuse { view, number } => {
-            take_refuse(core, clients, alloc, packet, *view, *number)
-        }
+        BodyRef::Prepare(body) => take_prepare(core, clients, alloc, packet, body),
+        BodyRef::Answer(body) => take_answer(core, clients, alloc, packet, body),
+        BodyRef::Refuse(body) => take_refuse(core, clients, alloc, packet, body),
         BodyRef::Install(install) => take_install(core, clients, alloc, packet, install),
         BodyRef::Taken(view) => take_taken(core, clients, alloc, packet, *view),
         BodyRef::Lookup(group) => take_lookup_packet(core, alloc, packet, group),
-        BodyRef::Name(x) => take_name_packet(core, clients, alloc, packet, x),
-        BodyRef::Request {
-            group,
-            p: by,
-            r,
-            phases,
-            proposal,
-        } => take_request_packet(
-            core, clients, alloc, packet, group, *by, *r, *phases, proposal,
-        ),
-        BodyRef::Tell {
-            group,
-            p: by,
-            r,
-            why,
-        } => take_tell_packet(core, clients, alloc, packet, group, *by, *r, *why),
-        BodyRef::Entry {
-            group,
-            place,
-            stable,
-            entry,
-        } => take_entry_packet(core, clients, alloc, packet, group, *place, *stable, entry),
-        BodyRef::Ack(x) => take_ack_packet(core, alloc, packet, x),
-        BodyRef::Vote {
-            group,
-            proto,
-            phase,
-            p: by,
-            vote,
-            value,
-            message,
-        } => take_vote_packet(
-            core, clients, alloc, packet, group, *proto, *phase, *by, *vote, *value, *message,
-        ),
-        BodyRef::Gone(x) => take_gone_packet(core, clients, alloc, packet, x),
-        BodyRef::Query(q) => take_query(core, alloc, packet, q),
+        BodyRef::Name(body) => take_name_packet(core, clients, alloc, packet, body),
+        BodyRef::Request(body) => take_request_packet(core, clients, alloc, packet, body),
+        BodyRef::Tell(body) => take_tell_packet(core, clients, alloc, packet, body),
+        BodyRef::Entry(body) => take_entry_packet(core, clients, alloc, packet, body),
+        BodyRef::Ack(body) => take_ack_packet(core, alloc, packet, body),
+        BodyRef::Vote(body) => take_vote_packet(core, clients, alloc, packet, body),
+        BodyRef::Gone(body) => take_gone_packet(core, clients, alloc, packet, body),
+        BodyRef::Query(query) => take_query(core, alloc, packet, query),
         BodyRef::Reply(_) => Ok(()),
     }
 }

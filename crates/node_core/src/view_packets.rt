@@ -10,8 +10,9 @@ ghost use Rattle.node_state.specs.Step.{view_rule};
 use client_callbacks::Callbacks;
 use node_state::Core;
 use node_views::take_view;
-use packet_codec::PacketRef;
-use rsct_packet::{Mask, NoMemory, ViewId};
+use packet_bodies::{Prepare, Refuse};
+use packet_codec::{Answered, PacketRef};
+use rsct_packet::{NoMemory, ViewId};
 use std::alloc::Global;
 use view_core::ViewEvent;
 use view_exchange::{AnswerRef, InstallRef};
@@ -23,21 +24,20 @@ pub fn take_prepare<C: Callbacks>(
     clients: &mut Vec<C>,
     alloc: Global,
     packet: &PacketRef<'_>,
-    view: ViewId,
-    mask: Mask,
+    prepare: &Prepare,
 ) -> Result<(), NoMemory>
     requires work { AtWork core.old clients.old.items }
     ensures work { OnOk result (AtWork core.new clients.new.items) }
     ensures scripts { OnOk result (KeepsScripts C.script clients.old.items clients.new.items) }
     ensures does { OnOk result (RuleDoes C.script C.stands_for clients.old.items clients.new.items
         core.old core.new (λ f. view_rule f core.old packet.now.from packet.now.inc
-        (view_packet.Prepare view mask))) }
+        (view_packet.Prepare prepare.now.view prepare.now.mask))) }
 {
     let event = ViewEvent::Prepare {
         from: packet.from,
         inc: packet.inc,
-        view,
-        mask,
+        view: prepare.view,
+        mask: prepare.mask,
     };
     take_view(core, clients, alloc, event)
 }
@@ -49,23 +49,23 @@ pub fn take_answer<C: Callbacks>(
     clients: &mut Vec<C>,
     alloc: Global,
     packet: &PacketRef<'_>,
-    view: ViewId,
-    answer: &AnswerRef<'_>,
+    answered: &Answered<'_>,
 ) -> Result<(), NoMemory>
     requires work { AtWork core.old clients.old.items }
     ensures work { OnOk result (AtWork core.new clients.new.items) }
     ensures scripts { OnOk result (KeepsScripts C.script clients.old.items clients.new.items) }
     ensures does { OnOk result (RuleDoes C.script C.stands_for clients.old.items clients.new.items
         core.old core.new (λ f. view_rule f core.old packet.now.from packet.now.inc
-        (view_packet.Answer view answer.now.view answer.now.parts))) }
+        (view_packet.Answer answered.now.view answered.now.answer.view
+        answered.now.answer.parts))) }
 {
     let event = ViewEvent::Answer {
         from: packet.from,
         inc: packet.inc,
-        view,
+        view: answered.view,
         answer: AnswerRef {
-            view: answer.view,
-            parts: answer.parts(),
+            view: answered.answer.view,
+            parts: answered.answer.parts(),
         },
     };
     take_view(core, clients, alloc, event)
@@ -78,17 +78,20 @@ pub fn take_refuse<C: Callbacks>(
     clients: &mut Vec<C>,
     alloc: Global,
     packet: &PacketRef<'_>,
-    view: ViewId,
-    number: u32,
+    refuse: &Refuse,
 ) -> Result<(), NoMemory>
     requires work { AtWork core.old clients.old.items }
     ensures work { OnOk result (AtWork core.new clients.new.items) }
     ensures scripts { OnOk result (KeepsScripts C.script clients.old.items clients.new.items) }
     ensures does { OnOk result (RuleDoes C.script C.stands_for clients.old.items clients.new.items
         core.old core.new (λ f. view_rule f core.old packet.now.from packet.now.inc
-        (view_packet.Refuse view number))) }
+        (view_packet.Refuse refuse.now.view refuse.now.number))) }
 {
-    take_view(core, clients, alloc, ViewEvent::Refuse { view, number })
+    let event = ViewEvent::Refuse {
+        view: refuse.view,
+        number: refuse.number,
+    };
+    take_view(core, clients, alloc, event)
 }
 
 /// INSTALL.

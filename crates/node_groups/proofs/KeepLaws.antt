@@ -20,6 +20,8 @@ use Rattle.node_state.specs.Leading.{put}
 use Rattle.node_state.specs.Handed.{is_handed, handed_in, state_along}
 use Rattle.node_state.proofs.AlongLaws.{LeavesStates, state_as, along_records, along_same, along_itself, along_then}
 use Rattle.node_groups.specs.Keeps.{Stays, Keeps}
+use Rattle.node_groups.specs.Places.{row_reached}
+use Rattle.node_groups.proofs.RowLaws.{row_written, reached_found}
 use Rattle.node_state.proofs.NameOrder.{text_self, text_other, cases_text, KeepsName, order_with, row_here, row_there}
 
 pub keeps_itself : (s : Core) → Keeps s s
@@ -57,32 +59,43 @@ keeps_as s t u e k = subst (λ (x : Core). Keeps s x) (sym e) k
 abbrev pub KeepsState : (GroupRow → GroupRow) → Type 0
 KeepsState f = (x : GroupRow) → state_in (f x).list ≡ state_in x.list
 
-state_with : (s : Core) (g : List ℕ) (f : GroupRow → GroupRow) → KeepsName f → KeepsState f → InNameOrder s.groups → (h : List ℕ) → state_of (with_row s g f) h ≡ state_of s h
+state_with : (s : Core) (g : List ℕ) (f : GroupRow → GroupRow) → KeepsName f → InNameOrder s.groups → state_in (f (row_of s g)).list ≡ state_in (row_of s g).list → (h : List ℕ) → state_of (with_row s g f) h ≡ state_of s h
 unfolding state_of list_of
-state_with s g f keeps states o h = by (cases_text g h)
+state_with s g f keeps o state h = by (cases_text g h)
   where
     by : (g ≡ h) ⊎ (g ≡ h → ⊥) → state_in (row_of (with_row s g f) h).list ≡ state_in (row_of s h).list
     by (inl e) =
         subst (λ z. state_in (row_of (with_row s g f) z).list ≡ state_in (row_of s z).list) e
-        (ap (λ (row : GroupRow). state_in row.list) (row_here g f keeps s o) ∙ states (row_of s g))
+        (ap (λ (row : GroupRow). state_in row.list) (row_here g f keeps s o) ∙ state)
     by (inr ne) = ap (λ (row : GroupRow). state_in row.list) (row_there g f keeps s h ne)
 
-pub row_keeps : (s : Core) (g : List ℕ) (f : GroupRow → GroupRow) → KeepsName f → KeepsState f → Keeps s (with_row s g f)
+-- a change that keeps the state of the group's row
+row_itself_keeps : (s : Core) (g : List ℕ) (f : GroupRow → GroupRow) → KeepsName f → (InNameOrder s.groups → state_in (f (row_of s g)).list ≡ state_in (row_of s g).list) → Keeps s (with_row s g f)
 unfolding with_row
-row_keeps s g f keeps states =
+row_itself_keeps s g f keeps state =
     record {
       records = omega arith;
       sessions = (refl, refl);
       order = λ o. order_with g f keeps s.groups o;
       handed = refl;
       owners = owners_themselves s.sessions;
-      along = record { records = []; more = sym (append-nil s.records); order = λ o. order_with g f keeps s.groups o; states = λ o h. state_with s g f keeps states o h };
+      along = record { records = []; more = sym (append-nil s.records); order = λ o. order_with g f keeps s.groups o; states = λ o h. state_with s g f keeps o (state o) h };
     }
 
--- the rows with one changed that keeps its name and its state
-pub keeps_rows : (s : Core) (rows : List GroupRow) (g : List ℕ) (f : GroupRow → GroupRow) → rows ≡ rows_with g f s.groups → KeepsName f → KeepsState f → Keeps s (record s { groups = rows })
-unfolding with_row
-keeps_rows s rows g f e keeps states = subst (λ (xs : List GroupRow). Keeps s (record s { groups = xs })) (sym e) (row_keeps s g f keeps states)
+pub row_keeps : (s : Core) (g : List ℕ) (f : GroupRow → GroupRow) → KeepsName f → KeepsState f → Keeps s (with_row s g f)
+row_keeps s g f keeps states = row_itself_keeps s g f keeps (λ o. states (row_of s g))
+
+-- a row that was lent, and has its name and its state still
+pub lent_keeps : (s : Core) (g : List ℕ) (w : GroupRow) → w.name ≡ (row_reached g s.groups).name → state_in w.list ≡ state_in (row_reached g s.groups).list → Keeps s (record s { groups = rows_with g (λ _. w) s.groups })
+unfolding with_row row_of
+lent_keeps s g w name state =
+    let f : GroupRow → GroupRow = λ row. record { name = row.name; list = w.list; leader = w.leader; led = w.led } in
+    let same : w ≡ f (row_reached g s.groups) = ap (λ (n : List ℕ). record w { name = n }) name in
+    subst (λ (xs : List GroupRow). Keeps s (record s { groups = xs })) (sym (row_written g f s.groups w same))
+    (row_itself_keeps s g f (λ x. refl) (λ o. state ∙ ap (λ (row : GroupRow). state_in row.list) (reached_found g s.groups o)))
+
+-- what a change of a lent row takes
+pub ruleset row_change = (row_written, lent_keeps)
 
 forgotten_head : (b : Bool) (l : GroupView) (start : ℕ) (entries : List Entry) → let m : GroupView = if b then record l { start = start; entries = entries } else l in m.state ≡ l.state
 forgotten_head true l start entries = refl

@@ -2,5 +2,4 @@ pub mod KeepLaws
 pub mod ReadLaws
 pub mod RowLaws
 pub mod TableLaws
-pub mod TallyLaws
 pub mod OrderLaws

@@ -6,28 +6,89 @@ use Rattle.rsct_packet.specs.Text.{name_lt}
 use Rattle.rsct_packet.specs.Search.{front_len}
 use Rattle.node_state.specs.declared.group.GroupRow.{GroupRow}
 use Rattle.node_state.specs.State.{AllAfter, InNameOrder, new_row, row_found, rows_with, has_name}
-use Rattle.node_groups.specs.Places.{stops_at, is_row_of, row_opened}
+use Rattle.node_groups.specs.Places.{stops_at, is_row_of, row_opened, row_reached}
 use Rattle.node_state.proofs.NameOrder.{none_after, after_less}
 
+-- the rows from one on, where its name is the group's or comes after it
+abbrev pub changed_in : (GroupRow → GroupRow) → List ℕ → GroupRow → List GroupRow → List GroupRow → Bool → Bool → List GroupRow
+changed_in f g row rows rest eq lt = elim eq [ true ↦ f row ∷ rows | false ↦ elim lt [ true ↦ f (new_row g) ∷ row ∷ rows | false ↦ row ∷ rest ] ]
+
+-- the row that is reached from one on
+abbrev pub reached_in : List ℕ → GroupRow → GroupRow → Bool → Bool → GroupRow
+reached_in g row rest eq lt = elim eq [ true ↦ row | false ↦ elim lt [ true ↦ new_row g | false ↦ rest ] ]
+
+same_head : (eq lt : Bool) (g : List ℕ) (f h : GroupRow → GroupRow) (row here : GroupRow) (rows fs hs : List GroupRow) → (f here ≡ h here → fs ≡ hs) → f (reached_in g row here eq lt) ≡ h (reached_in g row here eq lt)
+    → changed_in f g row rows fs eq lt ≡ changed_in h g row rows hs eq lt
+same_head true lt g f h row here rows fs hs ih e = ap (λ (x : GroupRow). x ∷ rows) e
+same_head false true g f h row here rows fs hs ih e = ap (λ (x : GroupRow). x ∷ row ∷ rows) e
+same_head false false g f h row here rows fs hs ih e = ap (λ (xs : List GroupRow). row ∷ xs) (ih e)
+
+-- changes that come to the same on the row that is reached come to the same
+same_reached : (g : List ℕ) (f h : GroupRow → GroupRow) (rows : List GroupRow) → f (row_reached g rows) ≡ h (row_reached g rows) → rows_with g f rows ≡ rows_with g h rows
+unfolding rows_with row_reached
+same_reached g f h [] e = ap (λ (x : GroupRow). x ∷ []) e
+same_reached g f h (row ∷ rows) e =
+    same_head (bytes_eq row.name g) (name_lt g row.name) g f h row (row_reached g rows) rows (rows_with g f rows) (rows_with g h rows) (same_reached g f h rows) e
+
+-- a row that was lent, and written
+pub row_written : (g : List ℕ) (f : GroupRow → GroupRow) (xs : List GroupRow) (w : GroupRow) → w ≡ f (row_reached g xs) → rows_with g (λ _. w) xs ≡ rows_with g f xs
+row_written g f xs w e = same_reached g (λ _. w) f xs e
+
+reached_head : (eq lt : Bool) (g : List ℕ) (row here : GroupRow) (rows : List GroupRow) → name_lt g row.name ≡ lt → AllAfter row.name rows → here ≡ row_found g (find (has_name g) rows)
+    → reached_in g row here eq lt ≡ row_found g (cond eq (Some row) (find (has_name g) rows))
+reached_head true lt g row here rows l a ih = refl
+reached_head false true g row here rows l a ih = rw (none_after g rows (after_less g row.name rows l a)) refl
+reached_head false false g row here rows l a ih = ih
+
+-- among rows in name order it is the group's
+pub reached_found : (g : List ℕ) (xs : List GroupRow) → InNameOrder xs → row_reached g xs ≡ row_found g (find (has_name g) xs)
+unfolding row_reached
+reached_found g [] o = refl
+reached_found g (row ∷ rows) o = reached_head (bytes_eq row.name g) (name_lt g row.name) g row (row_reached g rows) rows refl o.0 (reached_found g rows o.1)
+
+-- the same for changes on the group's row, among rows in name order
+pub same_rows : (g : List ℕ) (f h : GroupRow → GroupRow) (rows : List GroupRow) → InNameOrder rows → f (row_found g (find (has_name g) rows)) ≡ h (row_found g (find (has_name g) rows)) → rows_with g f rows ≡ rows_with g h rows
+same_rows g f h rows o e =
+    let r = reached_found g rows o in
+    same_reached g f h rows (ap f r ∙ (e ∙ sym (ap h r)))
+
 -- one row more in front, which has the name, comes after it, or neither
-set_at_head : (eq lt : Bool) (change : GroupRow → GroupRow) (d new row : GroupRow) (rows opened rest : List GroupRow) (k : ℕ) → set opened k (change (get_or opened k d)) ≡ rest
-    → set (elim eq [ true ↦ row ∷ rows | false ↦ elim lt [ true ↦ new ∷ row ∷ rows | false ↦ row ∷ opened ] ]) (cond (eq || lt) 0 (suc k)) (change (get_or (elim eq [ true ↦ row ∷ rows | false ↦ elim lt [ true ↦ new ∷ row ∷ rows | false ↦ row ∷ opened ] ]) (cond (eq || lt) 0 (suc k)) d))
-    ≡ elim eq [ true ↦ change row ∷ rows | false ↦ elim lt [ true ↦ change new ∷ row ∷ rows | false ↦ row ∷ rest ] ]
-set_at_head true lt change d new row rows opened rest k ih = refl
-set_at_head false true change d new row rows opened rest k ih = refl
-set_at_head false false change d new row rows opened rest k ih = ap (λ (xs : List GroupRow). row ∷ xs) ih
+lent_head : (eq lt : Bool) (new row : GroupRow) (rows opened rest : List GroupRow) (k : ℕ) (w : GroupRow) → set opened k w ≡ rest
+    → set (elim eq [ true ↦ row ∷ rows | false ↦ elim lt [ true ↦ new ∷ row ∷ rows | false ↦ row ∷ opened ] ]) (cond (eq || lt) 0 (suc k)) w
+    ≡ elim eq [ true ↦ w ∷ rows | false ↦ elim lt [ true ↦ w ∷ row ∷ rows | false ↦ row ∷ rest ] ]
+lent_head true lt new row rows opened rest k w ih = refl
+lent_head false true new row rows opened rest k w ih = refl
+lent_head false false new row rows opened rest k w ih = ap (λ (xs : List GroupRow). row ∷ xs) ih
 
-set_at_row : (g : List ℕ) (change : GroupRow → GroupRow) (d : GroupRow) (xs : List GroupRow) → set (row_opened g xs) (front_len (stops_at g) xs) (change (get_or (row_opened g xs) (front_len (stops_at g) xs) d)) ≡ rows_with g change xs
+lent_row : (g : List ℕ) (w : GroupRow) (xs : List GroupRow) → set (row_opened g xs) (front_len (stops_at g) xs) w ≡ rows_with g (λ _. w) xs
 unfolding rows_with row_opened
-set_at_row g change d [] = refl
-set_at_row g change d (row ∷ rows) = set_at_head (bytes_eq row.name g) (name_lt g row.name) change d (new_row g) row rows (row_opened g rows) (rows_with g change rows) (front_len (stops_at g) rows) (set_at_row g change d rows)
+lent_row g w [] = refl
+lent_row g w (row ∷ rows) = lent_head (bytes_eq row.name g) (name_lt g row.name) (new_row g) row rows (row_opened g rows) (rows_with g (λ _. w) rows) (front_len (stops_at g) rows) w (lent_row g w rows)
 
--- a row that was read where the group's row stands, and written there
+-- what is written where the group's row stands
+pub row_lent : (g : List ℕ) (xs ys : List GroupRow) (i : ℕ) (w : GroupRow) → i ≡ front_len (stops_at g) xs → ys ≡ row_opened g xs → set ys i w ≡ rows_with g (λ _. w) xs
+row_lent g xs ys i w at opened = ap (λ k. set ys k w) at ∙ (ap (λ zs. set zs (front_len (stops_at g) xs) w) opened ∙ lent_row g w xs)
+
+read_head : (eq lt : Bool) (g : List ℕ) (d new row here : GroupRow) (rows opened : List GroupRow) (k : ℕ) → new ≡ new_row g → get_or opened k d ≡ here
+    → get_or (elim eq [ true ↦ row ∷ rows | false ↦ elim lt [ true ↦ new ∷ row ∷ rows | false ↦ row ∷ opened ] ]) (cond (eq || lt) 0 (suc k)) d ≡ reached_in g row here eq lt
+read_head true lt g d new row here rows opened k n ih = refl
+read_head false true g d new row here rows opened k n ih = n
+read_head false false g d new row here rows opened k n ih = ih
+
+read_row : (g : List ℕ) (d : GroupRow) (xs : List GroupRow) → get_or (row_opened g xs) (front_len (stops_at g) xs) d ≡ row_reached g xs
+unfolding rows_with row_opened row_reached
+read_row g d [] = refl
+read_row g d (row ∷ rows) = read_head (bytes_eq row.name g) (name_lt g row.name) g d (new_row g) row (row_reached g rows) rows (row_opened g rows) (front_len (stops_at g) rows) refl (read_row g d rows)
+
+-- what is read there
+pub row_is_reached : (g : List ℕ) (xs ys : List GroupRow) (i : ℕ) (x : GroupRow) → i ≡ front_len (stops_at g) xs → ys ≡ row_opened g xs → x ≡ get_or ys i x → x ≡ row_reached g xs
+row_is_reached g xs ys i x at opened read =
+    read ∙ (ap (λ k. get_or ys k x) at ∙ (ap (λ zs. get_or zs (front_len (stops_at g) xs) x) opened ∙ read_row g x xs))
+
+-- a row that was read there, and written
 pub set_is_row : (g : List ℕ) (change : GroupRow → GroupRow) (xs ys : List GroupRow) (i : ℕ) (x y : GroupRow) → i ≡ front_len (stops_at g) xs → ys ≡ row_opened g xs → x ≡ get_or ys i x → y ≡ change x → set ys i y ≡ rows_with g change xs
 set_is_row g change xs ys i x y at opened read changed =
-    ap (set ys i) (changed ∙ ap change read)
-    ∙ (ap (λ k. set ys k (change (get_or ys k x))) at
-    ∙ (ap (λ zs. set zs (front_len (stops_at g) xs) (change (get_or zs (front_len (stops_at g) xs) x))) opened ∙ set_at_row g change x xs))
+    row_lent g xs ys i y at opened ∙ row_written g change xs y (changed ∙ ap change (row_is_reached g xs ys i x at opened read))
 
 within_head : (eq lt : Bool) (new row : GroupRow) (rows opened : List GroupRow) (k : ℕ) → k < length opened → cond (eq || lt) 0 (suc k) < length {A = GroupRow} (elim eq [ true ↦ row ∷ rows | false ↦ elim lt [ true ↦ new ∷ row ∷ rows | false ↦ row ∷ opened ] ])
 within_head true lt new row rows opened k ih = omega arith
@@ -42,21 +103,9 @@ within_row g (row ∷ rows) = within_head (bytes_eq row.name g) (name_lt g row.n
 pub opened_within : (g : List ℕ) (xs ys : List GroupRow) (i : ℕ) → i ≡ front_len (stops_at g) xs → ys ≡ row_opened g xs → i < length ys
 opened_within g xs ys i at opened = rw (at, opened) (within_row g xs)
 
-row_head : (eq lt : Bool) (g : List ℕ) (d row : GroupRow) (rows opened : List GroupRow) (k : ℕ) → name_lt g row.name ≡ lt → AllAfter row.name rows → get_or opened k d ≡ row_found g (find (has_name g) rows)
-    → get_or (elim eq [ true ↦ row ∷ rows | false ↦ elim lt [ true ↦ new_row g ∷ row ∷ rows | false ↦ row ∷ opened ] ]) (cond (eq || lt) 0 (suc k)) d ≡ row_found g (cond eq (Some row) (find (has_name g) rows))
-row_head true lt g d row rows opened k l a ih = refl
-row_head false true g d row rows opened k l a ih = rw (none_after g rows (after_less g row.name rows l a)) refl
-row_head false false g d row rows opened k l a ih = ih
-
-row_at : (g : List ℕ) (d : GroupRow) (xs : List GroupRow) → InNameOrder xs → get_or (row_opened g xs) (front_len (stops_at g) xs) d ≡ row_found g (find (has_name g) xs)
-unfolding rows_with row_opened
-row_at g d [] o = refl
-row_at g d (row ∷ rows) o = row_head (bytes_eq row.name g) (name_lt g row.name) g d row rows (row_opened g rows) (front_len (stops_at g) rows) refl o.0 (row_at g d rows o.1)
-
 -- what is read where the group's row stands, among rows in name order
 pub opened_row : (g : List ℕ) (xs ys : List GroupRow) (i : ℕ) (x : GroupRow) → InNameOrder xs → i ≡ front_len (stops_at g) xs → ys ≡ row_opened g xs → x ≡ get_or ys i x → x ≡ row_found g (find (has_name g) xs)
-opened_row g xs ys i x o at opened read =
-    read ∙ (ap (λ k. get_or ys k x) at ∙ (ap (λ zs. get_or zs (front_len (stops_at g) xs) x) opened ∙ row_at g x xs o))
+opened_row g xs ys i x o at opened read = row_is_reached g xs ys i x at opened read ∙ reached_found g xs o
 
 found_head : (eq lt : Bool) (g : List ℕ) (new row : GroupRow) (rows opened : List GroupRow) (k : ℕ) → bytes_eq row.name g ≡ eq → (is_row_of g (slice_get rows k) ≡ true → rows ≡ opened)
     → is_row_of g (slice_get (row ∷ rows) (cond (eq || lt) 0 (suc k))) ≡ true → row ∷ rows ≡ elim eq [ true ↦ row ∷ rows | false ↦ elim lt [ true ↦ new ∷ row ∷ rows | false ↦ row ∷ opened ] ]
@@ -91,3 +140,6 @@ opens_missing g xs i new at h made =
 
 -- what an edit of a row takes
 pub ruleset row_edits = (set_is_row, opened_within)
+
+-- what lending a row takes
+pub ruleset row_loan = (row_lent, row_is_reached, opened_within)

@@ -1,5 +1,5 @@
 -- Where the row of a group stands among rows in name order.
-use Rattle.std.specs.Prelude.{ℕ, Bool, false, ◌==◌, ◌||◌, List, map, filter, Option, Some, None}
+use Rattle.std.specs.Prelude.{ℕ, Bool, true, false, ◌==◌, ◌||◌, List, [], ◌∷◌, map, filter, Option, Some, None}
 use Rattle.std.specs.Str.{bytes_eq}
 use Rattle.rsct_packet.specs.declared.ids.ProviderId.{ProviderId}
 use Rattle.rsct_packet.specs.Providers.{same_provider}
@@ -10,7 +10,7 @@ use Rattle.node_state.specs.declared.group.GroupRow.{GroupRow}
 use Rattle.node_state.specs.declared.group.JoinAttrs.{JoinAttrs}
 use Rattle.node_state.specs.declared.group.Led.{Led}
 use Rattle.node_state.specs.declared.state.Core.{Core}
-use Rattle.node_state.specs.State.{nothing_led, rows_with, leads_in}
+use Rattle.node_state.specs.State.{nothing_led, new_row, rows_with, leads_in}
 
 -- it has the name, or comes after it
 abbrev pub stops_at : List ℕ → GroupRow → Bool
@@ -23,6 +23,12 @@ is_row_of g (Some row) = bytes_eq row.name g
 -- with an empty row where the group has none
 unfoldable pub row_opened : List ℕ → List GroupRow → List GroupRow
 row_opened g rows = rows_with g (λ row. row) rows
+
+-- the row that a change of the group's row is made of: an empty one where a name that comes after it is met before it
+unfoldable pub row_reached : List ℕ → List GroupRow → GroupRow
+row_reached g [] = new_row g
+row_reached g (row ∷ rows) =
+    elim (bytes_eq row.name g) [ true ↦ row | false ↦ elim (name_lt g row.name) [ true ↦ new_row g | false ↦ row_reached g rows ] ]
 
 abbrev pub is_acked_by : ℕ → Acked → Bool
 is_acked_by n a = a.node == n

@@ -12,12 +12,14 @@ ghost use Rattle.vote_phases.specs.Tally.{tally_fail};
 ghost use Rattle.node_state.specs.Deciding.{keep_decision};
 ghost use Rattle.node_groups.specs.Keeps.{Keeps};
 
-use crate::edits;
+use crate::places::row_mut;
 use crate::reads::{least_acked, len_of};
+use crate::row;
+use crate::tables::{self, raise_acked};
 use client_callbacks::Why;
 use node_state::{Core, Decision, Happened};
 use proposal_core::{Cause, Entry, Vote};
-use rsct_packet::{Name, NoMemory, ProviderId, Text};
+use rsct_packet::{List, Name, NoMemory, ProviderId, Text};
 use std::alloc::Global;
 use vote_phases::Tally;
 
@@ -58,7 +60,7 @@ fn record_put(
 }
 
 /// Puts an entry that fits at the end of the group's list.
-#[tactic(auto, unfolding(node_state::specs::State::with_row, node_state::specs::State::fits_at_end, node_state::specs::State::list_of, node_state::specs::State::row_of))]
+#[tactic(auto, unfolding(node_state::specs::State::with_row, node_state::specs::State::fits_at_end, node_state::specs::State::list_of, node_state::specs::State::row_of), using(crate::proofs::RowLaws::row_written, crate::proofs::RowLaws::reached_found, std::proofs::lemmas::Grind::common_steps))]
 fn put_entry(core: &mut Core, alloc: Global, group: &Name, entry: &Entry) -> Result<(), NoMemory>
     requires order { InNameOrder core.old.groups }
     requires fits { IsTrue (fits_at_end core.old group.now entry.now) }
@@ -69,7 +71,8 @@ fn put_entry(core: &mut Core, alloc: Global, group: &Name, entry: &Entry) -> Res
         })) }
 {
     let view = core.views.view;
-    edits::put(&mut core.groups, alloc, group, view, entry)
+    let row = row_mut(&mut core.groups, alloc, group)?;
+    row::put(row, alloc, view, entry.copy(alloc)?)
 }
 
 /// Puts an entry that fits at the end of the group's list, and records it.
@@ -86,7 +89,7 @@ pub fn put(core: &mut Core, alloc: Global, group: &Name, entry: &Entry) -> Resul
 }
 
 /// Lets the entries of a group's list below a place go, where the list has that place.
-#[tactic(auto, unfolding(node_state::specs::State::forget_below, node_state::specs::State::with_row))]
+#[tactic(auto, unfolding(node_state::specs::State::forget_below, node_state::specs::State::with_row), using(crate::proofs::KeepLaws::row_change, crate::proofs::KeepLaws::forgotten_state, std::proofs::lemmas::Grind::common_steps))]
 pub fn forget_below(
     core: &mut Core,
     alloc: Global,
@@ -96,7 +99,9 @@ pub fn forget_below(
     ensures rule { OnOk result (core.new ≡ forget_below core.old group.now place) }
     ensures keeps { OnOk result (Keeps core.old core.new) }
 {
-    edits::forget_below(&mut core.groups, alloc, group, place)
+    let row = row_mut(&mut core.groups, alloc, group)?;
+    row::forget_below(row, place);
+    Ok(())
 }
 
 /// Forgets what all members acknowledged.
@@ -110,16 +115,18 @@ pub fn forget_least(core: &mut Core, alloc: Global, group: &Name) -> Result<(), 
 }
 
 /// The leader of the group is known.
-#[tactic(auto, unfolding(node_state::specs::State::set_leader, node_state::specs::State::with_row))]
+#[tactic(auto, unfolding(node_state::specs::State::set_leader, node_state::specs::State::with_row), using(crate::proofs::KeepLaws::row_change, std::proofs::lemmas::Grind::common_steps))]
 pub fn set_leader(core: &mut Core, alloc: Global, group: &Name, node: u8) -> Result<(), NoMemory>
     ensures rule { OnOk result (core.new ≡ set_leader core.old group.now node) }
     ensures keeps { OnOk result (Keeps core.old core.new) }
 {
-    edits::set_leader(&mut core.groups, alloc, group, node)
+    let row = row_mut(&mut core.groups, alloc, group)?;
+    row.leader = Some(node);
+    Ok(())
 }
 
 /// The provider waits as a failure of this cause, unless it waits as one already.
-#[tactic(auto, unfolding(node_state::specs::Leading::with_waiting, node_state::specs::State::with_led, node_state::specs::State::with_row))]
+#[tactic(auto, unfolding(node_state::specs::Leading::with_waiting, node_state::specs::State::with_led, node_state::specs::State::with_row), using(crate::proofs::KeepLaws::row_change, std::proofs::lemmas::Grind::common_steps))]
 pub fn wait_failure(
     core: &mut Core,
     alloc: Global,
@@ -131,11 +138,13 @@ pub fn wait_failure(
         (core.new ≡ with_waiting core.old group.now (add_failure provider cause)) }
     ensures keeps { OnOk result (Keeps core.old core.new) }
 {
-    edits::wait_failure(&mut core.groups, alloc, group, provider, cause)
+    let row = row_mut(&mut core.groups, alloc, group)?;
+    row.led.waiting.add_failure(provider, cause);
+    Ok(())
 }
 
 /// The provider's join waits no more.
-#[tactic(auto, unfolding(node_state::specs::Leading::with_waiting, node_state::specs::State::with_led, node_state::specs::State::with_row))]
+#[tactic(auto, unfolding(node_state::specs::Leading::with_waiting, node_state::specs::State::with_led, node_state::specs::State::with_row), using(crate::proofs::KeepLaws::row_change, std::proofs::lemmas::Grind::common_steps))]
 pub fn drop_join(
     core: &mut Core,
     alloc: Global,
@@ -145,11 +154,13 @@ pub fn drop_join(
     ensures rule { OnOk result (core.new ≡ with_waiting core.old group.now (drop_join provider)) }
     ensures keeps { OnOk result (Keeps core.old core.new) }
 {
-    edits::drop_join(&mut core.groups, alloc, group, provider)
+    let row = row_mut(&mut core.groups, alloc, group)?;
+    row.led.waiting.drop_join(provider);
+    Ok(())
 }
 
 /// The tally of the phase that runs is this one.
-#[tactic(auto, unfolding(node_state::specs::Leading::with_tally, node_state::specs::State::with_led, node_state::specs::State::with_row))]
+#[tactic(auto, unfolding(node_state::specs::Leading::with_tally, node_state::specs::State::with_led, node_state::specs::State::with_row), using(crate::proofs::KeepLaws::row_change, std::proofs::lemmas::Grind::common_steps))]
 pub fn set_tally(
     core: &mut Core,
     alloc: Global,
@@ -159,11 +170,13 @@ pub fn set_tally(
     ensures rule { OnOk result (core.new ≡ with_tally core.old group.now tally) }
     ensures keeps { OnOk result (Keeps core.old core.new) }
 {
-    edits::set_tally(&mut core.groups, alloc, group, tally)
+    let row = row_mut(&mut core.groups, alloc, group)?;
+    row.led.tally = tally;
+    Ok(())
 }
 
 /// The tally of the phase that runs is this one, and no ballot has been recorded.
-#[tactic(auto, unfolding(node_state::specs::Leading::tally_set, node_state::specs::State::with_led, node_state::specs::State::with_row))]
+#[tactic(auto, unfolding(node_state::specs::Leading::tally_set, node_state::specs::State::with_led, node_state::specs::State::with_row), using(crate::proofs::KeepLaws::row_change, std::proofs::lemmas::Grind::common_steps))]
 pub fn open_tally(
     core: &mut Core,
     alloc: Global,
@@ -173,12 +186,15 @@ pub fn open_tally(
     ensures rule { OnOk result (core.new ≡ tally_set core.old group.now tally) }
     ensures keeps { OnOk result (Keeps core.old core.new) }
 {
-    edits::open_tally(&mut core.groups, alloc, group, tally)
+    let row = row_mut(&mut core.groups, alloc, group)?;
+    row.led.tally = tally;
+    row.led.given = List::new(alloc);
+    Ok(())
 }
 
 /// A vote on the tally of the phase that runs, where there is one; what its ballot carries is kept where the vote is
 /// recorded.
-#[tactic(auto, unfolding(node_state::specs::State::with_led, node_state::specs::State::with_row))]
+#[tactic(auto, unfolding(node_state::specs::State::with_led, node_state::specs::State::with_row), using(crate::proofs::KeepLaws::row_change, std::proofs::lemmas::Grind::common_steps))]
 pub fn cast_vote(
     core: &mut Core,
     alloc: Global,
@@ -192,18 +208,12 @@ pub fn cast_vote(
         (λ l. vote_cast l provider vote value message l.tally)) }
     ensures keeps { OnOk result (Keeps core.old core.new) }
 {
-    edits::cast_vote(
-        &mut core.groups,
-        alloc,
-        group,
-        provider,
-        vote,
-        value,
-        message,
-    )
+    let row = row_mut(&mut core.groups, alloc, group)?;
+    row::cast_vote(row, provider, vote, value, message)
 }
 
 /// A voter of the phase that runs has failed.
+#[tactic(auto, unfolding(node_state::specs::Leading::with_tally, node_state::specs::State::with_led, node_state::specs::State::with_row, node_state::specs::State::led_of, node_state::specs::State::row_of), using(crate::proofs::KeepLaws::row_change, crate::proofs::RowLaws::reached_found, std::proofs::lemmas::Grind::common_steps))]
 pub fn fail_voter(
     core: &mut Core,
     alloc: Global,
@@ -215,21 +225,30 @@ pub fn fail_voter(
         (option_map (tally_fail provider) (led_of core.old group.now).tally)) }
     ensures keeps { OnOk result (Keeps core.old core.new) }
 {
-    edits::fail_voter(&mut core.groups, alloc, group, provider)
+    let row = row_mut(&mut core.groups, alloc, group)?;
+    if let Some(tally) = &mut row.led.tally {
+        tally.fail(provider);
+    }
+    Ok(())
 }
 
 /// The tally of the phase that runs ticks.
+#[tactic(auto, unfolding(node_state::specs::Leading::with_tally, node_state::specs::State::with_led, node_state::specs::State::with_row, node_state::specs::State::led_of, node_state::specs::State::row_of), using(crate::proofs::KeepLaws::row_change, crate::proofs::RowLaws::reached_found, std::proofs::lemmas::Grind::common_steps))]
 pub fn tick_tally(core: &mut Core, alloc: Global, group: &Name) -> Result<(), NoMemory>
     requires { InNameOrder core.old.groups }
     ensures rule { OnOk result (core.new ≡ with_tally core.old group.now
         (ticked_in (led_of core.old group.now).tally)) }
     ensures keeps { OnOk result (Keeps core.old core.new) }
 {
-    edits::tick_tally(&mut core.groups, alloc, group)
+    let row = row_mut(&mut core.groups, alloc, group)?;
+    if let Some(tally) = &mut row.led.tally {
+        tally.tick();
+    }
+    Ok(())
 }
 
 /// The node has acknowledged this length, or a greater one.
-#[tactic(auto, unfolding(node_state::specs::State::with_led, node_state::specs::State::with_row))]
+#[tactic(auto, unfolding(node_state::specs::State::with_led, node_state::specs::State::with_row), using(crate::proofs::KeepLaws::row_change, std::proofs::lemmas::Grind::common_steps))]
 pub fn note_acked(
     core: &mut Core,
     alloc: Global,
@@ -241,11 +260,12 @@ pub fn note_acked(
         (λ l. record l { acked = acked_raised node len l.acked })) }
     ensures keeps { OnOk result (Keeps core.old core.new) }
 {
-    edits::note_acked(&mut core.groups, alloc, group, node, len)
+    let row = row_mut(&mut core.groups, alloc, group)?;
+    raise_acked(&mut row.led.acked, node, len)
 }
 
 /// The provider is gone.
-#[tactic(auto, unfolding(node_state::specs::State::with_led, node_state::specs::State::with_row))]
+#[tactic(auto, unfolding(node_state::specs::State::with_led, node_state::specs::State::with_row), using(crate::proofs::KeepLaws::row_change, std::proofs::lemmas::Grind::common_steps))]
 pub fn mark_gone(
     core: &mut Core,
     alloc: Global,
@@ -256,11 +276,12 @@ pub fn mark_gone(
         (λ l. record l { gone = marked l.gone provider })) }
     ensures keeps { OnOk result (Keeps core.old core.new) }
 {
-    edits::mark_gone(&mut core.groups, alloc, group, provider)
+    let row = row_mut(&mut core.groups, alloc, group)?;
+    row::mark(&mut row.led.gone, provider)
 }
 
 /// The last decision on the requester is this one.
-#[tactic(auto, unfolding(node_state::specs::Deciding::keep_decision, node_state::specs::State::with_led, node_state::specs::State::with_row))]
+#[tactic(auto, unfolding(node_state::specs::Deciding::keep_decision, node_state::specs::State::with_led, node_state::specs::State::with_row), using(crate::proofs::KeepLaws::row_change, std::proofs::lemmas::Grind::common_steps))]
 pub fn keep_decision(
     core: &mut Core,
     alloc: Global,
@@ -269,17 +290,15 @@ pub fn keep_decision(
     request: u32,
     why: Option<Why>,
 ) -> Result<(), NoMemory>
-    ensures rule { OnOk result (core.new ≡ keep_decision core.old group.now provider request why) }
+    ensures rule { OnOk result
+        (core.new ≡ keep_decision core.old group.now provider request why) }
     ensures keeps { OnOk result (Keeps core.old core.new) }
 {
-    edits::keep_decision(
-        &mut core.groups,
-        alloc,
-        group,
-        Decision {
-            p: provider,
-            r: request,
-            why,
-        },
-    )
+    let row = row_mut(&mut core.groups, alloc, group)?;
+    let decision = Decision {
+        p: provider,
+        r: request,
+        why,
+    };
+    tables::keep_decision(&mut row.led.decided, decision)
 }

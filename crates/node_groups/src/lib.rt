@@ -2,7 +2,6 @@
 #![tactic(auto)]
 
 mod changes;
-mod edits;
 mod led;
 mod places;
 mod reads;
@@ -17,7 +16,7 @@ pub use changes::{
 pub use led::{
     decision_of, gone_of, is_gone, join_attrs_of, led_of, tally_of, waiting_failures, waiting_joins,
 };
-pub use places::{open, row_of};
+pub use places::{open, row_mut, row_of};
 pub use reads::{
     acked_by, fits_at_end, held_count, holds, leader_in, leader_of, leads, leads_in, least_acked,
     led_groups, len_of, list_of, state_of,

@@ -1,8 +1,10 @@
 //! Where the rows of groups stand, in the order of their names.
-ghost use Rattle.std.specs.Prelude.{◌≡◌, ◌≤◌, length, IfOk, OnOk, find, slice_get, option_copied};
+ghost use Rattle.std.specs.Prelude.{◌≡◌, ◌≤◌, length, IfOk, OnOk, OnErr, find, slice_get, option_copied};
+ghost use Rattle.std.specs.Borrow.{sem};
 ghost use Rattle.rsct_packet.specs.Search.{front_len};
 ghost use Rattle.node_state.specs.State.{has_name};
-ghost use Rattle.node_groups.specs.Places.{stops_at, is_row_of, row_opened};
+ghost use Rattle.node_groups.specs.Places.{stops_at, is_row_of, row_opened, row_reached};
+ghost use Rattle.node_groups.specs.Lending.{LendsRow};
 
 use crate::row::new_row;
 use node_state::{GroupRow, Groups};
@@ -53,6 +55,7 @@ pub fn row_of<'a>(groups: &'a Groups, name: &[u8]) -> Option<&'a GroupRow>
 pub fn open(groups: &mut Groups, alloc: Global, name: &Name) -> Result<usize, NoMemory>
     ensures place { IfOk result (λ i. i ≡ front_len (stops_at name.now) groups.old) }
     ensures rows { OnOk result (groups.new ≡ row_opened name.now groups.old) }
+    ensures err { OnErr result (groups.new ≡ groups.old) }
 {
     let i = front(groups.rows.as_slice(), name.bytes());
     if !is_row_at(groups.rows.as_slice(), i, name.bytes()) {
@@ -60,4 +63,18 @@ pub fn open(groups: &mut Groups, alloc: Global, name: &Name) -> Result<usize, No
         groups.rows.insert(i, row)?;
     }
     Ok(i)
+}
+
+/// Lends the group's row, which is made where there is none. At `Err` the rows are as before.
+#[tactic(auto, using(crate::proofs::RowLaws::row_loan, std::proofs::lemmas::Grind::common_steps))]
+pub fn row_mut<'a>(
+    groups: &'a mut Groups,
+    alloc: Global,
+    name: &Name,
+) -> Result<&'a mut GroupRow, NoMemory>
+    ensures* writes_back { sem 𝓛 (LendsRow groups.entry name.now result) }
+    ensures row { IfOk result (λ row. row.now ≡ row_reached name.now groups.old) }
+{
+    let i = open(groups, alloc, name)?;
+    Ok(&mut groups.rows[i])
 }

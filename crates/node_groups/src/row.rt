@@ -1,25 +1,20 @@
 //! The row of a group.
-ghost use Rattle.std.specs.Prelude.{◌≡◌, [], IfOk, OnOk, IsTrue, Some, None};
-ghost use Rattle.batch_rules.specs.Waiting.{add_failure, drop_join};
+ghost use Rattle.std.specs.Prelude.{◌≡◌, IfOk, OnOk, IsTrue, Some, None};
 ghost use Rattle.proposal_core.specs.Fold.{joiners_fit};
 ghost use Rattle.proposal_core.specs.Lists.{list_or_new, state_in, len_in, entry_fits, with_entry};
-ghost use Rattle.node_state.specs.State.{nothing_led, new_row, list_forgotten, acked_raised, decisions_with};
+ghost use Rattle.node_state.specs.State.{nothing_led, new_row, list_forgotten};
 ghost use Rattle.node_state.specs.Following.{marked, given_with, vote_cast};
-ghost use Rattle.node_state.specs.Ticks.{ticked_in};
-ghost use Rattle.std.specs.Option.{option_map};
-ghost use Rattle.vote_phases.specs.Tally.{tally_fail};
 
-use crate::tables::{self, raise_acked};
 use batch_rules::Waiting;
-use node_state::{Decision, Given, GroupRow, Led, Table};
-use proposal_core::{Cause, Entry, GroupList, GroupState, Vote};
+use node_state::{Given, GroupRow, Led, Table};
+use proposal_core::{Entry, GroupList, GroupState, Vote};
 use rsct_packet::{List, Name, NoMemory, ProviderId, Text, ViewId, is_among};
 use std::alloc::Global;
-use vote_phases::{Cast, Tally};
+use vote_phases::Cast;
 
 /// The provider is marked, once.
 #[tactic(auto, unfolding(node_state::specs::Following::marked))]
-fn mark(list: &mut List<ProviderId>, provider: ProviderId) -> Result<(), NoMemory>
+pub fn mark(list: &mut List<ProviderId>, provider: ProviderId) -> Result<(), NoMemory>
     ensures { OnOk result (list.new ≡ marked list.old provider) }
 {
     if is_among(list.as_slice(), provider) {
@@ -150,51 +145,6 @@ pub fn forget_below(row: &mut GroupRow, place: u32)
     }
 }
 
-/// The group has this leader.
-pub fn set_leader(row: &mut GroupRow, node: u8)
-    ensures { row.new ≡ record (row.old) { leader = Some node } }
-{
-    row.leader = Some(node);
-}
-
-/// The provider waits as a failure of this cause, unless it waits as one already.
-pub fn wait_failure(row: &mut GroupRow, provider: ProviderId, cause: Cause)
-    ensures { row.new ≡ record (row.old) {
-      led = record
-          (row.old.led) { waiting = add_failure provider cause row.old.led.waiting };
-    } }
-{
-    row.led.waiting.add_failure(provider, cause);
-}
-
-/// The provider's join waits no more.
-pub fn drop_join(row: &mut GroupRow, provider: ProviderId)
-    ensures { row.new ≡ record (row.old) {
-      led = record
-          (row.old.led) { waiting = drop_join provider row.old.led.waiting };
-    } }
-{
-    row.led.waiting.drop_join(provider);
-}
-
-/// The tally is this one.
-pub fn set_tally(row: &mut GroupRow, tally: Option<Tally>)
-    ensures { row.new ≡ record (row.old) { led = record (row.old.led) { tally = tally } } }
-{
-    row.led.tally = tally;
-}
-
-/// The tally is this one, and no ballot has been recorded.
-pub fn open_tally(row: &mut GroupRow, alloc: Global, tally: Option<Tally>)
-    ensures { row.new ≡ record (row.old) {
-      led = record
-          (row.old.led) { tally = tally; given = [] };
-    } }
-{
-    row.led.tally = tally;
-    row.led.given = List::new(alloc);
-}
-
 /// What a ballot carries is kept where its vote was recorded.
 #[tactic(auto, unfolding(node_state::specs::Following::given_with))]
 fn keep_given(
@@ -237,58 +187,4 @@ pub fn cast_vote(
             keep_given(&mut row.led.given, provider, value, message, cast)
         }
     }
-}
-
-/// The voter has failed, where there is a tally.
-pub fn fail_voter(row: &mut GroupRow, provider: ProviderId)
-    ensures { row.new ≡ record (row.old) {
-      led = record
-          (row.old.led) { tally = option_map (tally_fail provider) row.old.led.tally };
-    } }
-{
-    if let Some(tally) = &mut row.led.tally {
-        tally.fail(provider);
-    }
-}
-
-/// The tally ticks, where there is one.
-pub fn tick_tally(row: &mut GroupRow)
-    ensures { row.new ≡ record (row.old) {
-      led = record
-          (row.old.led) { tally = ticked_in row.old.led.tally };
-    } }
-{
-    if let Some(tally) = &mut row.led.tally {
-        tally.tick();
-    }
-}
-
-/// The node has acknowledged this length, or a greater one.
-pub fn note_acked(row: &mut GroupRow, node: u8, len: u32) -> Result<(), NoMemory>
-    ensures { OnOk result (row.new ≡ record (row.old) {
-      led = record
-          (row.old.led) { acked = acked_raised node len row.old.led.acked };
-    }) }
-{
-    raise_acked(&mut row.led.acked, node, len)
-}
-
-/// The provider is gone.
-pub fn mark_gone(row: &mut GroupRow, provider: ProviderId) -> Result<(), NoMemory>
-    ensures { OnOk result (row.new ≡ record (row.old) {
-      led = record
-          (row.old.led) { gone = marked row.old.led.gone provider };
-    }) }
-{
-    mark(&mut row.led.gone, provider)
-}
-
-/// The last decision on the requester is this one.
-pub fn keep_decision(row: &mut GroupRow, decision: Decision) -> Result<(), NoMemory>
-    ensures { OnOk result (row.new ≡ record (row.old) {
-      led = record
-          (row.old.led) { decided = decisions_with decision row.old.led.decided };
-    }) }
-{
-    tables::keep_decision(&mut row.led.decided, decision)
 }

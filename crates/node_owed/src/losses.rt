@@ -1,6 +1,6 @@
 //! The part of a tick on what is owed.
 ghost use Rattle.std.specs.Prelude.{◌≡◌, OnOk, IfOk, filter, fold, slice_get};
-ghost use Rattle.proposal_core.specs.Fold.{joiners_in, present};
+ghost use Rattle.proposal_core.specs.Fold.{present};
 ghost use Rattle.node_groups.specs.Keeps.{Keeps};
 ghost use Rattle.node_state.specs.declared.packet.Body.TheVariants as body;
 ghost use Rattle.node_state.specs.State.{held_rows, leader_of};
@@ -13,7 +13,7 @@ use crate::requests::send_requests;
 use node_groups::leader_of;
 use node_sending::{is_frozen, send_if_known};
 use node_state::{Body, Core};
-use proposal_core::{GroupState, Proposal, Running};
+use proposal_core::GroupState;
 use rsct_packet::{Name, NoMemory, ProviderId};
 use session_delivery::is_live;
 use std::alloc::Global;
@@ -28,19 +28,6 @@ fn is_lost(core: &Core, provider: ProviderId) -> bool
         && !is_live(&core.sessions, provider)
 }
 
-/// The providers that what runs would join.
-fn joiners(running: &Option<Running>) -> &[ProviderId]
-    ensures { result.now ≡ joiners_in running.now }
-{
-    match running {
-        None => &[],
-        Some(run) => match &run.proposal {
-            Proposal::Join { ps, .. } => ps.as_slice(),
-            _ => &[],
-        },
-    }
-}
-
 /// Those who are lost of a group in this state.
 fn lost_of(core: &Core, alloc: Global, state: &GroupState) -> Result<Vec<ProviderId>, NoMemory>
     ensures { IfOk result (λ v. v.items ≡ filter (is_lost core.now) (present state.now)) }
@@ -49,7 +36,7 @@ fn lost_of(core: &Core, alloc: Global, state: &GroupState) -> Result<Vec<Provide
         .members
         .as_slice()
         .iter()
-        .chain(joiners(&state.running).iter());
+        .chain(state.joiners().iter());
     Ok(
         present
             .copied()

@@ -10,26 +10,29 @@ use rsct_packet::{Name, NoMemory, ProtoId, ProviderId, ViewId};
 use session_state::{KeptBallot, Request};
 use std::alloc::Global;
 
+/// What a provider casts in a phase of a protocol that runs in a group.
+#[derive(Clone, Copy)]
+pub struct FilledBallot<'a> {
+    pub group: &'a Name,
+    pub proto: ProtoId,
+    pub phase: u16,
+    pub provider: ProviderId,
+    pub filled: &'a Filled,
+}
+
 /// The packet of a ballot that is filled.
 #[tactic(auto, unfolding(node_state::specs::Sending::vote_of))]
-fn vote_of(
-    core: &Core,
-    alloc: Global,
-    group: &Name,
-    proto: ProtoId,
-    phase: u16,
-    provider: ProviderId,
-    filled: &Filled,
-) -> Result<Body, NoMemory>
-    ensures { IfOk result (λ b. b ≡ vote_of core.now group.now proto phase provider filled.now) }
+fn vote_of(core: &Core, alloc: Global, ballot: &FilledBallot<'_>) -> Result<Body, NoMemory>
+    ensures { IfOk result (λ b. b ≡ vote_of core.now ballot.now.group.now ballot.now.proto
+        ballot.now.phase ballot.now.provider ballot.now.filled.now) }
 {
-    let filled = filled.copy(alloc)?;
+    let filled = ballot.filled.copy(alloc)?;
     Ok(Body::Vote {
         view: core.views.view,
-        name: group.copy(alloc)?,
-        proto,
-        phase,
-        p: provider,
+        name: ballot.group.copy(alloc)?,
+        proto: ballot.proto,
+        phase: ballot.phase,
+        p: ballot.provider,
         vote: filled.vote,
         value: filled.value,
         message: filled.message,
@@ -41,16 +44,13 @@ pub fn send_vote(
     core: &mut Core,
     alloc: Global,
     to: Option<u8>,
-    group: &Name,
-    proto: ProtoId,
-    phase: u16,
-    provider: ProviderId,
-    filled: &Filled,
+    ballot: &FilledBallot<'_>,
 ) -> Result<(), NoMemory>
     ensures { OnOk result (core.new ≡ send_if_known core.old to
-        (vote_of core.old group.now proto phase provider filled.now)) }
+        (vote_of core.old ballot.now.group.now ballot.now.proto ballot.now.phase
+        ballot.now.provider ballot.now.filled.now)) }
 {
-    let body = vote_of(core, alloc, group, proto, phase, provider, filled)?;
+    let body = vote_of(core, alloc, ballot)?;
     send_if_known(core, to, body)
 }
 
@@ -66,16 +66,16 @@ pub fn send_kept_to(
 {
     match kept.ballot.filled() {
         None => Ok(()),
-        Some(filled) => send_vote(
-            core,
-            alloc,
-            to,
-            &kept.group,
-            kept.proto,
-            kept.phase,
-            kept.p,
-            filled,
-        ),
+        Some(filled) => {
+            let ballot = FilledBallot {
+                group: &kept.group,
+                proto: kept.proto,
+                phase: kept.phase,
+                provider: kept.p,
+                filled,
+            };
+            send_vote(core, alloc, to, &ballot)
+        }
     }
 }
 

@@ -24,12 +24,12 @@ pub fn ring_line(alloc: Global, ring: &Ring) -> Result<List<u8>, NoMemory>
 {
     let mut out = Vec::new(alloc);
     put_text(&mut out, b"hats ")?;
-    put_number_word(alloc, &mut out, u32::from(ring.net))?;
-    put_ring_word(alloc, &mut out, ring.id)?;
+    put_number_word(&mut out, u32::from(ring.net))?;
+    put_ring_word(&mut out, ring.id)?;
     put_text(&mut out, b"members=")?;
     put_mask_word(alloc, &mut out, ring.members)?;
     put_text(&mut out, b"neighbour=")?;
-    put_number(alloc, &mut out, u32::from(ring.neighbour()))?;
+    put_number(&mut out, u32::from(ring.neighbour()))?;
     List::of(alloc, out.as_slice())
 }
 
@@ -47,11 +47,11 @@ pub fn view_line(core: &Core, alloc: Global) -> Result<List<u8>, NoMemory>
 {
     let mut out = Vec::new(alloc);
     put_text(&mut out, b"hagsns ")?;
-    put_view_word(alloc, &mut out, core.views.view)?;
+    put_view_word(&mut out, core.views.view)?;
     put_text(&mut out, b"coord=")?;
-    put_number_word(alloc, &mut out, u32::from(core.views.view.coord))?;
+    put_number_word(&mut out, u32::from(core.views.view.coord))?;
     put_text(&mut out, b"members=")?;
-    put_members_word(alloc, &mut out, core.views.members.as_slice())?;
+    put_members_word(&mut out, core.views.members.as_slice())?;
     put_text(&mut out, b"frozen=")?;
     put_text(&mut out, yes_or_no(is_frozen(core)))?;
     List::of(alloc, out.as_slice())
@@ -59,12 +59,12 @@ pub fn view_line(core: &Core, alloc: Global) -> Result<List<u8>, NoMemory>
 
 /// The leader, `?` where it is unknown, and a space.
 #[tactic(auto, unfolding(node_state::specs::Status::leader_text, node_state::specs::Wording::word))]
-fn put_leader_word(alloc: Global, out: &mut Vec<u8>, leader: Option<u8>) -> Result<(), NoMemory>
+fn put_leader_word(out: &mut Vec<u8>, leader: Option<u8>) -> Result<(), NoMemory>
     ensures { OnOk result (out.new.items ≡ out.old.items ++ word (leader_text leader)) }
 {
     match leader {
         None => put_word(out, b"?"),
-        Some(node) => put_number_word(alloc, out, u32::from(node)),
+        Some(node) => put_number_word(out, u32::from(node)),
     }
 }
 
@@ -82,11 +82,11 @@ fn list_line(
     put_text(&mut out, b"hagsgr ")?;
     put_word(&mut out, group.bytes())?;
     put_text(&mut out, b"leader=")?;
-    put_leader_word(alloc, &mut out, leader)?;
+    put_leader_word(&mut out, leader)?;
     put_text(&mut out, b"len=")?;
-    put_number_word(alloc, &mut out, list.len())?;
+    put_number_word(&mut out, list.len())?;
     put_text(&mut out, b"members=")?;
-    put_providers_word(alloc, &mut out, state.members.as_slice())?;
+    put_providers_word(&mut out, state.members.as_slice())?;
     put_text(&mut out, b"value=")?;
     put_escaped(&mut out, state.value.bytes())?;
     List::of(alloc, out.as_slice())
@@ -120,10 +120,10 @@ fn put_waiting(
         return put_text(out, b"?");
     }
     match tally {
-        None => put_providers(alloc, out, &[]),
+        None => put_providers(out, &[]),
         Some(tally) => {
             let open = tally.open_voters(alloc)?;
-            put_providers(alloc, out, open.as_slice())
+            put_providers(out, open.as_slice())
         }
     }
 }
@@ -141,9 +141,9 @@ pub fn vote_line(
     let mut out = Vec::new(alloc);
     put_text(&mut out, b"hagsvote ")?;
     put_word(&mut out, row.name.bytes())?;
-    put_proto_word(alloc, &mut out, run.proto)?;
+    put_proto_word(&mut out, run.proto)?;
     put_text(&mut out, b"phase=")?;
-    put_number_word(alloc, &mut out, u32::from(run.phase))?;
+    put_number_word(&mut out, u32::from(run.phase))?;
     put_text(&mut out, b"kind=")?;
     put_word(&mut out, kind_of(&run.proposal))?;
     put_text(&mut out, b"waiting=")?;

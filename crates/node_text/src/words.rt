@@ -3,6 +3,7 @@ ghost use Rattle.std.specs.Prelude.{◌≡◌, ◌++◌, ◌<◌, OnOk, codes, f
 ghost use Rattle.rsct_packet.specs.Mask.{nodes_of};
 ghost use Rattle.node_state.specs.Wording.{word, view_text, provider_text, ring_text, proto_text, member_text, joined, nodes_text, members_text, providers_text, hex_digit, byte_text, escaped, value_text, kind_text};
 
+use itoa::Buffer;
 use proposal_core::Proposal;
 use rsct_packet::{Mask, Member, NoMemory, ProtoId, ProviderId, RingId, ViewId};
 use std::alloc::Global;
@@ -15,11 +16,12 @@ pub fn put_text(out: &mut Vec<u8>, bytes: &[u8]) -> Result<(), NoMemory>
     Ok(())
 }
 
-pub fn put_number(alloc: Global, out: &mut Vec<u8>, number: u32) -> Result<(), NoMemory>
+/// The digits of a number, which are made on the stack: a line of many members has many numbers.
+pub fn put_number(out: &mut Vec<u8>, number: u32) -> Result<(), NoMemory>
     ensures { OnOk result (out.new.items ≡ out.old.items ++ decimal number) }
 {
-    let digits = number.to_string(alloc)?;
-    put_text(out, digits.as_bytes())
+    let mut digits = Buffer::new();
+    put_text(out, digits.format(number).as_bytes())
 }
 
 /// These bytes and a space.
@@ -32,20 +34,20 @@ pub fn put_word(out: &mut Vec<u8>, bytes: &[u8]) -> Result<(), NoMemory>
 }
 
 #[tactic(auto, unfolding(node_state::specs::Wording::word))]
-pub fn put_number_word(alloc: Global, out: &mut Vec<u8>, number: u32) -> Result<(), NoMemory>
+pub fn put_number_word(out: &mut Vec<u8>, number: u32) -> Result<(), NoMemory>
     ensures { OnOk result (out.new.items ≡ out.old.items ++ word (decimal number)) }
 {
-    put_number(alloc, out, number)?;
+    put_number(out, number)?;
     put_text(out, b" ")
 }
 
 /// A count and a space.
 #[tactic(auto, unfolding(node_state::specs::Wording::word))]
-pub fn put_count_word(alloc: Global, out: &mut Vec<u8>, count: usize) -> Result<(), NoMemory>
+pub fn put_count_word(out: &mut Vec<u8>, count: usize) -> Result<(), NoMemory>
     ensures { OnOk result (out.new.items ≡ out.old.items ++ word (decimal count)) }
 {
-    let digits = count.to_string(alloc)?;
-    put_word(out, digits.as_bytes())
+    let mut digits = Buffer::new();
+    put_word(out, digits.format(count).as_bytes())
 }
 
 /// A label, and bytes behind it.
@@ -57,121 +59,112 @@ pub fn put_labelled(out: &mut Vec<u8>, label: &[u8], bytes: &[u8]) -> Result<(),
 }
 
 /// A label, and a number behind it.
-pub fn put_counted(
-    alloc: Global,
-    out: &mut Vec<u8>,
-    label: &[u8],
-    number: u32,
-) -> Result<(), NoMemory>
+pub fn put_counted(out: &mut Vec<u8>, label: &[u8], number: u32) -> Result<(), NoMemory>
     ensures { OnOk result (out.new.items ≡ out.old.items ++ (label.now ++ decimal number)) }
 {
     put_text(out, label)?;
-    put_number(alloc, out, number)
+    put_number(out, number)
 }
 
 /// A number and a dot.
-fn put_number_dot(alloc: Global, out: &mut Vec<u8>, number: u32) -> Result<(), NoMemory>
+fn put_number_dot(out: &mut Vec<u8>, number: u32) -> Result<(), NoMemory>
     ensures { OnOk result (out.new.items ≡ out.old.items ++ (decimal number ++ codes ".")) }
 {
-    put_number(alloc, out, number)?;
+    put_number(out, number)?;
     put_text(out, b".")
 }
 
 #[tactic(auto, unfolding(node_state::specs::Wording::view_text))]
-pub fn put_view(alloc: Global, out: &mut Vec<u8>, view: ViewId) -> Result<(), NoMemory>
+pub fn put_view(out: &mut Vec<u8>, view: ViewId) -> Result<(), NoMemory>
     ensures { OnOk result (out.new.items ≡ out.old.items ++ view_text view) }
 {
-    put_number_dot(alloc, out, view.number)?;
-    put_number_dot(alloc, out, u32::from(view.coord))?;
-    put_number(alloc, out, view.inc)
+    put_number_dot(out, view.number)?;
+    put_number_dot(out, u32::from(view.coord))?;
+    put_number(out, view.inc)
 }
 
 #[tactic(auto, unfolding(node_state::specs::Wording::word))]
-pub fn put_view_word(alloc: Global, out: &mut Vec<u8>, view: ViewId) -> Result<(), NoMemory>
+pub fn put_view_word(out: &mut Vec<u8>, view: ViewId) -> Result<(), NoMemory>
     ensures { OnOk result (out.new.items ≡ out.old.items ++ word (view_text view)) }
 {
-    put_view(alloc, out, view)?;
+    put_view(out, view)?;
     put_text(out, b" ")
 }
 
 #[tactic(auto, unfolding(node_state::specs::Wording::provider_text))]
-pub fn put_provider(alloc: Global, out: &mut Vec<u8>, provider: ProviderId) -> Result<(), NoMemory>
+pub fn put_provider(out: &mut Vec<u8>, provider: ProviderId) -> Result<(), NoMemory>
     ensures { OnOk result (out.new.items ≡ out.old.items ++ provider_text provider) }
 {
-    put_number_dot(alloc, out, u32::from(provider.node))?;
-    put_number_dot(alloc, out, provider.inc)?;
-    put_number_dot(alloc, out, u32::from(provider.instance))?;
-    put_number(alloc, out, provider.join)
+    put_number_dot(out, u32::from(provider.node))?;
+    put_number_dot(out, provider.inc)?;
+    put_number_dot(out, u32::from(provider.instance))?;
+    put_number(out, provider.join)
 }
 
 #[tactic(auto, unfolding(node_state::specs::Wording::word))]
-pub fn put_provider_word(
-    alloc: Global,
-    out: &mut Vec<u8>,
-    provider: ProviderId,
-) -> Result<(), NoMemory>
+pub fn put_provider_word(out: &mut Vec<u8>, provider: ProviderId) -> Result<(), NoMemory>
     ensures { OnOk result (out.new.items ≡ out.old.items ++ word (provider_text provider)) }
 {
-    put_provider(alloc, out, provider)?;
+    put_provider(out, provider)?;
     put_text(out, b" ")
 }
 
 #[tactic(auto, unfolding(node_state::specs::Wording::ring_text, node_state::specs::Wording::word))]
-pub fn put_ring_word(alloc: Global, out: &mut Vec<u8>, ring: RingId) -> Result<(), NoMemory>
+pub fn put_ring_word(out: &mut Vec<u8>, ring: RingId) -> Result<(), NoMemory>
     ensures { OnOk result (out.new.items ≡ out.old.items ++ word (ring_text ring)) }
 {
-    put_number_dot(alloc, out, u32::from(ring.leader))?;
-    put_number_dot(alloc, out, ring.inc)?;
-    put_number_word(alloc, out, ring.number)
+    put_number_dot(out, u32::from(ring.leader))?;
+    put_number_dot(out, ring.inc)?;
+    put_number_word(out, ring.number)
 }
 
 #[tactic(auto, unfolding(node_state::specs::Wording::proto_text))]
-pub fn put_proto(alloc: Global, out: &mut Vec<u8>, proto: ProtoId) -> Result<(), NoMemory>
+pub fn put_proto(out: &mut Vec<u8>, proto: ProtoId) -> Result<(), NoMemory>
     ensures { OnOk result (out.new.items ≡ out.old.items ++ proto_text proto) }
 {
-    put_view(alloc, out, proto.view)?;
+    put_view(out, proto.view)?;
     put_text(out, b"/")?;
-    put_number(alloc, out, proto.place)
+    put_number(out, proto.place)
 }
 
 #[tactic(auto, unfolding(node_state::specs::Wording::word))]
-pub fn put_proto_word(alloc: Global, out: &mut Vec<u8>, proto: ProtoId) -> Result<(), NoMemory>
+pub fn put_proto_word(out: &mut Vec<u8>, proto: ProtoId) -> Result<(), NoMemory>
     ensures { OnOk result (out.new.items ≡ out.old.items ++ word (proto_text proto)) }
 {
-    put_proto(alloc, out, proto)?;
+    put_proto(out, proto)?;
     put_text(out, b" ")
 }
 
 #[tactic(auto, unfolding(node_state::specs::Wording::member_text))]
-fn put_member(alloc: Global, out: &mut Vec<u8>, member: Member) -> Result<(), NoMemory>
+fn put_member(out: &mut Vec<u8>, member: Member) -> Result<(), NoMemory>
     ensures { OnOk result (out.new.items ≡ out.old.items ++ member_text member) }
 {
-    put_number_dot(alloc, out, u32::from(member.node))?;
-    put_number(alloc, out, member.inc)
+    put_number_dot(out, u32::from(member.node))?;
+    put_number(out, member.inc)
 }
 
 /// Nodes, each behind a comma.
-fn put_more_nodes(alloc: Global, out: &mut Vec<u8>, nodes: &[u8]) -> Result<(), NoMemory>
+fn put_more_nodes(out: &mut Vec<u8>, nodes: &[u8]) -> Result<(), NoMemory>
     ensures { OnOk result (out.new.items ≡ out.old.items
         ++ flat_map (λ y. codes "," ++ decimal y) nodes.now) }
 {
     for n in nodes {
         put_text(out, b",")?;
-        put_number(alloc, out, u32::from(*n))?;
+        put_number(out, u32::from(*n))?;
     }
     Ok(())
 }
 
 /// Nodes between commas, `-` for none.
 #[tactic(auto, unfolding(node_state::specs::Wording::nodes_text, node_state::specs::Wording::joined))]
-fn put_nodes(alloc: Global, out: &mut Vec<u8>, nodes: &[u8]) -> Result<(), NoMemory>
+fn put_nodes(out: &mut Vec<u8>, nodes: &[u8]) -> Result<(), NoMemory>
     ensures { OnOk result (out.new.items ≡ out.old.items ++ nodes_text nodes.now) }
 {
     match nodes {
         [] => put_text(out, b"-"),
         [first, others @ ..] => {
-            put_number(alloc, out, u32::from(*first))?;
-            put_more_nodes(alloc, out, others)
+            put_number(out, u32::from(*first))?;
+            put_more_nodes(out, others)
         }
     }
 }
@@ -182,91 +175,75 @@ pub fn put_mask_word(alloc: Global, out: &mut Vec<u8>, nodes: Mask) -> Result<()
     ensures { OnOk result (out.new.items ≡ out.old.items ++ word (nodes_text (nodes_of nodes))) }
 {
     let nodes = nodes.nodes(alloc)?;
-    put_nodes(alloc, out, nodes.as_slice())?;
+    put_nodes(out, nodes.as_slice())?;
     put_text(out, b" ")
 }
 
 /// Members of a view, each behind a comma.
-fn put_more_members(alloc: Global, out: &mut Vec<u8>, members: &[Member]) -> Result<(), NoMemory>
+fn put_more_members(out: &mut Vec<u8>, members: &[Member]) -> Result<(), NoMemory>
     ensures { OnOk result (out.new.items ≡ out.old.items
         ++ flat_map (λ y. codes "," ++ member_text y) members.now) }
 {
     for m in members {
         put_text(out, b",")?;
-        put_member(alloc, out, *m)?;
+        put_member(out, *m)?;
     }
     Ok(())
 }
 
 /// Members of a view between commas, `-` for none.
 #[tactic(auto, unfolding(node_state::specs::Wording::members_text, node_state::specs::Wording::joined))]
-pub fn put_members(alloc: Global, out: &mut Vec<u8>, members: &[Member]) -> Result<(), NoMemory>
+pub fn put_members(out: &mut Vec<u8>, members: &[Member]) -> Result<(), NoMemory>
     ensures { OnOk result (out.new.items ≡ out.old.items ++ members_text members.now) }
 {
     match members {
         [] => put_text(out, b"-"),
         [first, others @ ..] => {
-            put_member(alloc, out, *first)?;
-            put_more_members(alloc, out, others)
+            put_member(out, *first)?;
+            put_more_members(out, others)
         }
     }
 }
 
 #[tactic(auto, unfolding(node_state::specs::Wording::word))]
-pub fn put_members_word(
-    alloc: Global,
-    out: &mut Vec<u8>,
-    members: &[Member],
-) -> Result<(), NoMemory>
+pub fn put_members_word(out: &mut Vec<u8>, members: &[Member]) -> Result<(), NoMemory>
     ensures { OnOk result (out.new.items ≡ out.old.items ++ word (members_text members.now)) }
 {
-    put_members(alloc, out, members)?;
+    put_members(out, members)?;
     put_text(out, b" ")
 }
 
 /// Providers, each behind a comma.
-fn put_more_providers(
-    alloc: Global,
-    out: &mut Vec<u8>,
-    providers: &[ProviderId],
-) -> Result<(), NoMemory>
+fn put_more_providers(out: &mut Vec<u8>, providers: &[ProviderId]) -> Result<(), NoMemory>
     ensures { OnOk result (out.new.items ≡ out.old.items
         ++ flat_map (λ y. codes "," ++ provider_text y) providers.now) }
 {
     for p in providers {
         put_text(out, b",")?;
-        put_provider(alloc, out, *p)?;
+        put_provider(out, *p)?;
     }
     Ok(())
 }
 
 /// Providers between commas, `-` for none.
 #[tactic(auto, unfolding(node_state::specs::Wording::providers_text, node_state::specs::Wording::joined))]
-pub fn put_providers(
-    alloc: Global,
-    out: &mut Vec<u8>,
-    providers: &[ProviderId],
-) -> Result<(), NoMemory>
+pub fn put_providers(out: &mut Vec<u8>, providers: &[ProviderId]) -> Result<(), NoMemory>
     ensures { OnOk result (out.new.items ≡ out.old.items ++ providers_text providers.now) }
 {
     match providers {
         [] => put_text(out, b"-"),
         [first, others @ ..] => {
-            put_provider(alloc, out, *first)?;
-            put_more_providers(alloc, out, others)
+            put_provider(out, *first)?;
+            put_more_providers(out, others)
         }
     }
 }
 
 #[tactic(auto, unfolding(node_state::specs::Wording::word))]
-pub fn put_providers_word(
-    alloc: Global,
-    out: &mut Vec<u8>,
-    providers: &[ProviderId],
-) -> Result<(), NoMemory>
+pub fn put_providers_word(out: &mut Vec<u8>, providers: &[ProviderId]) -> Result<(), NoMemory>
     ensures { OnOk result (out.new.items ≡ out.old.items ++ word (providers_text providers.now)) }
 {
-    put_providers(alloc, out, providers)?;
+    put_providers(out, providers)?;
     put_text(out, b" ")
 }
 

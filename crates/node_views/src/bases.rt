@@ -2,7 +2,6 @@
 ghost use Rattle.std.specs.Prelude.{◌≡◌, ◌++◌, ◌∷◌, [], OnOk, IfOk, IsTrue, map};
 ghost use Rattle.std.specs.List.{list_all};
 ghost use Rattle.rsct_packet.specs.Format.{EachFits};
-ghost use Rattle.proposal_core.specs.Fold.{joiners_fit};
 ghost use Rattle.view_state.specs.Tails.{HasTails};
 ghost use Rattle.view_state.specs.Bases.{bases_for, bases_of};
 ghost use Rattle.node_state.specs.Applying.{base_row, base_leader};
@@ -12,33 +11,16 @@ use crate::names::name_after;
 use name_server::{Leader, Leaders};
 use node_groups::new_row;
 use node_state::{GroupRow, Groups, Table};
-use proposal_core::{GroupList, GroupState, Proposal};
-use rsct_packet::{List, MAX_PROVIDERS, NoMemory, is_none_among};
+use proposal_core::GroupList;
+use rsct_packet::{List, NoMemory};
 use std::alloc::Global;
 use view_state::{Base, Install, Part, Source};
-
-/// Are the running joiners no members, and with the members at most 64?
-#[tactic(auto, unfolding(proposal_core::specs::Fold::joiners_fit, proposal_core::specs::Fold::joiners_fit_at, proposal_core::specs::Fold::can_begin))]
-fn do_joiners_fit(state: &GroupState) -> bool
-    ensures { result ≡ joiners_fit state.now }
-{
-    match &state.running {
-        None => true,
-        Some(run) => match &run.proposal {
-            Proposal::Join { ps, .. } => {
-                is_none_among(state.members.as_slice(), ps.as_slice())
-                    && state.members.len() + ps.len() <= MAX_PROVIDERS
-            }
-            _ => true,
-        },
-    }
-}
 
 /// Can it be the end of a list?
 fn is_tail(part: &Part) -> bool
     ensures { result ≡ is_tail part.now }
 {
-    part.len() <= u128::from(u32::MAX) && do_joiners_fit(&part.state)
+    part.len() <= u128::from(u32::MAX) && part.state.do_joiners_fit()
 }
 
 fn are_tails(source: &Source) -> bool

@@ -3,14 +3,13 @@ ghost use Rattle.std.specs.Prelude.{◌≡◌, ◌&&◌, ◌∷◌, [], not, len
 ghost use Rattle.session_clients.specs.Clients.{KeepsScripts};
 ghost use Rattle.std.specs.List.{fold};
 ghost use Rattle.std.specs.Str.{bytes_eq};
-ghost use Rattle.proposal_core.specs.Fold.{joiners_in};
 ghost use Rattle.client_callbacks.specs.declared.told.Why.TheVariants as why;
 ghost use Rattle.session_state.specs.HandOn.{take_telling};
 ghost use Rattle.session_state.specs.State.{provider_of, place_of, outstanding, is_asked_by};
 ghost use Rattle.view_state.specs.Bases.{base_named};
 ghost use Rattle.node_groups.specs.Keeps.{Stays};
 ghost use Rattle.entry_delivery.specs.Received.{Receive};
-ghost use Rattle.entry_delivery.specs.Doing.{Does, RuleDoes};
+ghost use Rattle.entry_delivery.specs.Doing.{RuleDoes};
 ghost use Rattle.node_state.specs.declared.happened.Happened.TheVariants as happened;
 ghost use Rattle.node_views.specs.Arriving.{handed_at};
 ghost use Rattle.session_state.specs.Calls.{SameSessions};
@@ -18,25 +17,11 @@ ghost use Rattle.node_state.specs.Applying.{is_in_base, number_of, dissolved, di
 
 use client_callbacks::{Callbacks, Told, Why};
 use node_state::{Core, GroupRow, Happened};
-use proposal_core::{Proposal, Running};
-use rsct_packet::{Name, NoMemory, ProviderId, ViewId, is_among};
+use rsct_packet::{Name, NoMemory, ProviderId, ViewId};
 use session_clients::tell_at;
 use session_delivery::{place_of, take_telling, takes_telling};
 use session_state::{Provider, Request, SessionState};
 use view_state::Base;
-
-/// The running joiners.
-fn joiners_in(running: &Option<Running>) -> &[ProviderId]
-    ensures { result.now ≡ joiners_in running.now }
-{
-    match running {
-        None => &[],
-        Some(run) => match &run.proposal {
-            Proposal::Join { ps, .. } => ps.as_slice(),
-            _ => &[],
-        },
-    }
-}
 
 /// The base of a group, where it has one.
 #[tactic(auto, unfolding(view_state::specs::Bases::base_named))]
@@ -53,11 +38,7 @@ fn is_in_base(old: ViewId, provider: ProviderId, base: Option<&Base>) -> bool
 {
     match base {
         None => false,
-        Some(base) => {
-            base.from == old
-                && (is_among(base.state.members.as_slice(), provider)
-                    || is_among(joiners_in(&base.state.running), provider))
-        }
+        Some(base) => { base.from == old && base.state.is_present(provider) }
     }
 }
 
@@ -233,14 +214,7 @@ fn dissolve_group<C: Callbacks>(
                 base,
                 state.members.as_slice(),
             )?;
-            dissolve_each(
-                core,
-                clients,
-                &row.name,
-                old,
-                base,
-                joiners_in(&state.running),
-            )
+            dissolve_each(core, clients, &row.name, old, base, state.joiners())
         }
     }
 }

@@ -1,8 +1,8 @@
 //! What subscribers are told at an install.
-ghost use Rattle.std.specs.Prelude.{◌≡◌, ◌++◌, ◌∷◌, [], OnOk, IfOk, None, find, length, map, option_copied};
+ghost use Rattle.std.specs.Prelude.{◌≡◌, ◌++◌, ◌∷◌, [], OnOk, IfOk, None, length, map};
 ghost use Rattle.session_clients.specs.Clients.{KeepsScripts};
 ghost use Rattle.std.specs.List.{flat_map};
-ghost use Rattle.session_state.specs.State.{is_session, client_place};
+ghost use Rattle.session_state.specs.State.{client_place};
 ghost use Rattle.client_callbacks.specs.declared.told.Told.TheVariants as told;
 ghost use Rattle.node_state.specs.declared.happened.Happened.TheVariants as happened;
 ghost use Rattle.node_state.specs.HandOn.{subscriber_name};
@@ -15,14 +15,15 @@ ghost use Rattle.node_views.specs.Arriving.{note_at, notes_at, handed_at, note_h
 
 use crate::dissolved::base_named;
 use client_callbacks::{Callbacks, Told};
+use entry_delivery::subscriber_name;
 use group_attr::HOST_MEMBERSHIP;
 use node_state::{Core, Happened, Records};
 use rsct_packet::{List, Members, NoMemory, ViewId};
 use session_clients::tell_at;
 use session_delivery::client_place;
-use session_state::{Session, SessionState};
+use session_state::SessionState;
 use std::alloc::Global;
-use subscribe_core::{ClientToken, Subscription};
+use subscribe_core::Subscription;
 use view_state::Base;
 
 /// What is told at a node of the view that it enters: its members, and what the groups begin with.
@@ -32,27 +33,6 @@ struct Arrival<'a> {
     view: ViewId,
     members: &'a Members,
     bases: &'a [Base],
-}
-
-fn session_of(rows: &[Session], client: ClientToken) -> Option<&Session>
-    ensures { option_copied result ≡ find (is_session client) rows.now }
-{
-    rows.iter().find(|x| x.token == client)
-}
-
-/// The name of a subscription's client; no bytes where it has no session.
-#[tactic(auto, unfolding(node_state::specs::HandOn::subscriber_name, session_state::specs::State::client_name))]
-fn subscriber_name(
-    alloc: Global,
-    sessions: &SessionState,
-    subscription: &Subscription,
-) -> Result<List<u8>, NoMemory>
-    ensures { IfOk result (λ l. l ≡ subscriber_name sessions.now subscription.now) }
-{
-    match session_of(sessions.sessions.as_slice(), subscription.client) {
-        None => Ok(List::new(alloc)),
-        Some(x) => List::of(alloc, x.name.as_slice()),
-    }
 }
 
 /// Tells the client of a subscription something at an install, and records it.

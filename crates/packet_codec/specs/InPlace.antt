@@ -14,18 +14,18 @@ use Rattle.packet_codec.specs.declared.packet.PacketRef.{PacketRef}
 abbrev pub body_in : BodyRef → Body
 body_in (ref.Ring x) = body.Ring x
 body_in (ref.Report rows) = body.Report rows
-body_in (ref.Prepare v mask) = body.View (view.Prepare v mask)
-body_in (ref.Answer v a) = body.View (view.Answer v a.view a.parts)
-body_in (ref.Refuse v number) = body.View (view.Refuse v number)
+body_in (ref.Prepare x) = body.View (view.Prepare x.view x.mask)
+body_in (ref.Answer x) = body.View (view.Answer x.view x.answer.view x.answer.parts)
+body_in (ref.Refuse x) = body.View (view.Refuse x.view x.number)
 body_in (ref.Install i) = body.View (view.Install (install_in i))
 body_in (ref.Taken v) = body.View (view.Taken v)
 body_in (ref.Lookup g) = body.Lookup g.view g.name
 body_in (ref.Name x) = body.Name x.group.view x.group.name x.leader
-body_in (ref.Request g p r phases x) = body.Request g.view g.name p r phases (proposal_in x)
-body_in (ref.Tell g p r why) = body.Tell g.view g.name p r why
-body_in (ref.Entry g place stable e) = body.Entry g.view g.name place stable (entry_in e)
+body_in (ref.Request x) = body.Request x.group.view x.group.name x.provider x.request x.phases (proposal_in x.proposal)
+body_in (ref.Tell x) = body.Tell x.group.view x.group.name x.provider x.request x.why
+body_in (ref.Entry x) = body.Entry x.group.view x.group.name x.place x.stable (entry_in x.entry)
 body_in (ref.Ack x) = body.Ack x.group.view x.group.name x.len
-body_in (ref.Vote g proto phase p vote value message) = body.Vote g.view g.name proto phase p vote (option_copied value) (option_copied message)
+body_in (ref.Vote x) = body.Vote x.group.view x.group.name x.proto x.phase x.provider x.vote (option_copied x.value) (option_copied x.message)
 body_in (ref.Gone x) = body.Gone x.group.view x.group.name x.p
 body_in (ref.Query x) = body.Query x.question x.what
 body_in (ref.Reply x) = body.Reply x.question x.text

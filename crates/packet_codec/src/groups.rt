@@ -6,7 +6,7 @@ ghost use Rattle.packet_bodies.specs.Body.{whole_of};
 ghost use Rattle.packet_codec.specs.InPlace.{body_in};
 ghost use Rattle.group_codec.specs.InPlace.{proposal_in};
 
-use crate::packet::BodyRef;
+use crate::packet::{BodyRef, PlacedRef, RequestRef, TellRef, VoteRef};
 use client_callbacks::Why;
 use group_attr::Phases;
 use group_codec::{ProposalRef, read_entry, read_phases, read_proposal};
@@ -56,23 +56,21 @@ fn read_request(bytes: &[u8]) -> Option<(BodyRef<'_>, &[u8])>
     ensures { option_map (λ x. (body_in x.0, x.1.now)) result ≡ request_at bytes.now }
 {
     let (group, bytes) = read_group(bytes)?;
-    let (p, bytes) = read_provider(bytes)?;
-    let (r, bytes) = read_u32(bytes)?;
+    let (provider, bytes) = read_provider(bytes)?;
+    let (request, bytes) = read_u32(bytes)?;
     let (phases, bytes) = read_phases(bytes)?;
     let (proposal, bytes) = read_proposal(bytes)?;
     if !has_phases(phases, &proposal) {
         return None;
     }
-    Some((
-        BodyRef::Request {
-            group,
-            p,
-            r,
-            phases,
-            proposal,
-        },
-        bytes,
-    ))
+    let body = RequestRef {
+        group,
+        provider,
+        request,
+        phases,
+        proposal,
+    };
+    Some((BodyRef::Request(body), bytes))
 }
 
 #[tactic(auto, unfolding(node_state::specs::Bodies::body_at))]
@@ -124,10 +122,16 @@ fn read_tell(bytes: &[u8]) -> Option<(BodyRef<'_>, &[u8])>
     ensures { option_map (λ x. (body_in x.0, x.1.now)) result ≡ tell_at bytes.now }
 {
     let (group, bytes) = read_group(bytes)?;
-    let (p, bytes) = read_provider(bytes)?;
-    let (r, bytes) = read_u32(bytes)?;
+    let (provider, bytes) = read_provider(bytes)?;
+    let (request, bytes) = read_u32(bytes)?;
     let (why, bytes) = read_why(bytes)?;
-    Some((BodyRef::Tell { group, p, r, why }, bytes))
+    let body = TellRef {
+        group,
+        provider,
+        request,
+        why,
+    };
+    Some((BodyRef::Tell(body), bytes))
 }
 
 #[tactic(auto, unfolding(node_state::specs::Bodies::body_at))]
@@ -145,12 +149,12 @@ pub fn entry_body(bytes: &[u8]) -> Option<BodyRef<'_>>
     let (place, bytes) = read_u32(bytes)?;
     let (stable, bytes) = read_u32(bytes)?;
     let entry = read_entry(bytes)?;
-    Some(BodyRef::Entry {
+    Some(BodyRef::Entry(PlacedRef {
         group,
         place,
         stable,
         entry,
-    })
+    }))
 }
 
 #[tactic(auto, unfolding(node_state::specs::Bodies::body_at), using(crate::proofs::WholeLaws::whole_made))]
@@ -178,23 +182,21 @@ fn read_vote(bytes: &[u8]) -> Option<(BodyRef<'_>, &[u8])>
     let (group, bytes) = read_group(bytes)?;
     let (proto, bytes) = read_proto(bytes)?;
     let (phase, bytes) = read_u16(bytes)?;
-    let (p, bytes) = read_provider(bytes)?;
-    let (n, bytes) = read_u8(bytes)?;
-    let vote = vote_of(n)?;
+    let (provider, bytes) = read_provider(bytes)?;
+    let (code, bytes) = read_u8(bytes)?;
+    let vote = vote_of(code)?;
     let (value, bytes) = read_optional_bytes(bytes)?;
     let (message, bytes) = read_optional_bytes(bytes)?;
-    Some((
-        BodyRef::Vote {
-            group,
-            proto,
-            phase,
-            p,
-            vote,
-            value,
-            message,
-        },
-        bytes,
-    ))
+    let body = VoteRef {
+        group,
+        proto,
+        phase,
+        provider,
+        vote,
+        value,
+        message,
+    };
+    Some((BodyRef::Vote(body), bytes))
 }
 
 #[tactic(auto, unfolding(node_state::specs::Bodies::body_at))]

@@ -13,6 +13,8 @@ mod writable_packets;
 mod writing;
 
 pub use laws::packets_are_read_again;
-pub use packet::{BodyRef, PacketRef, is_packet};
+pub use packet::{
+    Answered, BodyRef, PacketRef, PlacedRef, RequestRef, TellRef, VoteRef, is_packet,
+};
 pub use writable_packets::is_writable;
 pub use writing::{head_of, write_packet};

@@ -16,61 +16,75 @@ use adapter_ring::RingPacket;
 use client_callbacks::Why;
 use group_attr::Phases;
 use group_codec::{EntryRef, ProposalRef};
-use packet_bodies::{Ack, Gone, GroupRef, Leader, Query, Reply, ReportRow};
+use packet_bodies::{Ack, Gone, GroupRef, Leader, Prepare, Query, Refuse, Reply, ReportRow};
 use proposal_core::Vote;
-use rsct_packet::{Listed, Mask, Packet, ProtoId, ProviderId, ViewId};
+use rsct_packet::{Listed, Packet, ProtoId, ProviderId, ViewId};
 use view_exchange::{AnswerRef, InstallRef};
+
+/// What a node that is asked for a view answers.
+#[derive(Drop)]
+pub struct Answered<'a> {
+    pub view: ViewId,
+    pub answer: AnswerRef<'a>,
+}
+
+/// A provider's request to the leader of its group.
+#[derive(Drop)]
+pub struct RequestRef<'a> {
+    pub group: GroupRef<'a>,
+    pub provider: ProviderId,
+    pub request: u32,
+    pub phases: Phases,
+    pub proposal: ProposalRef<'a>,
+}
+
+/// Why a provider's request was refused.
+#[derive(Drop)]
+pub struct TellRef<'a> {
+    pub group: GroupRef<'a>,
+    pub provider: ProviderId,
+    pub request: u32,
+    pub why: Why,
+}
+
+/// An entry at its place of a group's list; all members hold the entries below `stable`.
+#[derive(Drop)]
+pub struct PlacedRef<'a> {
+    pub group: GroupRef<'a>,
+    pub place: u32,
+    pub stable: u32,
+    pub entry: EntryRef<'a>,
+}
+
+/// A provider's ballot of a phase. The value and the message are at most 65,535 bytes long.
+#[derive(Drop)]
+pub struct VoteRef<'a> {
+    pub group: GroupRef<'a>,
+    pub proto: ProtoId,
+    pub phase: u16,
+    pub provider: ProviderId,
+    pub vote: Vote,
+    pub value: Option<&'a [u8]>,
+    pub message: Option<&'a [u8]>,
+}
 
 /// What a packet says, where it stands: lists, texts and entries are parts of the datagram.
 #[derive(Drop)]
 pub enum BodyRef<'a> {
     Ring(RingPacket),
     Report(Listed<'a, ReportRow>),
-    Prepare {
-        view: ViewId,
-        mask: Mask,
-    },
-    Answer {
-        view: ViewId,
-        answer: AnswerRef<'a>,
-    },
-    Refuse {
-        view: ViewId,
-        number: u32,
-    },
+    Prepare(Prepare),
+    Answer(Answered<'a>),
+    Refuse(Refuse),
     Install(InstallRef<'a>),
     Taken(ViewId),
     Lookup(GroupRef<'a>),
     Name(Leader<'a>),
-    Request {
-        group: GroupRef<'a>,
-        p: ProviderId,
-        r: u32,
-        phases: Phases,
-        proposal: ProposalRef<'a>,
-    },
-    Tell {
-        group: GroupRef<'a>,
-        p: ProviderId,
-        r: u32,
-        why: Why,
-    },
-    Entry {
-        group: GroupRef<'a>,
-        place: u32,
-        stable: u32,
-        entry: EntryRef<'a>,
-    },
+    Request(RequestRef<'a>),
+    Tell(TellRef<'a>),
+    Entry(PlacedRef<'a>),
     Ack(Ack<'a>),
-    Vote {
-        group: GroupRef<'a>,
-        proto: ProtoId,
-        phase: u16,
-        p: ProviderId,
-        vote: Vote,
-        value: Option<&'a [u8]>,
-        message: Option<&'a [u8]>,
-    },
+    Vote(VoteRef<'a>),
     Gone(Gone<'a>),
     Query(Query),
     Reply(Reply<'a>),

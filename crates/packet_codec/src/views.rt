@@ -3,7 +3,7 @@ ghost use Rattle.std.specs.Prelude.{◌≡◌, Option, option_map};
 ghost use Rattle.node_state.specs.Bodies.{body_at};
 ghost use Rattle.packet_codec.specs.InPlace.{body_in};
 
-use crate::packet::BodyRef;
+use crate::packet::{Answered, BodyRef};
 use packet_bodies::{read_prepare, read_refuse, read_view_body};
 use rsct_packet::read_view;
 use view_exchange::{AnswerRef, InstallRef};
@@ -12,11 +12,7 @@ use view_exchange::{AnswerRef, InstallRef};
 pub fn prepare_body(bytes: &[u8]) -> Option<BodyRef<'_>>
     ensures { option_map body_in result ≡ body_at 9 bytes.now }
 {
-    let x = read_prepare(bytes)?;
-    Some(BodyRef::Prepare {
-        view: x.view,
-        mask: x.mask,
-    })
+    Some(BodyRef::Prepare(read_prepare(bytes)?))
 }
 
 #[tactic(auto, unfolding(node_state::specs::Bodies::body_at), using(crate::proofs::WholeLaws::whole_made))]
@@ -25,18 +21,14 @@ pub fn answer_body(bytes: &[u8]) -> Option<BodyRef<'_>>
 {
     let (view, bytes) = read_view(bytes)?;
     let answer = AnswerRef::read(bytes)?;
-    Some(BodyRef::Answer { view, answer })
+    Some(BodyRef::Answer(Answered { view, answer }))
 }
 
 #[tactic(auto, unfolding(node_state::specs::Bodies::body_at), using(crate::proofs::WholeLaws::whole_made))]
 pub fn refuse_body(bytes: &[u8]) -> Option<BodyRef<'_>>
     ensures { option_map body_in result ≡ body_at 11 bytes.now }
 {
-    let x = read_refuse(bytes)?;
-    Some(BodyRef::Refuse {
-        view: x.view,
-        number: x.number,
-    })
+    Some(BodyRef::Refuse(read_refuse(bytes)?))
 }
 
 #[tactic(auto, unfolding(node_state::specs::Bodies::body_at), using(crate::proofs::WholeLaws::whole_made, crate::proofs::WholeLaws::whole_same))]

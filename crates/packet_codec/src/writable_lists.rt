@@ -1,10 +1,7 @@
 //! States, lists and installs that have a spelling.
-ghost use Rattle.std.specs.Prelude.{◌≡◌, IsTrue, length, option_copied};
-ghost use Rattle.std.specs.List.{list_all};
+ghost use Rattle.std.specs.Prelude.{◌≡◌, IsTrue, option_copied};
 ghost use Rattle.rsct_packet.specs.Format.{EachFits, OptionFits};
-ghost use Rattle.rsct_packet.specs.Fields.{IsMember, IsProto, AreShort};
-ghost use Rattle.proposal_core.specs.Fold.{present, joiners_fit};
-ghost use Rattle.rsct_packet.specs.Providers.{among};
+ghost use Rattle.rsct_packet.specs.Fields.{IsMember, IsProto};
 ghost use Rattle.proposal_core.specs.StateCodec.{IsRunning, IsState, failed_are_present};
 ghost use Rattle.view_state.specs.Codec.{is_after, names_ascend, IsSizedEntry, IsPart, IsParts, views_ascend, is_after_view, IsSource, has_member, comes_from, comes_once, each_comes_once, members_ascend, IsInstall};
 
@@ -12,8 +9,8 @@ use crate::writable_entries::{are_attrs, is_proposal, is_sized_entry};
 use crate::writable_ids::{
     are_providers, is_mask, is_member, is_optional_text, is_proto, is_text, is_view,
 };
-use proposal_core::{Entry, GroupState, Proposal, Running};
-use rsct_packet::{MAX_PROVIDERS, Member, ProtoId, ProviderId, ViewId, is_among, is_none_among};
+use proposal_core::{Entry, GroupState, Running};
+use rsct_packet::{Member, ProtoId, ViewId};
 use view_state::{Install, Part, Source};
 
 /// How many parts, members or sources a list has at most.
@@ -60,51 +57,12 @@ fn is_optional_running(run: &Option<Running>) -> bool
     }
 }
 
-/// Are the running joiners no members, and with the members at most 64?
-#[tactic(auto, unfolding(proposal_core::specs::Fold::joiners_fit, proposal_core::specs::Fold::joiners_fit_at, proposal_core::specs::Fold::can_begin))]
-fn do_joiners_fit(state: &GroupState) -> bool
-    ensures { result ≡ joiners_fit state.now }
-{
-    match &state.running {
-        None => true,
-        Some(run) => match &run.proposal {
-            Proposal::Join { ps, .. } => {
-                is_none_among(state.members.as_slice(), ps.as_slice())
-                    && ps.as_slice().len() <= MAX_PROVIDERS
-                    && state.members.as_slice().len() <= MAX_PROVIDERS - ps.as_slice().len()
-            }
-            _ => true,
-        },
-    }
-}
-
-/// Is the provider a member or a running joiner?
-#[tactic(auto, unfolding(proposal_core::specs::Fold::present))]
-fn is_present(state: &GroupState, provider: ProviderId) -> bool
-    ensures { result ≡ among (present state.now) provider }
-{
-    if is_among(state.members.as_slice(), provider) {
-        return true;
-    }
-    match &state.running {
-        None => false,
-        Some(run) => match &run.proposal {
-            Proposal::Join { ps, .. } => is_among(ps.as_slice(), provider),
-            _ => false,
-        },
-    }
-}
-
 /// Are the failed members or running joiners?
 #[tactic(auto, unfolding(proposal_core::specs::StateCodec::failed_are_present))]
 fn are_failed_present(state: &GroupState) -> bool
     ensures { result ≡ failed_are_present state.now }
 {
-    state
-        .failed
-        .as_slice()
-        .iter()
-        .all(|p| is_present(state, *p))
+    state.failed.as_slice().iter().all(|p| state.is_present(*p))
 }
 
 /// Has the state a spelling?
@@ -118,7 +76,7 @@ fn is_state(state: &GroupState) -> bool
         && is_optional_proto(state.value_at)
         && is_optional_proto(state.reflected_at)
         && is_optional_running(&state.running)
-        && do_joiners_fit(state)
+        && state.do_joiners_fit()
         && are_failed_present(state)
 }
 

@@ -1,12 +1,15 @@
 //! A group's state.
-ghost use Rattle.std.specs.Prelude.{◌≡◌, IfOk, IsTrue};
-ghost use Rattle.proposal_core.specs.Fold.{empty_state, voters, voters_on, can_begin, joiners_fit};
+ghost use Rattle.std.specs.Prelude.{◌≡◌, ◌||◌, IfOk, IsTrue};
+ghost use Rattle.rsct_packet.specs.Providers.{among, AreProviders};
+ghost use Rattle.proposal_core.specs.Fold.{empty_state, voters, voters_on, can_begin, joiners_in, joiners_fit, present};
 
 use crate::fold::take_off_fallen;
 use crate::proposal::Proposal;
 use crate::texts::copy_text;
 use group_attr::Attrs;
-use rsct_packet::{NoMemory, ProtoId, Providers, Text};
+use rsct_packet::{
+    MAX_PROVIDERS, NoMemory, ProtoId, ProviderId, Providers, Text, is_among, is_none_among,
+};
 use std::alloc::Global;
 
 /// A protocol that runs: its phase is from 1 to 200, and `proposed` is the value that its approval sets.
@@ -121,6 +124,44 @@ impl GroupState {
             reflected_at: self.reflected_at,
             running: copy_running(alloc, &self.running)?,
         })
+    }
+
+    /// The joiners of what runs.
+    pub fn joiners(&self) -> &[ProviderId]
+        ensures value { result.now ≡ joiners_in self.now.running }
+        ensures providers { AreProviders (joiners_in self.now.running) }
+    {
+        match &self.running {
+            None => &[],
+            Some(run) => run.proposal.joiners(),
+        }
+    }
+
+    /// Is the provider a member, or a joiner of what runs?
+    #[tactic(auto, using(crate::proofs::FoldLaws::among_both))]
+    pub fn is_present(&self, provider: ProviderId) -> bool
+        ensures value { result ≡ among (present self.now) provider }
+        ensures either { result
+            ≡ (among self.now.members provider || among (joiners_in self.now.running) provider) }
+    {
+        is_among(self.members.as_slice(), provider) || is_among(self.joiners(), provider)
+    }
+
+    /// Are the joiners of what runs no members, and with the members at most 64?
+    #[tactic(auto, unfolding(crate::specs::Fold::joiners_fit, crate::specs::Fold::joiners_fit_at, crate::specs::Fold::can_begin))]
+    pub fn do_joiners_fit(&self) -> bool
+        ensures { result ≡ joiners_fit self.now }
+    {
+        match &self.running {
+            None => true,
+            Some(run) => match &run.proposal {
+                Proposal::Join { ps, .. } => {
+                    is_none_among(self.members.as_slice(), ps.as_slice())
+                        && self.members.len() + ps.len() <= MAX_PROVIDERS
+                }
+                _ => true,
+            },
+        }
     }
 
     /// Who votes on a proposal.

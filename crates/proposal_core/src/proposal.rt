@@ -1,5 +1,7 @@
 //! What a protocol proposes.
 ghost use Rattle.std.specs.Prelude.{◌≡◌, IfOk};
+ghost use Rattle.rsct_packet.specs.Providers.{AreProviders};
+ghost use Rattle.proposal_core.specs.Fold.{joins_of};
 
 use group_attr::Attrs;
 use rsct_packet::{List, NoMemory, ProviderId, Providers, Text, ViewId};
@@ -115,6 +117,17 @@ impl Drop for Proposal {
 }
 
 impl Proposal {
+    /// Those whom a join brings. Nobody where something else is proposed.
+    pub fn joiners(&self) -> &[ProviderId]
+        ensures value { result.now ≡ joins_of self.now }
+        ensures providers { AreProviders (joins_of self.now) }
+    {
+        match self {
+            Proposal::Join { ps, .. } => ps.as_slice(),
+            _ => &[],
+        }
+    }
+
     /// An equal proposal.
     pub fn copy(&self, alloc: Global) -> Result<Proposal, NoMemory>
         ensures { IfOk result (λ x. x ≡ self.now) }

@@ -1,6 +1,6 @@
 //! Handing the entries of the group `db` on, with no clause.
 use client_callbacks::Callbacks;
-use client_session::Sessions;
+use client_session::{PutEntry, Sessions};
 use group_attr::Attrs;
 use proposal_core::{Entry, GroupList, GroupState, Proposal};
 use rsct_packet::{List, Name, ProviderId, Providers, Text, ViewId};
@@ -57,19 +57,16 @@ fn hand<C: Callbacks>(
     entry: &Entry,
 ) -> Casts {
     let g = db(rt, alloc);
+    let put = PutEntry {
+        view: VIEW,
+        group: &g,
+        place,
+        entry,
+        before,
+        after: list.state(),
+    };
     let mut out = List::new(alloc);
-    sessions
-        .hand_on(
-            alloc,
-            VIEW,
-            &g,
-            place,
-            before,
-            list.state(),
-            entry,
-            &mut out,
-        )
-        .expect(rt, "memory");
+    sessions.hand_on(alloc, &put, &mut out).expect(rt, "memory");
     out
 }
 

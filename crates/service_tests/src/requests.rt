@@ -10,7 +10,7 @@ use node_reach::Reach;
 use node_state::{Body, Config, Core, Mode, Table};
 use proposal_core::Proposal;
 use rsct_packet::{List, Mask, Name, ProviderId, Providers, ViewId};
-use session_state::{Locals, SessionState};
+use session_state::{Locals, Request, SessionState};
 use std::alloc::Global;
 use std::process::Abort;
 use subscribe_core::Subs;
@@ -88,6 +88,16 @@ fn name(rt: &impl Abort, alloc: Global) -> Name {
     name.expect(rt, "a name")
 }
 
+fn asks(rt: &impl Abort, alloc: Global, provider: ProviderId, proposal: Proposal) -> Request {
+    Request {
+        p: provider,
+        r: provider.join,
+        group: name(rt, alloc),
+        phases: Phases::One,
+        proposal,
+    }
+}
+
 fn join(rt: &impl Abort, alloc: Global, provider: ProviderId) -> Proposal {
     Proposal::Join {
         ps: Providers::one(alloc, provider).expect(rt, "memory"),
@@ -111,47 +121,18 @@ fn joins_wait_and_strangers_are_refused(rt: HostRuntime) {
     let g = name(&rt, alloc);
     let mut core = node(&rt, alloc);
     let mut clients: Vec<SteadyClient> = Vec::new(alloc);
-    let first = join(&rt, alloc, provider(1));
-    decide(
-        &mut core,
-        &mut clients,
-        alloc,
-        &g,
-        provider(1),
-        1,
-        Phases::One,
-        &first,
-    )
-    .expect(&rt, "memory");
+    let first = asks(&rt, alloc, provider(1), join(&rt, alloc, provider(1)));
+    decide(&mut core, &mut clients, alloc, &first).expect(&rt, "memory");
     assert!(rt; waiting_joins(&core, g.bytes()) == 1);
     assert!(rt; told(&core).is_none());
-    decide(
-        &mut core,
-        &mut clients,
-        alloc,
-        &g,
-        provider(1),
-        1,
-        Phases::One,
-        &first,
-    )
-    .expect(&rt, "memory");
+    decide(&mut core, &mut clients, alloc, &first).expect(&rt, "memory");
     assert!(rt; told(&core) == Some(Why::DuplicateInstance));
     let leave = Proposal::Leave {
         p: provider(2),
         r: 2,
     };
-    decide(
-        &mut core,
-        &mut clients,
-        alloc,
-        &g,
-        provider(2),
-        2,
-        Phases::One,
-        &leave,
-    )
-    .expect(&rt, "memory");
+    let second = asks(&rt, alloc, provider(2), leave);
+    decide(&mut core, &mut clients, alloc, &second).expect(&rt, "memory");
     assert!(rt; told(&core) == Some(Why::NotAMember));
     refuse(&mut core, alloc, &g, provider(3), 3, Why::BadAttributes).expect(&rt, "memory");
     assert!(rt; told(&core) == Some(Why::BadAttributes));

@@ -4,13 +4,11 @@ ghost use Rattle.rsct_packet.specs.Text.{IsName};
 ghost use Rattle.client_callbacks.specs.Ballots.{is_level};
 ghost use Rattle.session_state.specs.Calls.{Answers, SameSessions, left, expelled, state_changed, message_sent, attributes_changed, voted, joined};
 
-use crate::checks::{
-    check_ask, check_attributes, check_bytes, check_join, check_message, check_session,
-    check_targets, check_value, is_kept, member,
-};
+use crate::asking::{Asked, ask};
+use crate::checks::{check_join, check_session, check_value, is_kept, member};
 use client_callbacks::Ballot;
 use group_attr::{Attrs, Phases};
-use proposal_core::{Proposal, Vote, text_of};
+use proposal_core::{Proposal, Vote};
 use rsct_packet::{Name, NoMemory, ProviderId, Providers};
 use session_state::{GsFault, KeptBallot, MemberToken, Provider, Request, SessionState};
 use std::alloc::Global;
@@ -28,7 +26,7 @@ fn name_of(alloc: Global, group: &[u8]) -> Result<Name, NoMemory>
 }
 
 /// Puts a request with the next number at the end.
-fn put_request(sessions: &mut SessionState, request: Request) -> Result<(), NoMemory>
+pub fn put_request(sessions: &mut SessionState, request: Request) -> Result<(), NoMemory>
     ensures ok { OnOk result (sessions.new ≡ record
         sessions.old {
           last_request = request.r;
@@ -135,7 +133,6 @@ pub fn join(
 }
 
 /// Asks that the provider leaves.
-#[tactic(auto, unfolding(session_state::specs::Calls::left, session_state::specs::Calls::request_made, session_state::specs::Calls::ask_fault, session_state::specs::Calls::asked, session_state::specs::Calls::no_session_fault))]
 pub fn leave(
     sessions: &mut SessionState,
     alloc: Global,
@@ -145,29 +142,10 @@ pub fn leave(
     ensures answer { Answers result sessions.old sessions.new (left sessions.old token phases) }
     ensures same { SameSessions sessions.old sessions.new }
 {
-    check_session(sessions)?;
-    let Some(x) = member(sessions, token) else {
-        return Err(GsFault::BadMemberToken);
-    };
-    check_ask(sessions, x.p)?;
-    let p = x.p;
-    let group = x.group.copy(alloc)?;
-    let r = sessions.last_request + 1;
-    put_request(
-        sessions,
-        Request {
-            p,
-            r,
-            group,
-            phases,
-            proposal: Proposal::Leave { p, r },
-        },
-    )?;
-    Ok(())
+    ask(sessions, alloc, token, phases, Asked::Leave)
 }
 
 /// Asks that these are expelled.
-#[tactic(auto, unfolding(session_state::specs::Calls::expelled, session_state::specs::Calls::request_made, session_state::specs::Calls::ask_fault, session_state::specs::Calls::asked, session_state::specs::Calls::no_session_fault))]
 pub fn expel(
     sessions: &mut SessionState,
     alloc: Global,
@@ -179,31 +157,10 @@ pub fn expel(
         (expelled sessions.old token phases out.now) }
     ensures same { SameSessions sessions.old sessions.new }
 {
-    check_session(sessions)?;
-    let Some(x) = member(sessions, token) else {
-        return Err(GsFault::BadMemberToken);
-    };
-    check_targets(out)?;
-    check_ask(sessions, x.p)?;
-    let p = x.p;
-    let group = x.group.copy(alloc)?;
-    let r = sessions.last_request + 1;
-    let out = Providers::of(alloc, out)?;
-    put_request(
-        sessions,
-        Request {
-            p,
-            r,
-            group,
-            phases,
-            proposal: Proposal::Expel { p, r, out },
-        },
-    )?;
-    Ok(())
+    ask(sessions, alloc, token, phases, Asked::Expel(out))
 }
 
 /// Asks that the group's value becomes this one.
-#[tactic(auto, unfolding(session_state::specs::Calls::state_changed, session_state::specs::Calls::request_made, session_state::specs::Calls::ask_fault, session_state::specs::Calls::asked, session_state::specs::Calls::no_session_fault))]
 pub fn change_state(
     sessions: &mut SessionState,
     alloc: Global,
@@ -215,31 +172,10 @@ pub fn change_state(
         (state_changed sessions.old token phases value.now) }
     ensures same { SameSessions sessions.old sessions.new }
 {
-    check_session(sessions)?;
-    let Some(x) = member(sessions, token) else {
-        return Err(GsFault::BadMemberToken);
-    };
-    check_bytes(sessions, value)?;
-    check_ask(sessions, x.p)?;
-    let p = x.p;
-    let group = x.group.copy(alloc)?;
-    let r = sessions.last_request + 1;
-    let value = text_of(alloc, value)?;
-    put_request(
-        sessions,
-        Request {
-            p,
-            r,
-            group,
-            phases,
-            proposal: Proposal::State { p, r, value },
-        },
-    )?;
-    Ok(())
+    ask(sessions, alloc, token, phases, Asked::State(value))
 }
 
 /// Asks that this message is sent to all.
-#[tactic(auto, unfolding(session_state::specs::Calls::message_sent, session_state::specs::Calls::request_made, session_state::specs::Calls::ask_fault, session_state::specs::Calls::asked, session_state::specs::Calls::no_session_fault))]
 pub fn send_message(
     sessions: &mut SessionState,
     alloc: Global,
@@ -251,31 +187,10 @@ pub fn send_message(
         (message_sent sessions.old token phases text.now) }
     ensures same { SameSessions sessions.old sessions.new }
 {
-    check_session(sessions)?;
-    let Some(x) = member(sessions, token) else {
-        return Err(GsFault::BadMemberToken);
-    };
-    check_message(text)?;
-    check_ask(sessions, x.p)?;
-    let p = x.p;
-    let group = x.group.copy(alloc)?;
-    let r = sessions.last_request + 1;
-    let bytes = text_of(alloc, text)?;
-    put_request(
-        sessions,
-        Request {
-            p,
-            r,
-            group,
-            phases,
-            proposal: Proposal::Message { p, r, bytes },
-        },
-    )?;
-    Ok(())
+    ask(sessions, alloc, token, phases, Asked::Message(text))
 }
 
 /// Asks that the group's attributes become these.
-#[tactic(auto, unfolding(session_state::specs::Calls::attributes_changed, session_state::specs::Calls::ask_fault, session_state::specs::Calls::asked, session_state::specs::Calls::no_session_fault))]
 pub fn change_attributes(
     sessions: &mut SessionState,
     alloc: Global,
@@ -287,26 +202,7 @@ pub fn change_attributes(
         (attributes_changed sessions.old token phases attrs) }
     ensures same { SameSessions sessions.old sessions.new }
 {
-    check_session(sessions)?;
-    let Some(x) = member(sessions, token) else {
-        return Err(GsFault::BadMemberToken);
-    };
-    check_attributes(&attrs, x.group.bytes())?;
-    check_ask(sessions, x.p)?;
-    let p = x.p;
-    let group = x.group.copy(alloc)?;
-    let r = sessions.last_request + 1;
-    put_request(
-        sessions,
-        Request {
-            p,
-            r,
-            group,
-            phases,
-            proposal: Proposal::Attributes { p, r, attrs },
-        },
-    )?;
-    Ok(())
+    ask(sessions, alloc, token, phases, Asked::Attributes(attrs))
 }
 
 /// Keeps a ballot of the provider.

@@ -242,7 +242,8 @@ pub fn check_join(
 
 /// Is the subscription the client's?
 fn is_subscription(live: &[Subscription], client: ClientToken, subscription: SubToken) -> bool
-    ensures { result ≡ list_any (λ x. has_token subscription x && is_of_client client x) live.now }
+    ensures { result
+        ≡ list_any (λ x. has_token subscription x && is_of_client client x) live.now }
 {
     live.iter()
         .any(|x| x.token == subscription && x.client == client)

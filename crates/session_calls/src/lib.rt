@@ -1,6 +1,7 @@
 //! The effect of clients' calls on a node's sessions, by their checks in order; sessions begin and end with their clients.
 #![tactic(auto)]
 
+mod asking;
 mod calls;
 mod checks;
 mod ends;

@@ -9,9 +9,7 @@ ghost use Rattle.session_state.specs.HandOn.{kept_ended, kept_after, hears, hear
 use client_callbacks::Why;
 use proposal_core::{Entry, GroupState, Proposal};
 use rsct_packet::{List, Name, NoMemory, ProtoId, ProviderId, is_among};
-use session_state::{
-    Cast, KeptBallot, NewEntry, Request, SessionState, brought_by, is_present, joiners_in,
-};
+use session_state::{Cast, KeptBallot, NewEntry, Request, SessionState, brought_by};
 use std::alloc::Global;
 
 fn drop_requests_of(requests: &mut List<Request>, providers: &[ProviderId])
@@ -39,7 +37,7 @@ fn drop_kept_in(kept: &mut List<KeptBallot>, group: &[u8], proto: ProtoId, phase
 }
 
 /// Those whom the entry removes, or whose join it rejects.
-#[tactic(auto, unfolding(session_state::specs::HandOn::removed_from), using(std::proofs::lemmas::List::Elements::filter_more, std::proofs::lemmas::Grind::common_steps))]
+#[tactic(auto, unfolding(session_state::specs::HandOn::removed_from, session_state::specs::HandOn::is_present), using(std::proofs::lemmas::List::Elements::filter_more, std::proofs::lemmas::Grind::common_steps))]
 fn removed_from(
     alloc: Global,
     after: &GroupState,
@@ -49,7 +47,7 @@ fn removed_from(
 {
     let mut gone = List::new(alloc);
     for p in providers {
-        if !is_present(after, *p) {
+        if !after.is_present(*p) {
             gone.push(*p)?;
         }
     }
@@ -271,7 +269,7 @@ pub fn hearers(
 {
     let mut out = List::new(alloc);
     add_hearers(sessions, group, true, before.members.as_slice(), &mut out)?;
-    add_hearers(sessions, group, true, joiners_in(&before.running), &mut out)?;
+    add_hearers(sessions, group, true, before.joiners(), &mut out)?;
     let mut new = beginners(sessions, alloc, group, entry)?;
     out.append(&mut new)?;
     Ok(out)

@@ -11,5 +11,5 @@ mod state;
 pub use casts::{Cast, Casts};
 pub use fault::{Field, GsFault};
 pub use locals::Locals;
-pub use new_entry::{NewEntry, brought_by, is_present, joiners_in};
+pub use new_entry::{NewEntry, brought_by};
 pub use state::{KeptBallot, MemberToken, OpenPhase, Provider, Request, Session, SessionState};

@@ -1,10 +1,10 @@
 //! A new entry of a group's list, as it is handed on.
 ghost use Rattle.std.specs.Prelude.{◌≡◌, [], Option};
-ghost use Rattle.proposal_core.specs.Fold.{joiners_in, joins_of};
-ghost use Rattle.session_state.specs.HandOn.{is_late, opens_phase, asks, running_phase, brought_by, is_present};
+ghost use Rattle.proposal_core.specs.Fold;
+ghost use Rattle.session_state.specs.HandOn.{is_late, opens_phase, asks, running_phase, brought_by};
 
 use crate::state::OpenPhase;
-use proposal_core::{Entry, GroupState, Proposal, Running};
+use proposal_core::{Entry, GroupState, Running};
 use rsct_packet::{Name, ProviderId, ViewId, is_among};
 
 /// A new entry of a group's list at its place in a view, with the state after it and that state's voters.
@@ -52,43 +52,15 @@ pub fn running_phase(running: &Option<Running>) -> Option<OpenPhase>
     }
 }
 
-/// The providers of a join.
-fn joins_of(proposal: &Proposal) -> &[ProviderId]
-    ensures { result.now ≡ joins_of proposal.now }
-{
-    match proposal {
-        Proposal::Join { ps, .. } => ps.as_slice(),
-        _ => &[],
-    }
-}
-
-/// The running joiners.
-pub fn joiners_in(running: &Option<Running>) -> &[ProviderId]
-    ensures { result.now ≡ joiners_in running.now }
-{
-    match running {
-        None => &[],
-        Some(run) => joins_of(&run.proposal),
-    }
-}
-
 /// Those whom the entry's join brings.
 pub fn brought_by(entry: &Entry) -> &[ProviderId]
     ensures { result.now ≡ brought_by entry.now }
 {
     match entry {
-        Entry::Once(x) => joins_of(x),
-        Entry::Begin(x) => joins_of(x),
+        Entry::Once(x) => x.joiners(),
+        Entry::Begin(x) => x.joiners(),
         _ => &[],
     }
-}
-
-/// Is it a member or a running joiner?
-#[tactic(auto, unfolding(crate::specs::HandOn::is_present))]
-pub fn is_present(after: &GroupState, provider: ProviderId) -> bool
-    ensures { result ≡ is_present after.now provider }
-{
-    is_among(after.members.as_slice(), provider) || is_among(joiners_in(&after.running), provider)
 }
 
 impl NewEntry<'_> {

@@ -1,4 +1,7 @@
 //! What a node has of its clients, apart from the clients themselves.
+ghost use Rattle.std.specs.Prelude.{◌≡◌, find, option_copied};
+ghost use Rattle.session_state.specs.State.{is_session, client_name};
+
 use crate::locals::Locals;
 use client_callbacks::Ballot;
 use group_attr::Phases;
@@ -94,6 +97,26 @@ pub struct SessionState {
     pub requests: List<Request>,
     pub subs: Subs,
     pub kept: List<KeptBallot>,
+}
+
+impl SessionState {
+    /// The live session of a client.
+    fn session_of(&self, client: ClientToken) -> Option<&Session>
+        ensures { option_copied result ≡ find (is_session client) self.now.sessions }
+    {
+        self.sessions.as_slice().iter().find(|x| x.token == client)
+    }
+
+    /// The name of a live client.
+    #[tactic(auto, unfolding(crate::specs::State::client_name))]
+    pub fn client_name(&self, client: ClientToken) -> Option<&[u8]>
+        ensures { option_copied result ≡ client_name self.now client }
+    {
+        match self.session_of(client) {
+            None => None,
+            Some(x) => Some(x.name.as_slice()),
+        }
+    }
 }
 
 impl Drop for SessionState {

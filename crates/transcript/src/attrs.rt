@@ -5,7 +5,6 @@ ghost use Rattle.world_model.specs.Text.{phases_text, batch_text, default_text, 
 use group_attr::{Attrs, Batch, DefaultVote, Phases};
 use node_text::{put_number, put_text};
 use rsct_packet::{Name, NoMemory};
-use std::alloc::Global;
 
 #[tactic(auto, unfolding(world_model::specs::Text::phases_text))]
 fn phases_text(phases: Phases) -> &'static [u8]
@@ -40,14 +39,14 @@ fn default_text(vote: DefaultVote) -> &'static [u8]
 }
 
 #[tactic(auto, unfolding(world_model::specs::Text::limit_text))]
-fn put_limit(alloc: Global, out: &mut Vec<u8>, limit: u16) -> Result<(), NoMemory>
+fn put_limit(out: &mut Vec<u8>, limit: u16) -> Result<(), NoMemory>
     ensures { OnOk result (out.new.items ≡ out.old.items ++ limit_text limit) }
 {
     if limit == 0 {
         return Ok(());
     }
     put_text(out, b" limit=")?;
-    put_number(alloc, out, u32::from(limit))
+    put_number(out, u32::from(limit))
 }
 
 #[tactic(auto, unfolding(world_model::specs::Text::source_text))]
@@ -74,26 +73,26 @@ fn source_phases_text(phases: Phases) -> &'static [u8]
 }
 
 #[tactic(auto, unfolding(world_model::specs::Text::source_limit_text))]
-fn put_source_limit(alloc: Global, out: &mut Vec<u8>, limit: u16) -> Result<(), NoMemory>
+fn put_source_limit(out: &mut Vec<u8>, limit: u16) -> Result<(), NoMemory>
     ensures { OnOk result (out.new.items ≡ out.old.items ++ source_limit_text limit) }
 {
     if limit == 0 {
         return Ok(());
     }
     put_text(out, b" slimit=")?;
-    put_number(alloc, out, u32::from(limit))
+    put_number(out, u32::from(limit))
 }
 
 /// The attributes that are not those of the empty state, each behind a space.
 #[tactic(auto, unfolding(world_model::specs::Text::attrs_text))]
-pub fn put_attrs(alloc: Global, out: &mut Vec<u8>, attrs: &Attrs) -> Result<(), NoMemory>
+pub fn put_attrs(out: &mut Vec<u8>, attrs: &Attrs) -> Result<(), NoMemory>
     ensures { OnOk result (out.new.items ≡ out.old.items ++ attrs_text attrs.now) }
 {
     put_text(out, phases_text(attrs.phases))?;
     put_text(out, batch_text(attrs.batch))?;
     put_text(out, default_text(attrs.default_vote))?;
-    put_limit(alloc, out, attrs.limit)?;
+    put_limit(out, attrs.limit)?;
     put_source(out, &attrs.source)?;
     put_text(out, source_phases_text(attrs.source_phases))?;
-    put_source_limit(alloc, out, attrs.source_limit)
+    put_source_limit(out, attrs.source_limit)
 }

@@ -29,17 +29,12 @@ pub fn why_text(why: LineWhy) -> &'static [u8]
 }
 
 /// Says of the line with this number why it is in no script.
-pub fn put_fault_line(
-    alloc: Global,
-    out: &mut Vec<u8>,
-    number: u32,
-    why: LineWhy,
-) -> Result<(), NoMemory>
+pub fn put_fault_line(out: &mut Vec<u8>, number: u32, why: LineWhy) -> Result<(), NoMemory>
     ensures { OnOk result (out.new.items ≡ out.old.items
         ++ (codes "hags: line " ++ decimal number ++ codes ": " ++ why_text why ++ codes "\n")) }
 {
     put_text(out, b"hags: line ")?;
-    put_number(alloc, out, number)?;
+    put_number(out, number)?;
     put_text(out, b": ")?;
     put_text(out, why_text(why))?;
     put_text(out, b"\n")
@@ -51,6 +46,6 @@ pub fn fault_line(alloc: Global, number: u32, why: LineWhy) -> Result<Vec<u8>, N
         ++ why_text why ++ codes "\n") }
 {
     let mut out = Vec::new(alloc);
-    put_fault_line(alloc, &mut out, number, why)?;
+    put_fault_line(&mut out, number, why)?;
     Ok(out)
 }

@@ -10,7 +10,6 @@ use node_text::{
 };
 use proposal_core::{Closed, Entry, Row, RowVote, Vote};
 use rsct_packet::{NoMemory, ProtoId, Text};
-use std::alloc::Global;
 
 #[tactic(auto, unfolding(world_model::specs::Text::value_option_text))]
 fn put_value_option(out: &mut Vec<u8>, value: &Option<Text>) -> Result<(), NoMemory>
@@ -61,103 +60,93 @@ fn put_row_vote(out: &mut Vec<u8>, vote: RowVote) -> Result<(), NoMemory>
 }
 
 #[tactic(auto, unfolding(world_model::specs::Text::row_text))]
-fn put_row(alloc: Global, out: &mut Vec<u8>, row: Row) -> Result<(), NoMemory>
+fn put_row(out: &mut Vec<u8>, row: Row) -> Result<(), NoMemory>
     ensures { OnOk result (out.new.items ≡ out.old.items ++ row_text row) }
 {
-    put_provider(alloc, out, row.p)?;
+    put_provider(out, row.p)?;
     put_text(out, b"=")?;
     put_row_vote(out, row.vote)
 }
 
 /// Rows, each behind a comma.
-fn put_more_rows(alloc: Global, out: &mut Vec<u8>, rows: &[Row]) -> Result<(), NoMemory>
+fn put_more_rows(out: &mut Vec<u8>, rows: &[Row]) -> Result<(), NoMemory>
     ensures { OnOk result (out.new.items ≡ out.old.items
         ++ flat_map (λ y. codes "," ++ row_text y) rows.now) }
 {
     for row in rows {
         put_text(out, b",")?;
-        put_row(alloc, out, *row)?;
+        put_row(out, *row)?;
     }
     Ok(())
 }
 
 /// Rows between commas, `-` for none.
 #[tactic(auto, unfolding(node_state::specs::Wording::joined))]
-fn put_rows(alloc: Global, out: &mut Vec<u8>, rows: &[Row]) -> Result<(), NoMemory>
+fn put_rows(out: &mut Vec<u8>, rows: &[Row]) -> Result<(), NoMemory>
     ensures { OnOk result (out.new.items ≡ out.old.items ++ joined row_text rows.now) }
 {
     match rows {
         [] => put_text(out, b"-"),
         [first, others @ ..] => {
-            put_row(alloc, out, *first)?;
-            put_more_rows(alloc, out, others)
+            put_row(out, *first)?;
+            put_more_rows(out, others)
         }
     }
 }
 
 /// The protocol and the phase, each with the space behind it.
 #[tactic(auto, unfolding(world_model::specs::Text::phase_text, node_state::specs::Wording::word))]
-pub fn put_phase(
-    alloc: Global,
-    out: &mut Vec<u8>,
-    proto: ProtoId,
-    phase: u16,
-) -> Result<(), NoMemory>
+pub fn put_phase(out: &mut Vec<u8>, proto: ProtoId, phase: u16) -> Result<(), NoMemory>
     ensures { OnOk result (out.new.items ≡ out.old.items ++ phase_text proto phase) }
 {
-    put_proto(alloc, out, proto)?;
+    put_proto(out, proto)?;
     put_text(out, b" ")?;
-    put_number_word(alloc, out, u32::from(phase))
+    put_number_word(out, u32::from(phase))
 }
 
 #[tactic(auto, unfolding(world_model::specs::Text::closed_text))]
-fn put_closed(alloc: Global, out: &mut Vec<u8>, closed: &Closed) -> Result<(), NoMemory>
+fn put_closed(out: &mut Vec<u8>, closed: &Closed) -> Result<(), NoMemory>
     ensures { OnOk result (out.new.items ≡ out.old.items ++ closed_text closed.now) }
 {
-    put_phase(alloc, out, closed.proto, closed.phase)?;
-    put_rows(alloc, out, closed.rows.as_slice())
+    put_phase(out, closed.proto, closed.phase)?;
+    put_rows(out, closed.rows.as_slice())
 }
 
 /// A label, and behind it what closes a phase, and its value.
-fn put_closed_value(
-    alloc: Global,
-    out: &mut Vec<u8>,
-    label: &[u8],
-    closed: &Closed,
-) -> Result<(), NoMemory>
+fn put_closed_value(out: &mut Vec<u8>, label: &[u8], closed: &Closed) -> Result<(), NoMemory>
     ensures { OnOk result (out.new.items ≡ out.old.items
         ++ (label.now ++ closed_text closed.now ++ codes " "
         ++ value_option_text closed.now.value)) }
 {
     put_text(out, label)?;
-    put_closed(alloc, out, closed)?;
+    put_closed(out, closed)?;
     put_text(out, b" ")?;
     put_value_option(out, &closed.value)
 }
 
 #[tactic(auto, unfolding(world_model::specs::Text::entry_text))]
-pub fn put_entry(alloc: Global, out: &mut Vec<u8>, entry: &Entry) -> Result<(), NoMemory>
+pub fn put_entry(out: &mut Vec<u8>, entry: &Entry) -> Result<(), NoMemory>
     ensures { OnOk result (out.new.items ≡ out.old.items ++ entry_text entry.now) }
 {
     match entry {
         Entry::Once(x) => {
             put_text(out, b"once ")?;
-            put_proposal(alloc, out, x)
+            put_proposal(out, x)
         }
         Entry::Begin(x) => {
             put_text(out, b"begin ")?;
-            put_proposal(alloc, out, x)
+            put_proposal(out, x)
         }
-        Entry::Phase(c) => put_closed_value(alloc, out, b"phase ", c),
-        Entry::Approve(c) => put_closed_value(alloc, out, b"approve ", c),
+        Entry::Phase(c) => put_closed_value(out, b"phase ", c),
+        Entry::Approve(c) => put_closed_value(out, b"approve ", c),
         Entry::Reject(c) => {
             put_text(out, b"reject ")?;
-            put_closed(alloc, out, c)
+            put_closed(out, c)
         }
         Entry::Late { proto, phase, ps } => {
             put_text(out, b"late ")?;
-            put_phase(alloc, out, *proto, *phase)?;
-            put_providers(alloc, out, ps.as_slice())
+            put_phase(out, *proto, *phase)?;
+            put_providers(out, ps.as_slice())
         }
     }
 }

@@ -7,29 +7,28 @@ use group_attr::AttrFault;
 use node_text::{put_counted, put_labelled, put_number, put_proto, put_text};
 use rsct_packet::NoMemory;
 use session_state::{Field, GsFault};
-use std::alloc::Global;
 
 #[tactic(auto, unfolding(world_model::specs::Text::why_text))]
-pub fn put_why(alloc: Global, out: &mut Vec<u8>, why: Why) -> Result<(), NoMemory>
+pub fn put_why(out: &mut Vec<u8>, why: Why) -> Result<(), NoMemory>
     ensures { OnOk result (out.new.items ≡ out.old.items ++ why_text why) }
 {
     match why {
         Why::Collide(proto) => {
             put_text(out, b"COLLIDE ")?;
-            put_proto(alloc, out, proto)
+            put_proto(out, proto)
         }
         Why::DuplicateInstance => put_text(out, b"DUPLICATE_INSTANCE_NUMBER"),
-        Why::NoSource(len) => put_counted(alloc, out, b"NO_SOURCE_GROUP_PROVIDER ", len),
+        Why::NoSource(len) => put_counted(out, b"NO_SOURCE_GROUP_PROVIDER ", len),
         Why::BadAttributes => put_text(out, b"BAD_GROUP_ATTRIBUTES"),
         Why::NotAMember => put_text(out, b"NOT_A_MEMBER"),
         Why::ListFull(places, bytes) => {
             put_text(out, b"LIST_FULL ")?;
-            put_number(alloc, out, places)?;
+            put_number(out, places)?;
             put_text(out, b"/")?;
-            put_number(alloc, out, bytes)
+            put_number(out, bytes)
         }
-        Why::GroupFull(n) => put_counted(alloc, out, b"GROUP_FULL ", n),
-        Why::GroupsFull(n) => put_counted(alloc, out, b"GROUPS_FULL ", n),
+        Why::GroupFull(n) => put_counted(out, b"GROUP_FULL ", n),
+        Why::GroupsFull(n) => put_counted(out, b"GROUPS_FULL ", n),
         Why::Dissolved => put_text(out, b"DISSOLVED"),
     }
 }
@@ -59,7 +58,7 @@ fn attr_fault_text(fault: AttrFault) -> &'static [u8]
 }
 
 #[tactic(auto, unfolding(world_model::specs::Text::fault_text))]
-pub fn put_fault(alloc: Global, out: &mut Vec<u8>, fault: GsFault) -> Result<(), NoMemory>
+pub fn put_fault(out: &mut Vec<u8>, fault: GsFault) -> Result<(), NoMemory>
     ensures { OnOk result (out.new.items ≡ out.old.items ++ fault_text fault) }
 {
     match fault {
@@ -74,8 +73,8 @@ pub fn put_fault(alloc: Global, out: &mut Vec<u8>, fault: GsFault) -> Result<(),
             put_labelled(out, b"BAD_GROUP_ATTRIBUTES ", attr_fault_text(fault))
         }
         GsFault::VoteNotExpected => put_text(out, b"VOTE_NOT_EXPECTED"),
-        GsFault::Collide(r) => put_counted(alloc, out, b"COLLIDE ", r),
-        GsFault::SessionsFull(n) => put_counted(alloc, out, b"SESSIONS_FULL ", n),
+        GsFault::Collide(r) => put_counted(out, b"COLLIDE ", r),
+        GsFault::SessionsFull(n) => put_counted(out, b"SESSIONS_FULL ", n),
         GsFault::Spent => put_text(out, b"SPENT"),
         GsFault::NoMemory => put_text(out, b"NO_MEMORY"),
     }

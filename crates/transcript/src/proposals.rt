@@ -8,17 +8,16 @@ use group_attr::Attrs;
 use node_text::{put_number, put_provider, put_providers, put_text, put_value, put_view};
 use proposal_core::{Cause, Failure, Proposal};
 use rsct_packet::{NoMemory, ProviderId, Providers, Text, ViewId};
-use std::alloc::Global;
 
 #[tactic(auto, unfolding(world_model::specs::Text::source_len_text))]
-fn put_source_len(alloc: Global, out: &mut Vec<u8>, len: Option<u32>) -> Result<(), NoMemory>
+fn put_source_len(out: &mut Vec<u8>, len: Option<u32>) -> Result<(), NoMemory>
     ensures { OnOk result (out.new.items ≡ out.old.items ++ source_len_text len) }
 {
     match len {
         None => Ok(()),
         Some(n) => {
             put_text(out, b" src=")?;
-            put_number(alloc, out, n)
+            put_number(out, n)
         }
     }
 }
@@ -35,57 +34,51 @@ fn cause_text(cause: Cause) -> &'static [u8]
 }
 
 #[tactic(auto, unfolding(world_model::specs::Text::failure_text))]
-fn put_failure(alloc: Global, out: &mut Vec<u8>, failure: Failure) -> Result<(), NoMemory>
+fn put_failure(out: &mut Vec<u8>, failure: Failure) -> Result<(), NoMemory>
     ensures { OnOk result (out.new.items ≡ out.old.items ++ failure_text failure) }
 {
-    put_provider(alloc, out, failure.p)?;
+    put_provider(out, failure.p)?;
     put_text(out, cause_text(failure.cause))
 }
 
 /// Those that failed, each behind a comma.
-fn put_more_failures(alloc: Global, out: &mut Vec<u8>, failures: &[Failure]) -> Result<(), NoMemory>
+fn put_more_failures(out: &mut Vec<u8>, failures: &[Failure]) -> Result<(), NoMemory>
     ensures { OnOk result (out.new.items ≡ out.old.items
         ++ flat_map (λ y. codes "," ++ failure_text y) failures.now) }
 {
     for f in failures {
         put_text(out, b",")?;
-        put_failure(alloc, out, *f)?;
+        put_failure(out, *f)?;
     }
     Ok(())
 }
 
 /// Those that failed between commas, `-` for none.
 #[tactic(auto, unfolding(node_state::specs::Wording::joined))]
-fn put_failures(alloc: Global, out: &mut Vec<u8>, failures: &[Failure]) -> Result<(), NoMemory>
+fn put_failures(out: &mut Vec<u8>, failures: &[Failure]) -> Result<(), NoMemory>
     ensures { OnOk result (out.new.items ≡ out.old.items ++ joined failure_text failures.now) }
 {
     match failures {
         [] => put_text(out, b"-"),
         [first, others @ ..] => {
-            put_failure(alloc, out, *first)?;
-            put_more_failures(alloc, out, others)
+            put_failure(out, *first)?;
+            put_more_failures(out, others)
         }
     }
 }
 
 /// Who asks, and with which number.
 #[tactic(auto, unfolding(world_model::specs::Text::asker_text))]
-fn put_asker(
-    alloc: Global,
-    out: &mut Vec<u8>,
-    provider: ProviderId,
-    request: u32,
-) -> Result<(), NoMemory>
+fn put_asker(out: &mut Vec<u8>, provider: ProviderId, request: u32) -> Result<(), NoMemory>
     ensures { OnOk result (out.new.items ≡ out.old.items ++ asker_text provider request) }
 {
-    put_provider(alloc, out, provider)?;
+    put_provider(out, provider)?;
     put_text(out, b"/")?;
-    put_number(alloc, out, request)
+    put_number(out, request)
 }
 
 /// A label, and who asks behind it.
 fn put_asked(
-    alloc: Global,
     out: &mut Vec<u8>,
     label: &[u8],
     provider: ProviderId,
@@ -95,12 +88,11 @@ fn put_asked(
         (out.new.items ≡ out.old.items ++ (label.now ++ asker_text provider request)) }
 {
     put_text(out, label)?;
-    put_asker(alloc, out, provider, request)
+    put_asker(out, provider, request)
 }
 
 /// A label, and behind it who asks, and a value.
 fn put_asked_value(
-    alloc: Global,
     out: &mut Vec<u8>,
     label: &[u8],
     provider: ProviderId,
@@ -110,14 +102,13 @@ fn put_asked_value(
     ensures { OnOk result (out.new.items ≡ out.old.items
         ++ (label.now ++ asker_text provider request ++ codes " " ++ value_text value.now)) }
 {
-    put_asked(alloc, out, label, provider, request)?;
+    put_asked(out, label, provider, request)?;
     put_text(out, b" ")?;
     put_value(out, value.bytes())
 }
 
 /// A join.
 fn put_join(
-    alloc: Global,
     out: &mut Vec<u8>,
     providers: &Providers,
     attrs: &Attrs,
@@ -128,33 +119,27 @@ fn put_join(
         ++ source_len_text source_len)) }
 {
     put_text(out, b"join ")?;
-    put_providers(alloc, out, providers.as_slice())?;
-    put_attrs(alloc, out, attrs)?;
-    put_source_len(alloc, out, source_len)
+    put_providers(out, providers.as_slice())?;
+    put_attrs(out, attrs)?;
+    put_source_len(out, source_len)
 }
 
 /// A value that is reflected.
-fn put_reflect(
-    alloc: Global,
-    out: &mut Vec<u8>,
-    view: ViewId,
-    place: u32,
-    value: &Text,
-) -> Result<(), NoMemory>
+fn put_reflect(out: &mut Vec<u8>, view: ViewId, place: u32, value: &Text) -> Result<(), NoMemory>
     ensures { OnOk result (out.new.items ≡ out.old.items
         ++ (codes "reflect " ++ view_text view ++ codes "/" ++ decimal place ++ codes " "
         ++ value_text value.now)) }
 {
     put_text(out, b"reflect ")?;
-    put_view(alloc, out, view)?;
+    put_view(out, view)?;
     put_text(out, b"/")?;
-    put_number(alloc, out, place)?;
+    put_number(out, place)?;
     put_text(out, b" ")?;
     put_value(out, value.bytes())
 }
 
 #[tactic(auto, unfolding(world_model::specs::Text::proposal_text))]
-pub fn put_proposal(alloc: Global, out: &mut Vec<u8>, proposal: &Proposal) -> Result<(), NoMemory>
+pub fn put_proposal(out: &mut Vec<u8>, proposal: &Proposal) -> Result<(), NoMemory>
     ensures { OnOk result (out.new.items ≡ out.old.items ++ proposal_text proposal.now) }
 {
     match proposal {
@@ -162,25 +147,23 @@ pub fn put_proposal(alloc: Global, out: &mut Vec<u8>, proposal: &Proposal) -> Re
             ps,
             attrs,
             source_len,
-        } => put_join(alloc, out, ps, attrs, *source_len),
-        Proposal::Leave { p, r } => put_asked(alloc, out, b"leave ", *p, *r),
+        } => put_join(out, ps, attrs, *source_len),
+        Proposal::Leave { p, r } => put_asked(out, b"leave ", *p, *r),
         Proposal::Fail { out: fallen } => {
             put_text(out, b"fail ")?;
-            put_failures(alloc, out, fallen.as_slice())
+            put_failures(out, fallen.as_slice())
         }
         Proposal::Expel { p, r, out: targets } => {
-            put_asked(alloc, out, b"expel ", *p, *r)?;
+            put_asked(out, b"expel ", *p, *r)?;
             put_text(out, b" ")?;
-            put_providers(alloc, out, targets.as_slice())
+            put_providers(out, targets.as_slice())
         }
-        Proposal::State { p, r, value } => put_asked_value(alloc, out, b"state ", *p, *r, value),
-        Proposal::Message { p, r, bytes } => {
-            put_asked_value(alloc, out, b"message ", *p, *r, bytes)
-        }
+        Proposal::State { p, r, value } => put_asked_value(out, b"state ", *p, *r, value),
+        Proposal::Message { p, r, bytes } => { put_asked_value(out, b"message ", *p, *r, bytes) }
         Proposal::Attributes { p, r, attrs } => {
-            put_asked(alloc, out, b"attrs ", *p, *r)?;
-            put_attrs(alloc, out, attrs)
+            put_asked(out, b"attrs ", *p, *r)?;
+            put_attrs(out, attrs)
         }
-        Proposal::Reflect { view, place, value } => put_reflect(alloc, out, *view, *place, value),
+        Proposal::Reflect { view, place, value } => put_reflect(out, *view, *place, value),
     }
 }

@@ -22,15 +22,15 @@ use session_state::GsFault;
 use std::alloc::Global;
 
 #[tactic(auto, unfolding(world_model::specs::Text::running_text))]
-fn put_running(alloc: Global, out: &mut Vec<u8>, run: &Option<Running>) -> Result<(), NoMemory>
+fn put_running(out: &mut Vec<u8>, run: &Option<Running>) -> Result<(), NoMemory>
     ensures { OnOk result (out.new.items ≡ out.old.items ++ running_text run.now) }
 {
     match run {
         None => put_text(out, b"-"),
         Some(run) => {
-            put_proto(alloc, out, run.proto)?;
+            put_proto(out, run.proto)?;
             put_text(out, b":")?;
-            put_number(alloc, out, u32::from(run.phase))
+            put_number(out, u32::from(run.phase))
         }
     }
 }
@@ -45,43 +45,45 @@ fn put_cast_value(out: &mut Vec<u8>, value: &Option<Text>) -> Result<(), NoMemor
     }
 }
 
+/// A place of a group's list in a view.
+#[derive(Clone, Copy)]
+struct Place<'a> {
+    view: ViewId,
+    group: &'a Name,
+    place: u32,
+}
+
 /// The view, the group and the place, each with the space behind it.
 #[tactic(auto, unfolding(world_model::specs::Text::place_text))]
-fn put_place(
-    alloc: Global,
-    out: &mut Vec<u8>,
-    view: ViewId,
-    group: &[u8],
-    place: u32,
-) -> Result<(), NoMemory>
-    ensures { OnOk result (out.new.items ≡ out.old.items ++ place_text view group.now place) }
+fn put_place(out: &mut Vec<u8>, at: &Place<'_>) -> Result<(), NoMemory>
+    ensures { OnOk result (out.new.items ≡ out.old.items
+        ++ place_text at.now.view at.now.group.now at.now.place) }
 {
-    put_view_word(alloc, out, view)?;
-    put_word(out, group)?;
-    put_number_word(alloc, out, place)
+    put_view_word(out, at.view)?;
+    put_word(out, at.group.bytes())?;
+    put_number_word(out, at.place)
 }
 
 /// The node and the client's name.
 #[tactic(auto, unfolding(world_model::specs::Text::client_text))]
-fn put_client(alloc: Global, out: &mut Vec<u8>, node: u8, client: &[u8]) -> Result<(), NoMemory>
+fn put_client(out: &mut Vec<u8>, node: u8, client: &[u8]) -> Result<(), NoMemory>
     ensures { OnOk result (out.new.items ≡ out.old.items ++ client_text node client.now) }
 {
-    put_number(alloc, out, u32::from(node))?;
+    put_number(out, u32::from(node))?;
     put_text(out, b".")?;
     put_word(out, client)
 }
 
 /// A label, and the node and a space behind it.
-fn put_node(alloc: Global, out: &mut Vec<u8>, label: &[u8], node: u8) -> Result<(), NoMemory>
+fn put_node(out: &mut Vec<u8>, label: &[u8], node: u8) -> Result<(), NoMemory>
     ensures { OnOk result (out.new.items ≡ out.old.items ++ (label.now ++ word (decimal node))) }
 {
     put_text(out, label)?;
-    put_number_word(alloc, out, u32::from(node))
+    put_number_word(out, u32::from(node))
 }
 
 /// A label, and behind it the provider and the number of its request, each with a space.
 fn put_request(
-    alloc: Global,
     out: &mut Vec<u8>,
     label: &[u8],
     provider: ProviderId,
@@ -91,8 +93,8 @@ fn put_request(
         ++ (label.now ++ word (provider_text provider) ++ word (decimal request))) }
 {
     put_text(out, label)?;
-    put_provider_word(alloc, out, provider)?;
-    put_number_word(alloc, out, request)
+    put_provider_word(out, provider)?;
+    put_number_word(out, request)
 }
 
 /// The record of a ring that is set; and likewise below, one function for each kind of records.
@@ -109,108 +111,96 @@ fn put_ring(
     ensures { OnOk result (out.new.items ≡ out.old.items
         ++ record_text (happened.Ring node network ring members neighbour)) }
 {
-    put_node(alloc, out, b"ring ", node)?;
-    put_number_word(alloc, out, u32::from(network))?;
-    put_ring_word(alloc, out, ring)?;
+    put_node(out, b"ring ", node)?;
+    put_number_word(out, u32::from(network))?;
+    put_ring_word(out, ring)?;
     put_mask_word(alloc, out, members)?;
-    put_number(alloc, out, u32::from(neighbour))
+    put_number(out, u32::from(neighbour))
 }
 
 #[tactic(auto, unfolding(world_model::specs::Text::record_text, node_state::specs::Wording::word))]
-fn put_in_view(
-    alloc: Global,
-    out: &mut Vec<u8>,
-    node: u8,
-    view: ViewId,
-    members: &Members,
-) -> Result<(), NoMemory>
+fn put_in_view(out: &mut Vec<u8>, node: u8, view: ViewId, members: &Members) -> Result<(), NoMemory>
     ensures { OnOk result (out.new.items ≡ out.old.items
         ++ record_text (happened.In node view members.now)) }
 {
-    put_node(alloc, out, b"in ", node)?;
-    put_view_word(alloc, out, view)?;
-    put_members(alloc, out, members.as_slice())
+    put_node(out, b"in ", node)?;
+    put_view_word(out, view)?;
+    put_members(out, members.as_slice())
+}
+
+/// What a group begins with in a view: the old view and the length of the list that it comes from, and its state.
+#[derive(Clone, Copy)]
+struct Base<'a> {
+    old: ViewId,
+    len: u32,
+    state: &'a GroupState,
 }
 
 /// The state of a group, as the record of its base ends.
 #[tactic(auto, unfolding(node_state::specs::Wording::word))]
-fn put_base_state(alloc: Global, out: &mut Vec<u8>, state: &GroupState) -> Result<(), NoMemory>
+fn put_base_state(out: &mut Vec<u8>, state: &GroupState) -> Result<(), NoMemory>
     ensures { OnOk result (out.new.items ≡ out.old.items
         ++ (word (state_text state.now.members state.now.value)
         ++ word (providers_text state.now.failed) ++ running_text state.now.running)) }
 {
-    put_state(alloc, out, state.members.as_slice(), state.value.bytes())?;
+    put_state(out, state.members.as_slice(), state.value.bytes())?;
     put_text(out, b" ")?;
-    put_providers_word(alloc, out, state.failed.as_slice())?;
-    put_running(alloc, out, &state.running)
+    put_providers_word(out, state.failed.as_slice())?;
+    put_running(out, &state.running)
 }
 
 #[tactic(auto, unfolding(world_model::specs::Text::record_text))]
 fn put_base(
-    alloc: Global,
     out: &mut Vec<u8>,
     node: u8,
     view: ViewId,
     group: &Name,
-    old: ViewId,
-    len: u32,
-    state: &GroupState,
+    base: &Base<'_>,
 ) -> Result<(), NoMemory>
     ensures { OnOk result (out.new.items ≡ out.old.items
-        ++ record_text (happened.Base node view group.now old len state.now)) }
+        ++ record_text (happened.Base node view group.now base.now.old base.now.len
+        base.now.state.now)) }
 {
-    put_node(alloc, out, b"base ", node)?;
-    put_view_word(alloc, out, view)?;
+    put_node(out, b"base ", node)?;
+    put_view_word(out, view)?;
     put_word(out, group.bytes())?;
-    put_view_word(alloc, out, old)?;
-    put_number_word(alloc, out, len)?;
-    put_base_state(alloc, out, state)
+    put_view_word(out, base.old)?;
+    put_number_word(out, base.len)?;
+    put_base_state(out, base.state)
 }
 
 #[tactic(auto, unfolding(world_model::specs::Text::record_text))]
-fn put_appended(
-    alloc: Global,
-    out: &mut Vec<u8>,
-    node: u8,
-    view: ViewId,
-    group: &Name,
-    place: u32,
-    entry: &Entry,
-) -> Result<(), NoMemory>
+fn put_appended(out: &mut Vec<u8>, node: u8, at: &Place<'_>, entry: &Entry) -> Result<(), NoMemory>
     ensures { OnOk result (out.new.items ≡ out.old.items
-        ++ record_text (happened.Put node view group.now place entry.now)) }
+        ++ record_text (happened.Put node at.now.view at.now.group.now at.now.place entry.now)) }
 {
-    put_node(alloc, out, b"put ", node)?;
-    put_place(alloc, out, view, group.bytes(), place)?;
-    put_entry(alloc, out, entry)
+    put_node(out, b"put ", node)?;
+    put_place(out, at)?;
+    put_entry(out, entry)
 }
 
 #[tactic(auto, unfolding(world_model::specs::Text::record_text))]
 fn put_heard(
-    alloc: Global,
     out: &mut Vec<u8>,
     provider: ProviderId,
-    view: ViewId,
-    group: &Name,
-    place: u32,
+    at: &Place<'_>,
     entry: &Entry,
     members: &Providers,
     value: &Text,
 ) -> Result<(), NoMemory>
     ensures { OnOk result (out.new.items ≡ out.old.items
-        ++ record_text (happened.Heard provider view group.now place entry.now members.now
-        value.now)) }
+        ++ record_text (happened.Heard provider at.now.view at.now.group.now at.now.place entry.now
+        members.now value.now)) }
 {
     put_text(out, b"heard ")?;
-    put_provider_word(alloc, out, provider)?;
-    put_place(alloc, out, view, group.bytes(), place)?;
+    put_provider_word(out, provider)?;
+    put_place(out, at)?;
     put_what_word(out, entry)?;
-    put_state(alloc, out, members.as_slice(), value.bytes())
+    put_state(out, members.as_slice(), value.bytes())
 }
 
 /// The record of a ballot, which does not show its message.
 fn put_ballot(
-    alloc: Global,
     out: &mut Vec<u8>,
     provider: ProviderId,
     proto: ProtoId,
@@ -223,15 +213,14 @@ fn put_ballot(
         ++ vote_text vote ++ cast_value_text value.now)) }
 {
     put_text(out, b"cast ")?;
-    put_provider_word(alloc, out, provider)?;
-    put_phase(alloc, out, proto, phase)?;
+    put_provider_word(out, provider)?;
+    put_phase(out, proto, phase)?;
     put_text(out, vote_text(vote))?;
     put_cast_value(out, value)
 }
 
 #[tactic(auto, unfolding(world_model::specs::Text::record_text))]
 fn put_asked(
-    alloc: Global,
     out: &mut Vec<u8>,
     provider: ProviderId,
     request: u32,
@@ -241,14 +230,13 @@ fn put_asked(
     ensures { OnOk result (out.new.items ≡ out.old.items
         ++ record_text (happened.Asked provider request group.now proposal.now)) }
 {
-    put_request(alloc, out, b"asked ", provider, request)?;
+    put_request(out, b"asked ", provider, request)?;
     put_word(out, group.bytes())?;
     put_text(out, kind_of(proposal))
 }
 
 #[tactic(auto, unfolding(world_model::specs::Text::record_text))]
 fn put_noted(
-    alloc: Global,
     out: &mut Vec<u8>,
     node: u8,
     client: &List<u8>,
@@ -260,14 +248,13 @@ fn put_noted(
         ++ record_text (happened.Noted node client.now view place told.now)) }
 {
     put_text(out, b"noted ")?;
-    put_client(alloc, out, node, client.as_slice())?;
-    put_view_word(alloc, out, view)?;
-    put_note(alloc, out, place, told)
+    put_client(out, node, client.as_slice())?;
+    put_view_word(out, view)?;
+    put_note(out, place, told)
 }
 
 #[tactic(auto, unfolding(world_model::specs::Text::record_text))]
 fn put_refused(
-    alloc: Global,
     out: &mut Vec<u8>,
     node: u8,
     client: &List<u8>,
@@ -277,8 +264,8 @@ fn put_refused(
         ++ record_text (happened.Refused node client.now fault)) }
 {
     put_text(out, b"refused ")?;
-    put_client(alloc, out, node, client.as_slice())?;
-    put_fault(alloc, out, fault)
+    put_client(out, node, client.as_slice())?;
+    put_fault(out, fault)
 }
 
 #[tactic(auto, unfolding(world_model::specs::Text::record_text))]
@@ -287,10 +274,10 @@ fn put_record(alloc: Global, out: &mut Vec<u8>, happened: &Happened) -> Result<(
 {
     match happened {
         Happened::Up { node, inc } => {
-            put_node(alloc, out, b"up ", *node)?;
-            put_number(alloc, out, *inc)
+            put_node(out, b"up ", *node)?;
+            put_number(out, *inc)
         }
-        Happened::Down { node } => put_counted(alloc, out, b"down ", u32::from(*node)),
+        Happened::Down { node } => put_counted(out, b"down ", u32::from(*node)),
         Happened::Ring {
             node,
             network,
@@ -302,7 +289,7 @@ fn put_record(alloc: Global, out: &mut Vec<u8>, happened: &Happened) -> Result<(
             node,
             view,
             members,
-        } => put_in_view(alloc, out, *node, *view, members),
+        } => put_in_view(out, *node, *view, members),
         Happened::Base {
             node,
             view,
@@ -310,14 +297,28 @@ fn put_record(alloc: Global, out: &mut Vec<u8>, happened: &Happened) -> Result<(
             old,
             len,
             state,
-        } => put_base(alloc, out, *node, *view, group, *old, *len, state),
+        } => {
+            let base = Base {
+                old: *old,
+                len: *len,
+                state,
+            };
+            put_base(out, *node, *view, group, &base)
+        }
         Happened::Put {
             node,
             view,
             group,
             place,
             entry,
-        } => put_appended(alloc, out, *node, *view, group, *place, entry),
+        } => {
+            let at = Place {
+                view: *view,
+                group,
+                place: *place,
+            };
+            put_appended(out, *node, &at, entry)
+        }
         Happened::Heard {
             p,
             view,
@@ -326,7 +327,14 @@ fn put_record(alloc: Global, out: &mut Vec<u8>, happened: &Happened) -> Result<(
             entry,
             members,
             value,
-        } => put_heard(alloc, out, *p, *view, group, *place, entry, members, value),
+        } => {
+            let at = Place {
+                view: *view,
+                group,
+                place: *place,
+            };
+            put_heard(out, *p, &at, entry, members, value)
+        }
         Happened::Cast {
             p,
             proto,
@@ -334,20 +342,20 @@ fn put_record(alloc: Global, out: &mut Vec<u8>, happened: &Happened) -> Result<(
             vote,
             value,
             ..
-        } => put_ballot(alloc, out, *p, *proto, *phase, *vote, value),
+        } => put_ballot(out, *p, *proto, *phase, *vote, value),
         Happened::Asked {
             p,
             r: happened,
             group,
             proposal,
-        } => put_asked(alloc, out, *p, *happened, group, proposal),
+        } => put_asked(out, *p, *happened, group, proposal),
         Happened::Told {
             p,
             r: happened,
             why,
         } => {
-            put_request(alloc, out, b"told ", *p, *happened)?;
-            put_why(alloc, out, *why)
+            put_request(out, b"told ", *p, *happened)?;
+            put_why(out, *why)
         }
         Happened::Noted {
             node,
@@ -355,14 +363,14 @@ fn put_record(alloc: Global, out: &mut Vec<u8>, happened: &Happened) -> Result<(
             view,
             place,
             told,
-        } => put_noted(alloc, out, *node, client, *view, *place, told),
+        } => put_noted(out, *node, client, *view, *place, told),
         Happened::Refused {
             node,
             client,
             fault,
-        } => put_refused(alloc, out, *node, client, *fault),
+        } => put_refused(out, *node, client, *fault),
         Happened::Shown { node, line } => {
-            put_node(alloc, out, b"show ", *node)?;
+            put_node(out, b"show ", *node)?;
             put_text(out, line.as_slice())
         }
     }

@@ -2,14 +2,14 @@
 ghost use Rattle.std.specs.Prelude.{◌≡◌, ◌≤◌, not, filter, find, length, IfOk, IfSome, IsTrue};
 ghost use Rattle.std.specs.Option.{option_map};
 ghost use Rattle.rsct_packet.specs.Providers.{among, AreProviders};
-ghost use Rattle.proposal_core.specs.Fold.{joiners_fit, joiners_in, present};
+ghost use Rattle.proposal_core.specs.Fold.{joiners_fit, present};
 ghost use Rattle.view_state.specs.Tails.{IsTail, HasTails};
 ghost use Rattle.view_state.specs.Bases.{is_live_from, is_candidate, candidates, beats, live_count, leader_from, base_from, base_of, BaseIs};
 ghost use Rattle.rsct_packet.specs.Lists.{best_of};
 ghost use Rattle.view_state.specs.Codec.{views_ascend};
 ghost use Rattle.view_bases.specs.Best.{best_step, best_after, winner_in, found_in};
 
-use proposal_core::{GroupState, Proposal, Running};
+use proposal_core::GroupState;
 use rsct_packet::{NoMemory, ProviderId, Providers, is_among};
 use std::alloc::Global;
 use view_state::{Base, Install, Part, Source};
@@ -22,20 +22,6 @@ struct Winner<'a> {
     part: &'a Part,
 }
 
-/// The providers of a join that runs.
-fn joiners(run: &Option<Running>) -> &[ProviderId]
-    ensures value { result.now ≡ joiners_in run.now }
-    ensures providers { AreProviders (joiners_in run.now) }
-{
-    match run {
-        None => &[],
-        Some(run) => match &run.proposal {
-            Proposal::Join { ps, .. } => ps.as_slice(),
-            _ => &[],
-        },
-    }
-}
-
 /// The members, then the running joiners.
 #[tactic(auto, using(crate::proofs::Failing::present_are_providers))]
 fn present(alloc: Global, state: &GroupState) -> Result<Vec<ProviderId>, NoMemory>
@@ -44,7 +30,7 @@ fn present(alloc: Global, state: &GroupState) -> Result<Vec<ProviderId>, NoMemor
     ensures providers { IfOk result (λ _. AreProviders (present state.now)) }
 {
     let mut out = Vec::from_slice(alloc, state.members.as_slice())?;
-    out.extend_from_slice(joiners(&state.running))?;
+    out.extend_from_slice(state.joiners())?;
     Ok(out)
 }
 

@@ -3,3 +3,5 @@ pub mod Gathered
 pub mod Edits
 pub mod Longest
 pub mod Drops
+pub mod InOrder
+pub mod Coming

@@ -1,7 +1,7 @@
 //! Group parts as they stand in a datagram.
 ghost use Rattle.std.specs.Prelude.{◌≡◌, ◌++◌, ◌∷◌, [], length, IfOk, IfNone, IfSome, slice_get, option_copied};
 ghost use Rattle.std.specs.Option.{option_map};
-ghost use Rattle.rsct_packet.specs.Reading.{Gives, many_at};
+ghost use Rattle.rsct_packet.specs.Reading.{Gives, many_at, guarded_at};
 ghost use Rattle.rsct_packet.specs.Text.{IsName};
 ghost use Rattle.proposal_core.specs.EntryCodec.{IsEntry};
 ghost use Rattle.group_codec.specs.InPlace.{entry_in};
@@ -221,17 +221,20 @@ impl<'a> PartRef<'a> {
     }
 }
 
-/// So many group parts, left where they stand.
-#[tactic(auto, using(rsct_packet::proofs::ListedLaws::skip_search))]
+/// So many group parts whose names ascend, left where they stand. Each is read once.
+#[tactic(auto, using(crate::proofs::InOrder::leads_none))]
 fn read_group_parts(count: usize, bytes: &[u8]) -> Option<(PartsRef<'_>, &[u8])>
-    ensures { Gives result (many_at group_part_at count bytes.now) }
+    ensures { Gives result (guarded_at names_ascend (many_at group_part_at count) bytes.now) }
 {
     let mut rest = bytes;
+    let mut last: Option<&[u8]> = None;
     for _i in 0..count {
-        match read_group_part(rest) {
-            None => return None,
-            Some((_part, after)) => rest = after,
+        let (part, after) = read_group_part(rest)?;
+        if !is_after(last, part.name) {
+            return None;
         }
+        last = Some(part.name);
+        rest = after;
     }
     Some((PartsRef { count, bytes }, rest))
 }
@@ -281,30 +284,11 @@ impl<'a> PartsRef<'a> {
     }
 }
 
-/// Do the names ascend?
-fn do_names_ascend(parts: &PartsRef) -> bool
-    ensures { result ≡ names_ascend parts.now }
-{
-    let mut left = parts.copy();
-    let mut last: Option<&[u8]> = None;
-    while let Some(part) = left.take_first() {
-        if !is_after(last, part.name) {
-            return false;
-        }
-        last = Some(part.name);
-    }
-    true
-}
-
 /// Group parts in name order, off the front of bytes, with the bytes after them.
 #[tactic(auto, unfolding(view_state::specs::Codec::parts_at))]
 pub fn read_parts(bytes: &[u8]) -> Option<(PartsRef<'_>, &[u8])>
     ensures { Gives result (parts_at bytes.now) }
 {
     let (count, bytes) = read_u8(bytes)?;
-    let (parts, bytes) = read_group_parts(count as usize, bytes)?;
-    if !do_names_ascend(&parts) {
-        return None;
-    }
-    Some((parts, bytes))
+    read_group_parts(count as usize, bytes)
 }

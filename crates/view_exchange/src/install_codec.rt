@@ -1,16 +1,17 @@
 //! How installs are spelled.
-ghost use Rattle.std.specs.Prelude.{◌≡◌, ◌++◌, IfOk, IfSome, OnOk, OnErr, flat_map};
+ghost use Rattle.std.specs.Prelude.{◌≡◌, ◌++◌, ◌&&◌, [], IfOk, IfSome, OnOk, OnErr, flat_map};
 ghost use Rattle.std.specs.Option.{option_map};
 ghost use Rattle.rsct_packet.specs.Format.{IsBytes, EachFits};
 ghost use Rattle.proposal_core.specs.EntryCodec.{whole};
-ghost use Rattle.view_state.specs.Codec.{source_text, IsSource, has_member, comes_once, each_comes_once, members_ascend, is_in_order, install_at, install_text, IsInstall};
+ghost use Rattle.view_state.specs.Codec.{source_text, IsSource, has_member, views_ascend, each_comes_once, members_ascend, is_in_order, install_at, install_text, IsInstall};
 ghost use Rattle.view_state.specs.Tails.{HasTails};
 ghost use Rattle.view_exchange.specs.SourcesInPlace.{install_in};
+ghost use Rattle.view_exchange.specs.Coming.{have_common, comes_after, each_comes_after};
 
-use crate::sources_in_place::{SourcesRef, read_sources};
+use crate::sources_in_place::{SourcesRef, is_after_view, read_sources};
 use crate::writing::put_parts;
 use rsct_packet::{
-    Listed, Member, NODES, NoMemory, ViewId, known, put_list, put_mask, put_u8, put_view,
+    Listed, Mask, Member, NODES, NoMemory, ViewId, known, put_list, put_mask, put_u8, put_view,
     read_list, read_view,
 };
 use std::alloc::Global;
@@ -51,26 +52,57 @@ fn do_members_ascend(members: &Listed<Member>) -> bool
     true
 }
 
-/// Does a member come from one source, and another node from none?
-fn comes_once(members: &Listed<Member>, sources: &SourcesRef, node: u8) -> bool
-    ensures { result ≡ comes_once members.now sources.now node }
+/// Has a node come that is one of these too?
+fn have_common(come: Mask, nodes: Mask) -> bool
+    ensures { result ≡ have_common come nodes }
 {
-    sources.does_come(has_member(members, node), node)
+    NODES.iter().any(|n| come.has(*n) && nodes.has(*n))
 }
 
-#[tactic(auto, unfolding(view_state::specs::Codec::each_comes_once))]
-fn does_each_come_once(members: &Listed<Member>, sources: &SourcesRef) -> bool
-    ensures { result ≡ each_comes_once members.now sources.now }
+/// Has a member come, or another node not?
+fn did_come(members: &Listed<Member>, come: Mask, node: u8) -> bool
+    ensures { result ≡ comes_after come members.now [] node }
 {
-    NODES.iter().all(|n| comes_once(members, sources, *n))
+    if come.has(node) {
+        has_member(members, node)
+    } else {
+        !has_member(members, node)
+    }
+}
+
+/// Has each member come, and nobody else?
+fn did_each_come(members: &Listed<Member>, come: Mask) -> bool
+    ensures { result ≡ each_comes_after come members.now [] }
+{
+    NODES.iter().all(|n| did_come(members, come, *n))
+}
+
+/// Do the sources' views ascend, and does each member come from one of them, and another node from none? Each source
+/// is read once.
+#[tactic(auto, using(crate::proofs::Coming::nobody_came, crate::proofs::Coming::more_came, crate::proofs::Coming::came_twice))]
+fn do_sources_fit(members: &Listed<Member>, sources: &SourcesRef) -> bool
+    ensures { result ≡ (views_ascend sources.now && each_comes_once members.now sources.now) }
+{
+    let mut left = sources.copy();
+    let mut last = None;
+    let mut come = Mask::empty();
+    while let Some(source) = left.take_first() {
+        if !is_after_view(last, source.view) {
+            return false;
+        }
+        if have_common(come, source.nodes) {
+            return false;
+        }
+        last = Some(source.view);
+        come = come.union(source.nodes);
+    }
+    did_each_come(members, come)
 }
 
 fn is_in_order(install: &InstallRef) -> bool
     ensures { result ≡ is_in_order (install_in install.now) }
 {
-    do_members_ascend(&install.members)
-        && install.sources.do_views_ascend()
-        && does_each_come_once(&install.members, &install.sources)
+    do_members_ascend(&install.members) && do_sources_fit(&install.members, &install.sources)
 }
 
 #[tactic(auto, unfolding(view_state::specs::Codec::install_at))]

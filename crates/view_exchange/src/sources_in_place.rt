@@ -4,7 +4,7 @@ ghost use Rattle.std.specs.Option.{option_map};
 ghost use Rattle.std.specs.Int.{w8};
 ghost use Rattle.rsct_packet.specs.Reading.{Gives, many_at, counted_at};
 ghost use Rattle.rsct_packet.specs.Ids.{view_lt};
-ghost use Rattle.view_state.specs.Codec.{source_at_front, is_after_view, views_ascend, comes_from};
+ghost use Rattle.view_state.specs.Codec.{source_at_front, is_after_view};
 ghost use Rattle.view_exchange.specs.SourcesInPlace.{source_in};
 
 use crate::in_place::{PartsRef, read_parts};
@@ -88,7 +88,7 @@ impl<'a> SourceRef<'a> {
 }
 
 impl<'a> SourcesRef<'a> {
-    fn copy(&self) -> SourcesRef<'a>
+    pub(crate) fn copy(&self) -> SourcesRef<'a>
         ensures { result ≡ self.now }
     {
         SourcesRef {
@@ -97,7 +97,7 @@ impl<'a> SourcesRef<'a> {
         }
     }
 
-    fn take_first(&mut self) -> Option<SourceRef<'a>>
+    pub(crate) fn take_first(&mut self) -> Option<SourceRef<'a>>
         ensures none { IfNone result ((self.old ≡ []) × (self.new ≡ [])) }
         ensures some { IfSome result (λ s. self.old ≡ source_in s ∷ self.new) }
     {
@@ -121,42 +121,10 @@ impl<'a> SourcesRef<'a> {
         }
         Ok(out)
     }
-
-    /// Do their views ascend?
-    pub fn do_views_ascend(&self) -> bool
-        ensures { result ≡ views_ascend self.now }
-    {
-        let mut left = self.copy();
-        let mut last = None;
-        while let Some(source) = left.take_first() {
-            if !is_after_view(last, source.view) {
-                return false;
-            }
-            last = Some(source.view);
-        }
-        true
-    }
-
-    /// Does the node come from just one of them, or where it is not wanted from none?
-    pub fn does_come(&self, wanted: bool, node: u8) -> bool
-        ensures { result ≡ comes_from wanted self.now node }
-    {
-        let mut wanted = wanted;
-        let mut left = self.copy();
-        while let Some(source) = left.take_first() {
-            if source.nodes.has(node) {
-                if !wanted {
-                    return false;
-                }
-                wanted = false;
-            }
-        }
-        !wanted
-    }
 }
 
 /// Does the view come after the last one, if there was one?
-fn is_after_view(last: Option<ViewId>, view: ViewId) -> bool
+pub(crate) fn is_after_view(last: Option<ViewId>, view: ViewId) -> bool
     ensures { result ≡ is_after_view last view }
 {
     match last {

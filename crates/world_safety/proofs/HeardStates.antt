@@ -27,7 +27,8 @@ use Rattle.step_refinement.specs.Runs.{Reached}
 use Rattle.step_refinement.proofs.Begins.{begin_tied}
 use Rattle.step_refinement.proofs.RunLaw.{reached_rests}
 use Rattle.row_laws.specs.hearing.Hearing.{HeardInARow}
-use Rattle.row_laws.proofs.hearing.Listening.{reverse_has, steps_change, providers_hear}
+use Rattle.run_induction.proofs.Idle.{reverse_has}
+use Rattle.row_laws.proofs.hearing.Listening.{steps_change, providers_hear}
 use Rattle.entry_laws.proofs.source_order.Tied.{states_tied}
 use Rattle.run_laws.proofs.seen_runs.Steps.{Mine, step_mine}
 use Rattle.world_safety.specs.Events.{run_of_events, MayHappen, AllMayHappen}

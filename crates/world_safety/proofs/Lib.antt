@@ -17,4 +17,5 @@ pub mod SteadyRuns
 pub mod HeardStates
 pub mod Samples
 pub mod Asking
+pub mod Merging
 pub mod Forgetting

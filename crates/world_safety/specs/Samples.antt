@@ -1,14 +1,16 @@
 -- Small runs, for worked examples of what is asked of a run: in each a client comes and joins a group.
-use Rattle.std.specs.Prelude.{ℕ, List, [], ◌∷◌, ◌++◌, codes, Option, Some, None}
+use Rattle.std.specs.Prelude.{ℕ, List, [], ◌∷◌, ◌++◌, length, map, reverse, codes, Option, Some, None}
 use Rattle.rsct_packet.specs.declared.ids.ViewId.{ViewId}
 use Rattle.rsct_packet.specs.declared.ids.Member.{Member}
 use Rattle.rsct_packet.specs.declared.ids.ProviderId.{ProviderId}
 use Rattle.group_attr.specs.Attrs.{empty_attrs}
 use Rattle.group_attr.specs.declared.attrs.Attrs.{Attrs}
 use Rattle.group_attr.specs.declared.attrs.Phases.TheVariants.{One}
+use Rattle.client_callbacks.specs.declared.told.Why.TheVariants.{Dissolved}
 use Rattle.proposal_core.specs.declared.proposal.Proposal.{Proposal}
 use Rattle.proposal_core.specs.declared.proposal.Proposal.TheVariants as proposal
 use Rattle.proposal_core.specs.declared.entry.Entry.{Entry}
+use Rattle.proposal_core.specs.declared.group_state.GroupState.{GroupState}
 use Rattle.proposal_core.specs.declared.entry.Entry.TheVariants.{Once}
 use Rattle.node_state.specs.declared.call.CallLine.TheVariants as call
 use Rattle.node_state.specs.declared.config.Config.{Config}
@@ -214,6 +216,85 @@ two_asked leader follower =
     ∷ alone 1
     ∷ []
 
+-- ---- whose state a group goes on with: two nodes, in mode asked, each at first alone
+
+-- the view in which a node starts
+abbrev pub own_view : ℕ → ViewId
+own_view n = record { number = 1; coord = n; inc = 1 }
+
+-- a provider of a node, with its instance number, and the number of its request
+abbrev pub joiner : ℕ → ℕ → ℕ → ProviderId
+joiner n instance number = record { node = n; inc = 1; instance = instance; join = number }
+
+-- two of node 1, and one of node 2
+abbrev pub more : List ProviderId
+more = joiner 1 7 1 ∷ joiner 1 8 2 ∷ []
+
+abbrev pub fewer : List ProviderId
+fewer = joiner 2 9 1 ∷ []
+
+-- on each node they join the group; then node 1 asks for a view of both
+unfoldable pub two_sides : List Event
+two_sides =
+    event.Start 1 ∷ event.Start 2 ∷ comes 1 (codes "a") ∷ joins 1 (codes "a") db 7 empty_attrs ∷ event.Deliver 1 1 1 ∷ event.Deliver 1 1 2 ∷ event.Deliver 1 1 3 ∷ comes 1 (codes "b") ∷ joins 1 (codes "b") db 8 empty_attrs ∷ event.Deliver 1 1 4 ∷ comes 2 (codes "c") ∷ joins 2 (codes "c") db 9 empty_attrs ∷ event.Deliver 2 2 1 ∷ event.Deliver 2 2 2 ∷ event.Deliver 2 2 3 ∷ event.Ask 1 (mask_of (1 ∷ 2 ∷ [])) ∷ event.Deliver 1 2 1 ∷ event.Deliver 2 1 1 ∷ event.Deliver 1 2 2 ∷ []
+
+abbrev pub joined : ProviderId → Entry
+joined p = Once (join_of p empty_attrs None)
+
+-- on its node it is put at this place of the list, and these hear it, who are the members then
+abbrev pub put_and_heard : ProviderId → ℕ → List ProviderId → List Happened
+put_and_heard p i members =
+    map (λ q. happened.Heard q (own_view p.node) db i (joined p) members []) (reverse members) ++ happened.Put p.node (own_view p.node) db i (joined p) ∷ []
+
+-- they are the members
+abbrev pub state_with : List ProviderId → GroupState
+state_with ps = record { members = ps; value = []; value_at = None; reflected_at = None; attrs = empty_attrs; running = None; failed = [] }
+
+-- in the view of both the group goes on as it was on the side of a node: with these members, after as many entries
+abbrev pub goes_on_as : ℕ → List ProviderId → ℕ → Happened
+goes_on_as side members n =
+    happened.Base n two_view db (own_view side) (length members) (state_with members)
+
+-- that the group is dissolved for these
+abbrev pub lose : List ProviderId → List Happened
+lose ps = map (λ p. happened.Told p 0 Dissolved) (reverse ps)
+
+-- what is recorded where node 1 notes this as it enters the view of both, and node 2 that
+unfoldable pub two_merged : List Happened → List Happened → History
+two_merged first second =
+    happening (event.Deliver 1 2 2) (second ++ enters 2)
+    ∷ happening (event.Deliver 2 1 1) (first ++ enters 1)
+    ∷ happening (event.Deliver 1 2 1) []
+    ∷ happening (event.Ask 1 (mask_of (1 ∷ 2 ∷ []))) []
+    ∷ happening (event.Deliver 2 2 3) (put_and_heard (joiner 2 9 1) 0 fewer)
+    ∷ happening (event.Deliver 2 2 2) []
+    ∷ happening (event.Deliver 2 2 1) []
+    ∷ happening (joins 2 (codes "c") db 9 empty_attrs) (asks (joiner 2 9 1) db empty_attrs)
+    ∷ happening (comes 2 (codes "c")) []
+    ∷ happening (event.Deliver 1 1 4) (put_and_heard (joiner 1 8 2) 1 more)
+    ∷ happening (joins 1 (codes "b") db 8 empty_attrs) (asks (joiner 1 8 2) db empty_attrs)
+    ∷ happening (comes 1 (codes "b")) []
+    ∷ happening (event.Deliver 1 1 3) (put_and_heard (joiner 1 7 1) 0 (joiner 1 7 1 ∷ []))
+    ∷ happening (event.Deliver 1 1 2) []
+    ∷ happening (event.Deliver 1 1 1) []
+    ∷ happening (joins 1 (codes "a") db 7 empty_attrs) (asks (joiner 1 7 1) db empty_attrs)
+    ∷ happening (comes 1 (codes "a")) []
+    ∷ alone 2
+    ∷ alone 1
+    ∷ []
+
+-- the side of the two wins
+unfoldable pub more_win : History
+more_win = two_merged (goes_on_as 1 more 1 ∷ []) (lose fewer ++ goes_on_as 1 more 2 ∷ [])
+
+-- the side of the one wins
+unfoldable pub fewer_win : History
+fewer_win = two_merged (lose more ++ goes_on_as 2 fewer 1 ∷ []) (goes_on_as 2 fewer 2 ∷ [])
+
+-- no side wins
+unfoldable pub none_wins : History
+none_wins = two_merged (lose more) (lose fewer)
+
 -- ---- what a member forgets: two nodes, in mode fixed
 
 abbrev pub pair : Config
@@ -245,5 +326,5 @@ start_after c es n g = start_of_node (core_at (answered_after c (all_worded c es
 
 -- opens each word of this file, for a computation
 unfoldable pub samples_opens : Unit {0}
-unfolding history_after two_join two_joined target_joins target_joined until_asked after_asked two_ask two_asked two_entries sent_after start_after
+unfolding history_after two_join two_joined target_joins target_joined until_asked after_asked two_ask two_asked two_sides two_merged more_win fewer_win none_wins two_entries sent_after start_after
 samples_opens = tt

@@ -3,11 +3,13 @@
 ghost use Rattle.std.specs.Prelude.{◌≡◌, Some, None};
 ghost use Rattle.group_attr.specs.Attrs.{empty_attrs};
 ghost use Rattle.run_safety.specs.Past.{EachRecord};
+ghost use Rattle.run_safety.specs.SafeGroups.{SafeGroups};
+ghost use Rattle.step_refinement.specs.Tied.{opening_of};
 ghost use Rattle.entry_laws.specs.closing_rows.Rows.{WasTold};
 ghost use Rattle.entry_laws.specs.source_order.Sources.{FirstsFollowSources};
 ghost use Rattle.world_laws.specs.world_answers.Answers.{all_worded};
 ghost use Rattle.world_safety.specs.Askers.{FirstAsks, RecordLed};
-ghost use Rattle.world_safety.specs.Samples.{history_after, db, one, two_join, two_joined, limited, target_joins, target_joined, sourced, two, two_view, two_ask, two_asked, pair, one_view, two_entries, sent_after, start_after};
+ghost use Rattle.world_safety.specs.Samples.{history_after, db, one, two_join, two_joined, limited, target_joins, target_joined, sourced, two, two_view, two_ask, two_asked, two_sides, more_win, fewer_win, none_wins, pair, one_view, two_entries, sent_after, start_after};
 
 /// Two clients join a group, one after the other: the entry of the first has the attributes that it asked for, since the group
 /// was empty and idle, and that of the second has the group's.
@@ -48,6 +50,24 @@ pub fn first_asker_leads()
 #[tactic(auto, using(crate::proofs::Asking::first_node_leads))]
 pub fn another_leader_is_refused()
     ensures { EachRecord (RecordLed 2 two_view db) (two_asked 1 2) → ⊥ }
+{}
+
+/// Two nodes meet, each with its own members of a group, two on one side and one on the other: the group goes on with the two.
+#[tactic(auto, using(crate::proofs::Merging::two_merged_is))]
+pub fn side_of_most_goes_on()
+    ensures { history_after two two_sides ≡ more_win }
+{}
+
+/// Where it goes on with the one, no group's records are safe.
+#[tactic(auto, using(crate::proofs::Merging::fewer_do_not_win))]
+pub fn side_of_fewest_is_refused()
+    ensures { SafeGroups (opening_of two) fewer_win → ⊥ }
+{}
+
+/// Nor where it goes on with neither.
+#[tactic(auto, using(crate::proofs::Merging::some_side_wins))]
+pub fn no_side_is_refused()
+    ensures { SafeGroups (opening_of two) none_wins → ⊥ }
 {}
 
 /// A member takes two entries. With the second one it is told that all members hold the first, and that one it forgets.

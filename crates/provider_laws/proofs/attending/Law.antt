@@ -15,16 +15,18 @@ use Rattle.node_state.specs.Step.{NodeEvent, at_work, started, stepped}
 use Rattle.world_model.specs.declared.event.Event.{Event}
 use Rattle.run_safety.specs.Past.{History, Within, records_of, inc_now}
 use Rattle.step_refinement.specs.Tied.{Scene}
-use Rattle.step_refinement.specs.Rules.{ended, nothing_yet, with_records, starts_too, Arises}
-use Rattle.step_refinement.specs.Runs.{Reached, Nothing, AllStart, Starts, Stops, Steps, Notes}
+use Rattle.step_refinement.specs.Rules.{ended, Arises}
+use Rattle.step_refinement.specs.Runs.{Reached, Steps}
 use Rattle.step_refinement.proofs.RunLaw.{reached_rests}
 use Rattle.step_refinement.proofs.Turns.{has_turned}
-use Rattle.row_laws.specs.hearing.Changes.{Aside}
-use Rattle.row_laws.proofs.hearing.Listening.{Rested, start_asides, note_aside, reached_attends, steps_change}
+use Rattle.run_induction.proofs.Idle.{within_idle}
+use Rattle.run_induction.proofs.Ran.{anyhow, ran_reached, reached_ran}
+use Rattle.run_induction.proofs.Laws.{PastLaw, past_holds}
+use Rattle.row_laws.proofs.hearing.Listening.{Rested, idle_aside, reached_attends, steps_change}
 use Rattle.row_laws.proofs.hearing.Incarnations.{incs_of}
 use Rattle.provider_laws.specs.attending.Places.{NextHeard, PlacesHeardOnce, EachPlaceIsHeardOnce}
 use Rattle.provider_laws.proofs.attending.States.{entries_named, put_named, noted_alone, stand_once}
-use Rattle.provider_laws.proofs.attending.Turns.{within_pushed}
+use Rattle.provider_laws.proofs.attending.Turns.{aside_next}
 use Rattle.provider_laws.proofs.attending.Doing.{AllFine, Strict, strict_does}
 
 -- what a scene's records say is fine
@@ -42,35 +44,6 @@ records_fine c w k (happened.Told p r why) h = tt
 records_fine c w k (happened.Noted n d v i told) h = tt
 records_fine c w k (happened.Refused n d fault) h = tt
 records_fine c w k (happened.Shown n line) h = tt
-
--- records of an event by which nobody hears
-turned_within : (rs now : List Happened) (before : History) → ((r : Happened) → Has r rs → Aside r) → Within NextHeard now before → Within NextHeard (reverse rs ++ now) before
-turned_within [] now before aside k = k
-turned_within (r ∷ rs) now before aside k =
-    subst (λ z. Within NextHeard z before) (sym (ap (λ z. z ++ now) (reverse-append (r ∷ []) rs) ∙ assoc (reverse rs) r now)) (turned_within rs (r ∷ now) before (λ q h. aside q (inr h)) (within_pushed (r ∷ []) now before (λ q h. one q h) k))
-  where
-    one : (q : Happened) → Has q (r ∷ []) → Aside q
-    one q (inl e) = aside q (inl e)
-    one q (inr z) = absurd z
-
-    assoc : (xs : List Happened) (x : Happened) (ys : List Happened) → (xs ++ x ∷ []) ++ ys ≡ xs ++ x ∷ ys
-    assoc [] x ys = refl
-    assoc (z ∷ xs) x ys = ap (λ l. z ∷ l) (assoc xs x ys)
-
-turned_law : (rs : List Happened) (before : History) → ((r : Happened) → Has r rs → Aside r) → Within NextHeard (reverse rs) before
-turned_law rs before aside = subst (λ z. Within NextHeard z before) (append-nil (reverse rs)) (turned_within rs [] before aside tt)
-
-with_law : (before : History) (rs : List Happened) → ((r : Happened) → Has r rs → Aside r) → PlacesHeardOnce before → PlacesHeardOnce (with_records before rs)
-with_law [] rs aside k = (turned_law rs [] aside, tt)
-with_law (h ∷ before) rs aside k = (turned_within rs h.records before aside k.0, k.1)
-
-start_law : (ns : List ℕ) (w : Scene) → PlacesHeardOnce w.before → PlacesHeardOnce (fold (λ (w : Scene) n. starts_too w n (w.cores n)) w ns).before
-start_law [] w k = k
-start_law (n ∷ ns) w k = start_law ns (starts_too w n (w.cores n)) (by (w.cores n))
-  where
-    by : (o : Option Core) → PlacesHeardOnce (starts_too w n o).before
-    by (Some s) = k
-    by None = with_law w.before (started w.config n (w.incs n + 1)).records (start_asides w.config n (w.incs n + 1)) k
 
 -- ---- a step of a node
 
@@ -92,11 +65,13 @@ module _ (c : Config) (w : Scene) (n : ℕ) (s : Core) (k : Reached c w) (up : w
   stepped_strict f e v arises start =
       strict_does n (w.incs n) w.before (at_work s) (stepped f s e) (steps_change c w k n s up f e) (step_fine f e v arises) (begin_strict start)
 
+once_law : (c : Config) → PastLaw anyhow c PlacesHeardOnce
+once_law c =
+    record {
+      none = tt;
+      outer = λ w e t o k. (within_idle NextHeard (λ r now h idle. aside_next now h r (idle_aside r idle)) e.records w.before o.idle, k);
+      steps = λ w n f s e v r next up arises told k. let here : Reached c w = ran_reached anyhow c w r in ((stepped_strict c w n s here up f e v arises (incs_of c w here n)).law, k);
+    }
+
 pub places_once : EachPlaceIsHeardOnce
-places_once c _ Nothing = tt
-places_once c _ (AllStart fixed) = start_law (nodes_of c.nodes) (record (nothing_yet c) { before = record { event = None; records = [] } ∷ [] }) (tt, tt)
-places_once c _ (Starts w n e k free real down) =
-    (turned_law (started w.config n (w.incs n + 1)).records w.before (start_asides w.config n (w.incs n + 1)), places_once c w k)
-places_once c _ (Stops w n e s k up) = ((tt, tt), places_once c w k)
-places_once c _ (Steps w n f s e v k up arises) = ((stepped_strict c w n s k up f e v arises (incs_of c w k n)).law, places_once c w k)
-places_once c _ (Notes w e rs k notes) = (turned_law rs w.before (λ r h. note_aside r (notes r h)), places_once c w k)
+places_once c w k = past_holds anyhow c PlacesHeardOnce (once_law c) w (reached_ran c w k)

@@ -42,7 +42,8 @@ use Rattle.step_refinement.proofs.Changed.{set_here}
 use Rattle.step_refinement.proofs.RunLaw.{reached_rests}
 use Rattle.step_refinement.proofs.Turns.{has_turned}
 use Rattle.row_laws.proofs.hearing.Handing.{among_is, has_among}
-use Rattle.row_laws.proofs.hearing.Listening.{reverse_has, steps_change}
+use Rattle.run_induction.proofs.Idle.{reverse_has}
+use Rattle.row_laws.proofs.hearing.Listening.{steps_change}
 use Rattle.provider_laws.proofs.attending.Bases.{kept_line}
 use Rattle.provider_laws.proofs.attending.States.{none_told, line_later, base_in}
 use Rattle.provider_laws.proofs.attending.Ordering.{InsAt, does_ins, Lively}

@@ -16,9 +16,11 @@ use Rattle.node_state.specs.declared.happened.Happened.{Happened}
 use Rattle.node_state.specs.declared.happened.Happened.TheVariants as happened
 use Rattle.world_model.specs.declared.event.Event.{Event}
 use Rattle.world_model.specs.declared.event.Event.TheVariants as event
+use Rattle.world_model.specs.Run.{Happening}
 use Rattle.run_safety.specs.Past.{History, records_of, inc_now}
 use Rattle.run_safety.specs.Stays.{asks_join, joining_client, client_of, is_named, goodbye_of, is_refused, is_dissolved, ends, was_let_go}
 use Rattle.step_refinement.proofs.SessionLaws.{provider_same}
+use Rattle.run_induction.proofs.Idle.{Idle}
 use Rattle.row_laws.proofs.failed_rows.Living.{IsLive}
 use Rattle.provider_laws.proofs.leaving.Left.{Known, Says}
 
@@ -71,43 +73,11 @@ says_spares a t p inc (happened.Noted n c v i told) k s = refl
 says_spares a t p inc (happened.Refused n c fault) k s = refl
 says_spares a t p inc (happened.Shown n line) k s = refl
 
--- nobody stops, and nobody is told
-abbrev pub Dull : Happened → Type 0
-Dull (happened.Down n) = ⊥
-Dull (happened.Told p r y) = ⊥
-Dull (happened.Asked p r g x) = ⊥
-Dull (happened.Heard p v g i e ms value) = ⊥
-Dull _ = Unit {0}
-
-pub dull_spares : (p : ProviderId) (inc : ℕ) (r : Happened) → Dull r → ends p inc r ≡ false
-dull_spares p inc (happened.Up n j) s = refl
-dull_spares p inc (happened.Down n) s = absurd s
-dull_spares p inc (happened.Ring n j i ms b) s = refl
-dull_spares p inc (happened.In n v ms) s = refl
-dull_spares p inc (happened.Base n v g old len st) s = refl
-dull_spares p inc (happened.Put n v g i e) s = refl
-dull_spares p inc (happened.Heard q v g i e ms value) s = refl
-dull_spares p inc (happened.Cast q proto phase vote value message) s = refl
-dull_spares p inc (happened.Asked q r g x) s = refl
-dull_spares p inc (happened.Told q r y) s = absurd s
-dull_spares p inc (happened.Noted n c v i told) s = refl
-dull_spares p inc (happened.Refused n c fault) s = refl
-dull_spares p inc (happened.Shown n line) s = refl
-
-pub dull_unasked : (p : ProviderId) (r : Happened) → Dull r → asks_join p r ≡ false
-dull_unasked p (happened.Up n j) s = refl
-dull_unasked p (happened.Down n) s = refl
-dull_unasked p (happened.Ring n j i ms b) s = refl
-dull_unasked p (happened.In n v ms) s = refl
-dull_unasked p (happened.Base n v g old len st) s = refl
-dull_unasked p (happened.Put n v g i e) s = refl
-dull_unasked p (happened.Heard q v g i e ms value) s = refl
-dull_unasked p (happened.Cast q proto phase vote value message) s = refl
-dull_unasked p (happened.Asked q r g x) s = absurd s
-dull_unasked p (happened.Told q r y) s = refl
-dull_unasked p (happened.Noted n c v i told) s = refl
-dull_unasked p (happened.Refused n c fault) s = refl
-dull_unasked p (happened.Shown n line) s = refl
+-- one of no step ends nobody, unless this node stops
+pub idle_ends : (p : ProviderId) (inc : ℕ) (r : Happened) → Idle r → ((m : ℕ) → r ≡ happened.Down m → (m == p.node && inc == p.inc) ≡ false) → ends p inc r ≡ false
+idle_ends p inc (happened.Down m) a stays = stays m refl
+idle_ends p inc (happened.Told q r y) a stays = absurd a
+idle_ends p inc _ a stays = refl
 
 -- what a goodbye is
 pub goodbye_is : (n : ℕ) (o : Option (List ℕ)) (v : Event) → goodbye_of n o (Some v) ≡ true → (m : ℕ) × (c : List ℕ) × (v ≡ event.Call m (call.Goodbye c)) × (m ≡ n) × (is_named c o ≡ true)
@@ -146,6 +116,13 @@ spared p v rs h none stays old = λ i. (any_none (ends p (inc_now p.node (record
     bye false b e f = ap (λ z. z && not (list_any is_refused rs)) e
     bye true true e f = (λ i. e i && not (f i))
     bye true false e f = let z = goodbye_is p.node (client_of p h) v e in absurd (stays z.0 z.1 z.2 z.3 z.4 f)
+
+pub spared_in : (p : ProviderId) (e : Happening) (h : History) → ((r : Happened) → Has r e.records → ends p (inc_now p.node (records_of h)) r ≡ false) → ((v : Event) → e.event ≡ Some v → (m : ℕ) (c : List ℕ) → v ≡ event.Call m (call.Goodbye c) → m ≡ p.node → is_named c (client_of p h) ≡ true → ⊥) → was_let_go p h ≡ false → was_let_go p (e ∷ h) ≡ false
+spared_in p e h none stays old = by e.event refl
+  where
+    by : (o : Option Event) → e.event ≡ o → was_let_go p (record { event = o; records = e.records } ∷ h) ≡ false
+    by None q = λ i. (any_none (ends p (inc_now p.node (records_of h))) e.records none i || false) || old i
+    by (Some v) q = spared p v e.records h none (λ m c at node named taken. stays v q m c at node named) old
 
 -- ---- whose join is asked for
 

@@ -20,6 +20,7 @@ use Rattle.run_safety.specs.Group as group
 use Rattle.step_refinement.specs.Ghost.{Ghost, asking}
 use Rattle.step_refinement.specs.Tied.{Scene, NodeIsIf, Rests}
 use Rattle.step_refinement.proofs.SessionLaws.{provider_same}
+use Rattle.run_induction.proofs.Laws.{IfUp}
 use Rattle.row_laws.proofs.failed_rows.Fitting.{asked_seen}
 use Rattle.row_laws.proofs.failed_rows.Living.{slim_same}
 use Rattle.row_laws.proofs.failed_rows.Owners.{Owned, owned_slim}
@@ -41,8 +42,7 @@ pub record Kept (h : History) (s : Core) : Type 0 where
   pub unlet : (x : Provider) → Has x s.sessions.providers → was_let_go x.p h ≡ false
 
 abbrev pub KeptIf : History → Option Core → Type 0
-KeptIf h None = Unit {0}
-KeptIf h (Some s) = Kept h s
+KeptIf h = IfUp (Kept h)
 
 pub record Clean (w : Scene) : Type 0 where
   pub nodes : (m : ℕ) → KeptIf w.before (w.cores m)

@@ -33,7 +33,7 @@ use Rattle.step_refinement.proofs.RunLaw.{reached_rests}
 use Rattle.step_refinement.proofs.SessionLaws.{provider_same}
 use Rattle.step_refinement.proofs.Turns.{has_turned}
 use Rattle.row_laws.proofs.hearing.Rules.{call_onward}
-use Rattle.row_laws.proofs.hearing.Listening.{reverse_has}
+use Rattle.run_induction.proofs.Idle.{reverse_has}
 use Rattle.row_laws.specs.failed_rows.Scenes.{Names}
 use Rattle.row_laws.proofs.failed_rows.Joining.{call_now}
 use Rattle.row_laws.proofs.failed_rows.Living.{IsLive}

@@ -1,7 +1,6 @@
 -- In every scene: between events each node that is up and not frozen rests, so the event of a goodbye puts nothing.
 use Rattle.std.proofs.Common.{◌≡◌, ℕ, ◌+◌, List, [], ◌∷◌, ◌++◌, Option, Some, None, false, refl, sym, ap, ◌∙◌, subst}
 use Rattle.std.specs.Prelude.{fold, find, reverse}
-use Rattle.rsct_packet.specs.Mask.{nodes_of}
 use Rattle.rsct_packet.specs.Search.{Has}
 use Rattle.view_state.specs.Views.{is_frozen}
 use Rattle.node_state.specs.declared.call.CallLine.TheVariants.{Goodbye}
@@ -18,13 +17,13 @@ use Rattle.world_model.specs.declared.event.Event.{Event}
 use Rattle.world_model.specs.declared.event.Event.TheVariants as event
 use Rattle.run_safety.specs.Past.{History, EachEvent}
 use Rattle.step_refinement.specs.Tied.{Scene}
-use Rattle.step_refinement.specs.Rules.{over, nothing_yet, with_records, starts_too, all_started}
+use Rattle.step_refinement.specs.Rules.{over}
 use Rattle.step_refinement.specs.Runs.{Reached}
-use Rattle.step_refinement.specs.Runs as runs
-use Rattle.step_refinement.proofs.Changed.{each_set}
-use Rattle.row_laws.proofs.hearing.Listening.{reverse_has}
-use Rattle.provider_laws.proofs.leaving.Law.{reached}
-use Rattle.provider_laws.specs.leaving.Scenes.{IsCall, NoCall, Nothing, AllStart, Starts, Stops, Steps, Notes}
+use Rattle.run_induction.proofs.Idle.{Idle, reverse_has}
+use Rattle.run_induction.proofs.Ran.{anyhow, ran_reached, reached_ran}
+use Rattle.run_induction.proofs.Laws.{UpClaim, UpLaw, up_holds, PastLaw, past_holds}
+use Rattle.provider_laws.proofs.leaving.Law.{recounting, recounted_ran}
+use Rattle.provider_laws.specs.leaving.Scenes.{IsCall}
 use Rattle.provider_laws.specs.resting.Rest.{NodesRest, GoodbyePutsNothing, GoodbyesPutNothing}
 use Rattle.provider_laws.proofs.resting.Orderly.{Orderly, alike}
 use Rattle.provider_laws.proofs.resting.Calling.{NoPut, Parts, goodbye_parts}
@@ -40,10 +39,6 @@ use Rattle.provider_laws.proofs.resting.Ending.{ended_rests, ended_frozen, ended
 pub record Resting (s : Core) : Type 0 where
   pub orderly : Orderly s
   pub rests : frozen s ≡ false → AllRest s
-
-abbrev pub RestingIf : Option Core → Type 0
-RestingIf None = Unit {0}
-RestingIf (Some s) = Resting s
 
 -- a state of the same groups, view and config
 resting_same : (s t : Core) → t.groups ≡ s.groups → t.views ≡ s.views → t.config ≡ s.config → Resting s → Resting t
@@ -86,28 +81,23 @@ fresh : (c : Config) (n j : ℕ) → Resting (started c n j)
 unfolding started with_sessions led_groups
 fresh c n j = record { orderly = record { order = tt; few = λ row i. absurd i }; rests = λ thawed g i. absurd i }
 
-too_rests : (w : Scene) (n : ℕ) (o : Option Core) → ((m : ℕ) → RestingIf (w.cores m)) → (m : ℕ) → RestingIf ((starts_too w n o).cores m)
-too_rests w n (Some s) k = k
-too_rests w n None k =
-    each_set (λ m o. RestingIf o) w.cores n (Some (started w.config n (w.incs n + 1))) (fresh w.config n (w.incs n + 1)) (λ m ne. k m)
+-- nothing is said of what was sent
+abbrev restful : UpClaim
+restful = record { sent = λ h x. Unit {0}; node = λ m inc ps h s. Resting s; lines = λ h. Unit {0} }
 
-fold_rests : (ns : List ℕ) (w : Scene) → ((m : ℕ) → RestingIf (w.cores m)) → (m : ℕ) → RestingIf ((fold (λ (w : Scene) n. starts_too w n (w.cores n)) w ns).cores m)
-fold_rests [] w k = k
-fold_rests (n ∷ ns) w k = fold_rests ns (starts_too w n (w.cores n)) (too_rests w n (w.cores n) k)
-
-rested : (c : Config) (w : Scene) → Reached c w → (m : ℕ) → RestingIf (w.cores m)
-rested c _ runs.Nothing = λ m. tt
-rested c _ (runs.AllStart fixed) = fold_rests (nodes_of c.nodes) (record (nothing_yet c) { before = record { event = None; records = [] } ∷ [] }) (λ m. tt)
-rested c _ (runs.Starts w n e k free real down) =
-    each_set (λ m o. RestingIf o) w.cores n (Some (started w.config n (w.incs n + 1))) (fresh w.config n (w.incs n + 1)) (λ m ne. rested c w k m)
-rested c _ (runs.Stops w n e s k up) = each_set (λ m o. RestingIf o) w.cores n None tt (λ m ne. rested c w k m)
-rested c _ (runs.Steps w n f s e v k up arises) =
-    let here : Resting s = subst RestingIf up (rested c w k n) in
-    each_set (λ m o. RestingIf o) w.cores n (Some (stepped f s e)) (stepped_rests f s e here.orderly) (λ m ne. rested c w k m)
-rested c _ (runs.Notes w e rs k notes) = rested c w k
+rest_law : (c : Config) → UpLaw anyhow c restful
+rest_law c =
+    record {
+      none = tt;
+      sent_on = λ e h x k. tt;
+      stays = λ w e t o m s up all k. k;
+      comes = λ w e t o m came down. fresh c m (w.incs m + 1);
+      lines_on = λ w e t o k. tt;
+      steps = λ w n f s e v r next up arises told h k. record { sends = λ x i. tt; node = stepped_rests f s e k.orderly; others = λ m ne d is a. a; lines = tt };
+    }
 
 rested_at : (c : Config) (w : Scene) → Reached c w → (n : ℕ) (s : Core) → w.cores n ≡ Some s → Resting s
-rested_at c w k n s up = subst RestingIf up (rested c w k n)
+rested_at c w k n s up = up_holds anyhow c restful (rest_law c) w (reached_ran c w k) n s up
 
 pub nodes_rest : NodesRest
 nodes_rest c w k n s up f = ended_same f s (rested_at c w k n s up).rests
@@ -117,9 +107,10 @@ nodes_rest c w k n s up f = ended_same f s (rested_at c w k n s up).rests
 abbrev Quiet : History → Type 0
 Quiet h = EachEvent (λ event before. GoodbyePutsNothing event) h
 
--- what is noted is no call
-no_call : (v : Event) (rs : List Happened) → NoCall v → GoodbyePutsNothing (record { event = Some v; records = rs })
-no_call v rs none n client q taken m u g i e h = none n (Goodbye client) (cc)
+-- where no node takes a step nothing is put
+idle_put : (r : Happened) → Idle r → NoPut r
+idle_put (happened.Put m u g i e) a = a
+idle_put _ a = tt
 
 step_quiet : (n : ℕ) (f : Answering) (s : Core) (e : NodeEvent) (v : Event) → IsCall n e v → Resting s → GoodbyePutsNothing (over v (stepped f s e))
 step_quiet n f s e v is k m client q taken l u g i x h =
@@ -127,32 +118,13 @@ step_quiet n f s e v is k m client q taken l u g i x h =
     let b = is m (Goodbye client) c in
     subst (λ (y : NodeEvent). (r : Happened) → Has r (stepped f s y).records → NoPut r) (sym b.1) (goodbye_quiet f s client k) (happened.Put l u g i x) (reverse_has (happened.Put l u g i x) (stepped f s e).records h)
 
--- every node starts, in one event
-record Begins (w : Scene) : Type 0 where
-  records : List Happened
-  is : w.before ≡ record { event = None; records = records } ∷ []
-
-too_begins : (w : Scene) (n : ℕ) (o : Option Core) → Begins w → Begins (starts_too w n o)
-too_begins w n (Some s) k = k
-too_begins w n None k =
-    let rs : List Happened = (started w.config n (w.incs n + 1)).records in
-    record { records = reverse rs ++ k.records; is = ap (λ h. with_records h rs) k.is }
-
-fold_begins : (ns : List ℕ) (w : Scene) → Begins w → Begins (fold (λ (w : Scene) n. starts_too w n (w.cores n)) w ns)
-fold_begins [] w k = k
-fold_begins (n ∷ ns) w k = fold_begins ns (starts_too w n (w.cores n)) (too_begins w n (w.cores n) k)
-
-begins_quiet : (w : Scene) → Begins w → Quiet w.before
-begins_quiet w k = subst Quiet (sym k.is) (λ m client q. absurd (let z : None ≡ Some (event.Call m (Goodbye client)) = q in cc), tt)
+quiet_law : (c : Config) → PastLaw recounting c Quiet
+quiet_law c =
+    record {
+      none = tt;
+      outer = λ w e t o k. (λ m client q taken l u g i x h. idle_put (happened.Put l u g i x) (o.idle (happened.Put l u g i x) h), k);
+      steps = λ w n f s e v r next up arises told k. (step_quiet n f s e v told.1 (rested_at c w (ran_reached recounting c w r) n s up), k);
+    }
 
 pub goodbyes_put_nothing : GoodbyesPutNothing
-goodbyes_put_nothing c _ Nothing = tt
-goodbyes_put_nothing c _ (AllStart fixed) =
-    begins_quiet (all_started c) (fold_begins (nodes_of c.nodes) (record (nothing_yet c) { before = record { event = None; records = [] } ∷ [] }) (record { records = []; is = refl }))
-goodbyes_put_nothing c _ (Starts w n e k free real down none) =
-    (no_call e (reverse (started w.config n (w.incs n + 1)).records) none, goodbyes_put_nothing c w k)
-goodbyes_put_nothing c _ (Stops w n e s k up none) = (no_call e (happened.Down n ∷ []) none, goodbyes_put_nothing c w k)
-goodbyes_put_nothing c _ (Steps w n f s e v k up arises says is) =
-    (step_quiet n f s e v is (rested_at c w (reached c w k) n s up), goodbyes_put_nothing c w k)
-goodbyes_put_nothing c _ (Notes w e rs k notes down) =
-    (λ m client q taken l u g i x h. notes (happened.Put l u g i x) (reverse_has (happened.Put l u g i x) rs h), goodbyes_put_nothing c w k)
+goodbyes_put_nothing c w k = past_holds recounting c Quiet (quiet_law c) w (recounted_ran c w k)

@@ -6,7 +6,6 @@ use Rattle.std.proofs.lemmas.List.{reverse-append}
 use Rattle.rsct_packet.specs.declared.ids.ViewId.{ViewId}
 use Rattle.rsct_packet.specs.declared.ids.ProviderId.{ProviderId}
 use Rattle.rsct_packet.specs.declared.ids.ProtoId.{ProtoId}
-use Rattle.rsct_packet.specs.Mask.{nodes_of}
 use Rattle.rsct_packet.specs.Search.{Has}
 use Rattle.rsct_packet.proofs.HasLaws.{has_filter, has_append}
 use Rattle.proposal_core.specs.declared.entry.Entry.{Entry}
@@ -29,16 +28,18 @@ use Rattle.node_state.specs.declared.happened.Happened.{Happened}
 use Rattle.node_state.specs.declared.happened.Happened.TheVariants as happened
 use Rattle.node_state.specs.declared.state.Core.{Core}
 use Rattle.node_state.specs.State.{state_of, len_of, row_of, list_of, with_row, held_rows, recorded, recorded_all, with_sessions}
-use Rattle.node_state.specs.HandOn.{cast_record, cast_records, heard}
+use Rattle.node_state.specs.HandOn.{Answering, cast_record, cast_records, heard}
 use Rattle.node_state.specs.Leading.{put}
 use Rattle.node_state.specs.Applying.{level_set, view_entered, dissolved}
-use Rattle.node_state.specs.Step.{at_work, stepped, started}
+use Rattle.node_state.specs.Step.{NodeEvent, at_work, stepped, started}
+use Rattle.world_model.specs.declared.event.Event.{Event}
 use Rattle.run_safety.specs.Past.{History, Within, earlier}
 use Rattle.step_refinement.specs.Tied.{Scene}
-use Rattle.step_refinement.specs.Rules.{ended, starts_too, nothing_yet}
-use Rattle.step_refinement.specs.Runs.{Reached, Nothing, AllStart, Starts, Stops, Steps, Notes}
-use Rattle.step_refinement.proofs.Changed.{each_set}
+use Rattle.step_refinement.specs.Rules.{ended}
+use Rattle.step_refinement.specs.Runs.{Reached}
 use Rattle.step_refinement.proofs.RunLaw.{reached_rests}
+use Rattle.run_induction.proofs.Ran.{anyhow, ran_reached, reached_ran}
+use Rattle.run_induction.proofs.Laws.{UpClaim, UpLaw, up_holds}
 use Rattle.row_laws.specs.hearing.Changes.{Fewer, Same, handing, entering, Does, Stays, Then, Records, Hands, Loses, Joins, Votes, Enters}
 use Rattle.row_laws.proofs.hearing.Sessions.{fewer_told}
 use Rattle.row_laws.proofs.hearing.Attending.{pushed, pushed_append, pushed_reverse, heard_at}
@@ -52,7 +53,7 @@ use Rattle.provider_laws.proofs.single_casts.Casting.{any_kept, flat_has, has_fl
 use Rattle.provider_laws.proofs.single_casts.Adding.{sides_keep}
 use Rattle.provider_laws.proofs.single_casts.Going.{does_more}
 use Rattle.provider_laws.proofs.single_casts.Doing.{Held, casting_does}
-use Rattle.provider_laws.proofs.single_casts.Law.{Idle, start_idle, reached_casts}
+use Rattle.provider_laws.proofs.single_casts.Law.{Bare, start_bare, node_casts}
 use Rattle.provider_laws.proofs.single_casts.Once.{cast_once}
 
 abbrev OnceCast : List Happened → History → Happened → Type 0
@@ -219,34 +220,31 @@ module _ (n inc : ℕ) (before : History) where
 
 -- ---- every scene
 
-kept_none : (t : SessionState) → Idle t → Apart t.kept
-kept_none t idle = subst Apart (sym idle.1) tt
+kept_none : (t : SessionState) → Bare t → Apart t.kept
+kept_none t bare = subst Apart (sym bare.1) tt
 
-all_apart : (ns : List ℕ) (w : Scene) → ((m : ℕ) (d : Core) → w.cores m ≡ Some d → Apart d.sessions.kept) → (m : ℕ) (d : Core) → (fold (λ (w : Scene) n. starts_too w n (w.cores n)) w ns).cores m ≡ Some d → Apart d.sessions.kept
-all_apart [] w k = k
-all_apart (n ∷ ns) w k = all_apart ns (starts_too w n (w.cores n)) (by (w.cores n))
-  where
-    by : (o : Option Core) → (m : ℕ) (d : Core) → (starts_too w n o).cores m ≡ Some d → Apart d.sessions.kept
-    by (Some s) = k
-    by None = each_set (λ m o. (d : Core) → o ≡ Some d → Apart d.sessions.kept) w.cores n (Some (started w.config n (w.incs n + 1))) (λ d q. let same : started w.config n (w.incs n + 1) ≡ d = cc in subst (λ (z : Core). Apart z.sessions.kept) same (kept_none (started w.config n (w.incs n + 1)).sessions (start_idle w.config n (w.incs n + 1)))) (λ m ne d q. k m d q)
+abbrev keeping : UpClaim
+keeping = record { sent = λ h x. Unit {0}; node = λ m inc ps h d. Apart d.sessions.kept; lines = λ h. Unit {0} }
 
-reached_apart : (c : Config) (w : Scene) → Reached c w → (m : ℕ) (d : Core) → w.cores m ≡ Some d → Apart d.sessions.kept
+step_apart : (c : Config) (w : Scene) (n : ℕ) (f : Answering) (s : Core) (e : NodeEvent) (v : Event) → Reached c w → Reached c (ended w n v (stepped f s e)) → w.cores n ≡ Some s → Apart s.sessions.kept → Apart (stepped f s e).sessions.kept
 unfolding len_of state_of list_of row_of
-reached_apart c _ Nothing m d q = absurd (cc)
-reached_apart c _ (AllStart fixed) m d q = all_apart (nodes_of c.nodes) (record (nothing_yet c) { before = record { event = None; records = [] } ∷ [] }) (λ m d q. absurd (cc)) m d q
-reached_apart c _ (Starts w n e k free real down) m d q =
-    each_set (λ m o. (d : Core) → o ≡ Some d → Apart d.sessions.kept) w.cores n (Some (started w.config n (w.incs n + 1))) (λ d q. let same : started w.config n (w.incs n + 1) ≡ d = cc in subst (λ (z : Core). Apart z.sessions.kept) same (kept_none (started w.config n (w.incs n + 1)).sessions (start_idle w.config n (w.incs n + 1)))) (λ m ne d q. reached_apart c w k m d q) m d q
-reached_apart c _ (Stops w n e s k up) m d q =
-    each_set (λ m o. (d : Core) → o ≡ Some d → Apart d.sessions.kept) w.cores n None (λ d q. absurd (cc)) (λ m ne d q. reached_apart c w k m d q) m d q
-reached_apart c _ (Steps w n f s e v k up arises) m d q =
+step_apart c w n f s e v k next up old =
     let t : Core = stepped f s e in
     let rested : Rested (w.incs n) w.before n s = (reached_attends c w k).up n s up in
     let makes : Makes (at_work s) t = step_comes f s e ((reached_rests c w k []).turns n s up).owner rested.fit in
     let began : Hearing n (w.incs n) w.before (at_work s) = record { me = rested.me; inc_of = rested.inc_of; at = rested.at } in
-    let casts : Within OnceCast (reverse t.records) w.before = (cast_once c (ended w n v t) (Steps w n f s e v k up arises)).0 in
-    let now : Apart t.sessions.kept = apart_does n (w.incs n) w.before (at_work s) t (once_does (at_work s) t makes.once) casts began ((reached_casts c w k).up n s up) (reached_apart c w k n s up) in
-    each_set (λ m o. (d : Core) → o ≡ Some d → Apart d.sessions.kept) w.cores n (Some t) (λ d q. let same : t ≡ d = cc in subst (λ (z : Core). Apart z.sessions.kept) same now) (λ m ne d q. reached_apart c w k m d q) m d q
-reached_apart c _ (Notes w e rs k notes) m d q = reached_apart c w k m d q
+    apart_does n (w.incs n) w.before (at_work s) t (once_does (at_work s) t makes.once) (cast_once c (ended w n v t) next).0 began (node_casts c w k n s up).up old
+
+kept_apart : (c : Config) → UpLaw anyhow c keeping
+kept_apart c =
+    record {
+      none = tt;
+      sent_on = λ e h x k. tt;
+      stays = λ w e t o m d up all k. k;
+      comes = λ w e t o m came down. kept_none (started c m (w.incs m + 1)).sessions (start_bare c m (w.incs m + 1));
+      lines_on = λ w e t o k. tt;
+      steps = λ w n f s e v r next up arises told h k. record { sends = λ x i. tt; node = step_apart c w n f s e v (ran_reached anyhow c w r) (ran_reached anyhow c (ended w n v (stepped f s e)) next) up k; others = λ m ne d is a. a; lines = tt };
+    }
 
 pub one_kept : OneBallotKept
-one_kept c w k n s up = reached_apart c w k n s up
+one_kept c w k n s up = up_holds anyhow c keeping (kept_apart c) w (reached_ran c w k) n s up

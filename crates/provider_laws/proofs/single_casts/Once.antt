@@ -46,7 +46,7 @@ all_anew [] k = tt
 all_anew (e ∷ before) k = (now_anew e.records before k.0, all_anew before k.1)
 
 pub hear_phases_once : ProvidersHearPhasesOnce
-hear_phases_once c w k = phases_once c w k (all_anew w.before (places_once c w k))
+hear_phases_once c w k = phases_once c (λ w k. all_anew w.before (places_once c w k)) w k
 
 pub cast_once : ProvidersCastOnce
 cast_once c w k = casts_once w.before (casts_when_due c w k) (casts_in_phase c w k) (hear_phases_once c w k)

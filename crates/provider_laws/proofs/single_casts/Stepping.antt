@@ -39,7 +39,7 @@ use Rattle.step_refinement.proofs.Turns.{has_turned}
 use Rattle.row_laws.specs.hearing.Changes.{Inner, entering, Does, Enters}
 use Rattle.row_laws.proofs.hearing.Viewing.{Once, Stayed, Entered, sides_stand}
 use Rattle.row_laws.proofs.hearing.Doing.{Hearing, hearing_does}
-use Rattle.row_laws.proofs.hearing.Listening.{reverse_has}
+use Rattle.run_induction.proofs.Idle.{reverse_has}
 use Rattle.row_laws.proofs.hearing.Added.{does_grow}
 use Rattle.provider_laws.proofs.single_casts.Lines.{ghost_of, in_line, line_read, runs_on, bases_in, noted_is, based_is, base_entered, put_entered, fitted_is, Seat, seat_of, single_is, entered_is}
 use Rattle.provider_laws.proofs.single_casts.Adding.{Own, entering_view, does_me, quiet_adds, entering_adds, entered_records}

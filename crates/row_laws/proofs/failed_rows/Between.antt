@@ -1,9 +1,7 @@
 -- Between events: what each node has of who failed, and that it goes on.
-use Rattle.std.proofs.Common.{◌≡◌, ◌≢◌, ℕ, List, [], ◌∷◌, ◌++◌, Option, Some, None, Bool, true, false, refl, sym, ap, ◌∙◌, subst, inl, inr, ⊎_elim}
+use Rattle.std.proofs.Common.{◌≡◌, ℕ, List, [], ◌∷◌, ◌++◌, Option, Some, None, Bool, true, false, refl, sym, ap, ◌∙◌, subst, inl, inr, ⊎_elim}
 use Rattle.std.specs.Prelude.{◌==◌, ◌&&◌, ◌||◌, if◌then◌else◌}
 use Rattle.std.specs.List.{list_any}
-use Rattle.std.specs.Str.{bytes_eq}
-use Rattle.std.proofs.lemmas.Bool.{eqb-true}
 use Rattle.rsct_packet.specs.declared.ids.ViewId.{ViewId}
 use Rattle.rsct_packet.specs.declared.ids.ProviderId.{ProviderId}
 use Rattle.rsct_packet.specs.Providers.{among, same_provider}
@@ -15,7 +13,7 @@ use Rattle.proposal_core.specs.declared.entry.RowVote.{RowVote}
 use Rattle.proposal_core.specs.declared.entry.RowVote.TheVariants as row_vote
 use Rattle.proposal_core.specs.declared.group_state.GroupState.{GroupState}
 use Rattle.proposal_core.specs.declared.group_state.Running.{Running}
-use Rattle.proposal_core.specs.Fold.{empty_state, joiners_fit}
+use Rattle.proposal_core.specs.Fold.{joiners_fit}
 use Rattle.proposal_core.specs.Lists.{len_in, state_in}
 use Rattle.vote_phases.specs.Tally.{TallyView}
 use Rattle.session_state.specs.declared.state.Provider.{Provider}
@@ -24,17 +22,18 @@ use Rattle.node_state.specs.declared.happened.Happened.{Happened}
 use Rattle.node_state.specs.declared.happened.Happened.TheVariants as happened
 use Rattle.node_state.specs.declared.packet.Body.{Body}
 use Rattle.node_state.specs.declared.packet.Body.TheVariants as body
-use Rattle.node_state.specs.declared.packet.Packet.{Packet}
 use Rattle.node_state.specs.declared.state.Core.{Core}
 use Rattle.world_model.specs.Run.{Happening}
 use Rattle.run_safety.specs.Past.{History, records_of}
-use Rattle.run_safety.specs.Stays.{Stay, stays, stays_after, with_base, with_entry, asks_join, client_of, joining_client}
+use Rattle.run_safety.specs.Stays.{stays, asks_join, client_of, joining_client}
 use Rattle.node_state.specs.State.{InNameOrder}
 use Rattle.step_refinement.specs.Tied.{Scene, NodeIsIf, Rests}
 use Rattle.step_refinement.proofs.SessionLaws.{provider_same}
+use Rattle.run_induction.proofs.Idle.{Elsewhere, AllElsewhere, stays_elsewhere}
+use Rattle.run_induction.proofs.Laws.{UpClaim}
 use Rattle.row_laws.proofs.honest_votes.At.{found, leads_row}
 use Rattle.row_laws.specs.failed_rows.Failures.{GoneCause, RowFails, FailuresHaveCauses, SaidGoodbye}
-use Rattle.row_laws.proofs.failed_rows.Facts.{Whys, Takers, takers_more, VoterFails, TallyWhile, TallyFails, TallyIs, Waits, QueueIs, Track, Of, stood_on, Lives, told_on, off_on, none_asked}
+use Rattle.row_laws.proofs.failed_rows.Facts.{Whys, Takers, takers_more, VoterFails, TallyWhile, TallyFails, TallyIs, Waits, QueueIs, Track, stood_on, Lives, told_on, off_on, none_asked}
 use Rattle.row_laws.proofs.failed_rows.Living.{slim_same}
 use Rattle.row_laws.proofs.failed_rows.Owners.{Owned, owned_slim}
 use Rattle.row_laws.proofs.failed_rows.Steps.{BodyGone}
@@ -115,98 +114,38 @@ pub record CoreFails (h : History) (s : Core) : Type 0 where
   pub whys : (g : List ℕ) → Whys (found s g).led
   pub takers : Takers s.views.me s.sessions (records_of h)
 
-abbrev pub CoreIf : History → Option Core → Type 0
-CoreIf h None = Unit {0}
-CoreIf h (Some s) = CoreFails h s
-
-pub record Honest (w : Scene) : Type 0 where
-  pub sent : (p : Packet) → Has p w.sent → BodyGone w.before p.body
-  pub nodes : (m : ℕ) → CoreIf w.before (w.cores m)
-  pub puts : FailuresHaveCauses w.before
-
--- records of another node change no stay
-pub other_stays : (n m : ℕ) (g : List ℕ) (r : Happened) → m ≢ n → Of n r → (xs : List Stay) → stays_after m g r xs ≡ xs
-other_stays n m g (happened.Up k j) ne o xs = by (k == m) refl
-  where
-    by : (b : Bool) → (k == m) ≡ b → (if b then [] else xs) ≡ xs
-    by true e = absurd (ne (sym (eqb-true k m e) ∙ o))
-    by false e = refl
-other_stays n m g (happened.Down k) ne o xs = by (k == m) refl
-  where
-    by : (b : Bool) → (k == m) ≡ b → (if b then [] else xs) ≡ xs
-    by true e = absurd (ne (sym (eqb-true k m e) ∙ o))
-    by false e = refl
-other_stays n m g (happened.Ring k j i ms b) ne o xs = refl
-other_stays n m g (happened.In k v ms) ne o xs = by (k == m) refl
-  where
-    by : (b : Bool) → (k == m) ≡ b → (if b then record { view = v; base = empty_state; entries = [] } ∷ xs else xs) ≡ xs
-    by true e = absurd (ne (sym (eqb-true k m e) ∙ o))
-    by false e = refl
-other_stays n m g (happened.Base k v f u len s) ne o xs = by (k == m) refl
-  where
-    by : (b : Bool) → (k == m) ≡ b → (if (b && bytes_eq f g) then with_base s xs else xs) ≡ xs
-    by true e = absurd (ne (sym (eqb-true k m e) ∙ o))
-    by false e = refl
-other_stays n m g (happened.Put k v f i d) ne o xs = by (k == m) refl
-  where
-    by : (b : Bool) → (k == m) ≡ b → (if (b && bytes_eq f g) then with_entry d xs else xs) ≡ xs
-    by true e = absurd (ne (sym (eqb-true k m e) ∙ o))
-    by false e = refl
-other_stays n m g (happened.Heard p v f i d ms value) ne o xs = refl
-other_stays n m g (happened.Cast p proto phase vote value message) ne o xs = refl
-other_stays n m g (happened.Asked p r f x) ne o xs = refl
-other_stays n m g (happened.Told p r why) ne o xs = refl
-other_stays n m g (happened.Noted k c v i told) ne o xs = refl
-other_stays n m g (happened.Refused k c fault) ne o xs = refl
-other_stays n m g (happened.Shown k line) ne o xs = refl
-
-pub others_stay : (n m : ℕ) (g : List ℕ) (rs xs : List Happened) → m ≢ n → ((r : Happened) → Has r rs → Of n r) → stays m g (rs ++ xs) ≡ stays m g xs
-others_stay n m g [] xs ne all = refl
-others_stay n m g (r ∷ rs) xs ne all = other_stays n m g r ne (all r (inl refl)) (stays m g (rs ++ xs)) ∙ others_stay n m g rs xs ne (λ q i. all q (inr i))
+-- what holds of a run: GONE that was sent has its cause, as has what each node has of who failed, and what was put
+abbrev pub fails : UpClaim
+fails = record { sent = λ h x. BodyGone h x.body; node = λ m inc ps h s. CoreFails h s; lines = FailuresHaveCauses }
 
 -- another node asks for no join of this one
-pub other_asks : (n : ℕ) (p : ProviderId) (r : Happened) → (p.node ≡ n → ⊥) → Of n r → asks_join p r ≡ false
-other_asks n p (happened.Up k j) ne o = refl
-other_asks n p (happened.Down k) ne o = refl
-other_asks n p (happened.Ring k j i ms b) ne o = refl
-other_asks n p (happened.In k v ms) ne o = refl
-other_asks n p (happened.Base k v f u len s) ne o = refl
-other_asks n p (happened.Put k v f i d) ne o = refl
-other_asks n p (happened.Heard q v f i d ms value) ne o = refl
-other_asks n p (happened.Cast q proto phase vote value message) ne o = refl
-other_asks n p (happened.Asked q r f x) ne o = by (same_provider q p) refl
+pub other_asks : (m : ℕ) (p : ProviderId) (r : Happened) → p.node ≡ m → Elsewhere m r → asks_join p r ≡ false
+other_asks m p (happened.Asked q r f x) e o = by (same_provider q p) refl
   where
     by : (b : Bool) → same_provider q p ≡ b → (b && (r == p.join)) ≡ false
-    by true e = absurd (ne (ap (λ (z : ProviderId). z.node) (sym (provider_same q p e)) ∙ o))
-    by false e = refl
-other_asks n p (happened.Told q r why) ne o = refl
-other_asks n p (happened.Noted k c v i told) ne o = refl
-other_asks n p (happened.Refused k c fault) ne o = refl
-other_asks n p (happened.Shown k line) ne o = refl
+    by true z = absurd (o (ap (λ (y : ProviderId). y.node) (provider_same q p z) ∙ e))
+    by false z = refl
+other_asks m p _ e o = refl
 
 none_any : (p : ProviderId) (rs : List Happened) → ((r : Happened) → Has r rs → asks_join p r ≡ false) → list_any (asks_join p) rs ≡ false
 none_any p [] all = refl
 none_any p (r ∷ rs) all = ap (λ b. b || list_any (asks_join p) rs) (all r (inl refl)) ∙ none_any p rs (λ q i. all q (inr i))
 
-pub core_on : (n m : ℕ) (e : Happening) (h : History) (s : Core) → s.views.me ≡ m → m ≢ n → ((r : Happened) → Has r e.records → Of n r) → CoreFails h s → CoreFails (e ∷ h) s
-core_on n m e h s me ne all k =
+pub core_on : (m : ℕ) (e : Happening) (h : History) (s : Core) → s.views.me ≡ m → AllElsewhere m e.records → CoreFails h s → CoreFails (e ∷ h) s
+core_on m e h s me all k =
     record {
       order = k.order;
-      tracks = λ g. subst (λ z. Track z s.views.view (len_in (found s g).list) (state_in (found s g).list)) (ap (λ z. stays z g (records_of h)) me ∙ sym (others_stay n m g e.records (records_of h) ne all) ∙ ap (λ z. stays z g (e.records ++ records_of h)) (sym me)) (k.tracks g);
+      tracks = λ g. subst (λ z. Track z s.views.view (len_in (found s g).list) (state_in (found s g).list)) (ap (λ z. stays z g (records_of h)) me ∙ sym (stays_elsewhere m g e.records (records_of h) all) ∙ ap (λ z. stays z g (e.records ++ records_of h)) (sym me)) (k.tracks g);
       marks = λ g p i. gone_on e h s.views.view g p (k.marks g p i);
       tallies = λ g. tally_on (GoneCause h s.views.view g) (GoneCause (e ∷ h) s.views.view g) (gone_on e h s.views.view g) (leads_row s (found s g)) (found s g).led.tally (state_in (found s g).list) (k.tallies g);
       queues = λ g. queue_on (GoneCause h s.views.view g) (GoneCause (e ∷ h) s.views.view g) (gone_on e h s.views.view g) (leads_row s (found s g)) (found s g).led.waiting.failures (state_in (found s g).list) (k.queues g);
       apart = k.apart;
-      own = λ p node inc asked. own_on e h s.sessions p (k.own p node inc (sym (none_asked p e.records (records_of h) (λ r i. other_asks n p r (λ q. ne (sym (node ∙ me) ∙ q)) (all r i))) ∙ asked));
+      own = λ p node inc asked. own_on e h s.sessions p (k.own p node inc (sym (none_asked p e.records (records_of h) (λ r i. other_asks m p r (node ∙ me) (all r i))) ∙ asked));
       mine = k.mine;
       whys = k.whys;
       takers = takers_more s.views.me s.sessions e.records (records_of h) k.takers;
-      owners = owned_slim (λ p. client_of p h) (λ p. client_of p (e ∷ h)) s.sessions s.sessions (λ x i. ap (λ b. if b then joining_client e.event else client_of x.p h) (none_any x.p e.records (λ r j. other_asks n x.p r (λ q. ne (sym (k.mine x i ∙ me) ∙ q)) (all r j)))) (slim_same s.sessions s.sessions refl refl refl) k.owners;
+      owners = owned_slim (λ p. client_of p h) (λ p. client_of p (e ∷ h)) s.sessions s.sessions (λ x i. ap (λ b. if b then joining_client e.event else client_of x.p h) (none_any x.p e.records (λ r j. other_asks m x.p r (k.mine x i ∙ me) (all r j)))) (slim_same s.sessions s.sessions refl refl refl) k.owners;
     }
-
-pub core_if_on : (n m : ℕ) (e : Happening) (h : History) (o : Option Core) → ((s : Core) → o ≡ Some s → s.views.me ≡ m) → m ≢ n → ((r : Happened) → Has r e.records → Of n r) → CoreIf h o → CoreIf (e ∷ h) o
-core_if_on n m e h None me ne all k = tt
-core_if_on n m e h (Some s) me ne all k = core_on n m e h s (me s refl) ne all k
 
 -- a node of a scene is who it is
 pub who_is : (w : Scene) → Rests [] w → (m : ℕ) (s : Core) → w.cores m ≡ Some s → s.views.me ≡ m

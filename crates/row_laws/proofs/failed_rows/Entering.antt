@@ -48,7 +48,7 @@ use Rattle.node_state.proofs.NameOrder.{row_here, text_same}
 use Rattle.step_refinement.proofs.SessionLaws.{provider_same}
 use Rattle.step_refinement.proofs.BaseOrder.{bases_ordered, row_of_base, base_noted}
 use Rattle.row_laws.proofs.hearing.Handing.{among_is, has_among}
-use Rattle.row_laws.proofs.hearing.Listening.{reverse_has}
+use Rattle.run_induction.proofs.Idle.{reverse_has}
 use Rattle.row_laws.proofs.honest_votes.At.{found}
 use Rattle.row_laws.proofs.honest_votes.Changes.{Every, NoGroup}
 use Rattle.row_laws.specs.failed_rows.Failures.{FromElsewhere, IsCut, EachPut}

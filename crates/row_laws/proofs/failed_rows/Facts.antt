@@ -1,5 +1,5 @@
 -- What is said of rows, records and packets, and of who is over.
-use Rattle.std.proofs.Common.{◌≡◌, ◌⊎◌, ℕ, List, [], ◌∷◌, ◌++◌, length, Option, Some, None, Bool, true, false, refl, sym, ap, ◌∙◌, subst, inl, inr, append_assoc}
+use Rattle.std.proofs.Common.{◌≡◌, ◌≢◌, ◌⊎◌, ℕ, List, [], ◌∷◌, ◌++◌, length, Option, Some, None, Bool, true, false, refl, sym, ap, ◌∙◌, subst, inl, inr, append_assoc}
 use Rattle.std.specs.Prelude.{◌||◌, reverse}
 use Rattle.std.specs.List.{list_any}
 use Rattle.std.proofs.lemmas.List.{reverse-append}
@@ -32,7 +32,7 @@ use Rattle.node_state.specs.declared.packet.Body.TheVariants as body
 use Rattle.node_state.specs.declared.state.Core.{Core}
 use Rattle.run_safety.specs.Past.{History, records_of, inc_after, inc_now}
 use Rattle.run_safety.specs.Stays.{Stay, stays, stays_after, is_join_of, asks_join, is_refused}
-use Rattle.row_laws.proofs.hearing.Listening.{reverse_has}
+use Rattle.run_induction.proofs.Idle.{reverse_has, Elsewhere}
 use Rattle.row_laws.specs.failed_rows.Failures.{state_of_stay, state_held, WasTold, TakenOff, StoodThere, RowFails, EachPut}
 use Rattle.row_laws.proofs.failed_rows.Queues.{Stays}
 use Rattle.row_laws.proofs.failed_rows.Living.{IsLive}
@@ -148,34 +148,23 @@ quiet_accepted (happened.Refused m c fault) q = absurd q
 quiet_accepted (happened.Shown m line) q = refl
 
 -- a record of this node, where it is of a view or a list
-abbrev pub Of : ℕ → Happened → Type 0
-Of n (happened.Up m j) = m ≡ n
-Of n (happened.Down m) = m ≡ n
-Of n (happened.In m v ms) = m ≡ n
-Of n (happened.Base m v g u len st) = m ≡ n
-Of n (happened.Put m v g i e) = m ≡ n
-Of n (happened.Asked p r g x) = p.node ≡ n
-Of n _ = Unit {0}
-
--- such a record of a step: no node starts in it
 abbrev pub Stepped : ℕ → Happened → Type 0
 Stepped n (happened.Up m j) = ⊥
-Stepped n r = Of n r
+Stepped n (happened.Down m) = m ≡ n
+Stepped n (happened.In m v ms) = m ≡ n
+Stepped n (happened.Base m v g u len st) = m ≡ n
+Stepped n (happened.Put m v g i e) = m ≡ n
+Stepped n (happened.Asked p r g x) = p.node ≡ n
+Stepped n _ = Unit {0}
 
-pub stepped_of : (n : ℕ) (r : Happened) → Stepped n r → Of n r
-stepped_of n (happened.Up m j) k = absurd k
-stepped_of n (happened.Down m) k = k
-stepped_of n (happened.Ring m j i ms b) k = k
-stepped_of n (happened.In m v ms) k = k
-stepped_of n (happened.Base m v g u len st) k = k
-stepped_of n (happened.Put m v g i e) k = k
-stepped_of n (happened.Heard p v g i e ms value) k = k
-stepped_of n (happened.Cast p proto phase vote value message) k = k
-stepped_of n (happened.Asked p r g x) k = k
-stepped_of n (happened.Told p r why) k = k
-stepped_of n (happened.Noted m c v i told) k = k
-stepped_of n (happened.Refused m c fault) k = k
-stepped_of n (happened.Shown m line) k = k
+pub stepped_elsewhere : (n m : ℕ) (r : Happened) → n ≢ m → Stepped n r → Elsewhere m r
+stepped_elsewhere n m (happened.Up k j) ne o = absurd o
+stepped_elsewhere n m (happened.Down k) ne o = λ e. ne (sym o ∙ e)
+stepped_elsewhere n m (happened.In k v ms) ne o = λ e. ne (sym o ∙ e)
+stepped_elsewhere n m (happened.Base k v g u len st) ne o = λ e. ne (sym o ∙ e)
+stepped_elsewhere n m (happened.Put k v g i e) ne o = λ q. ne (sym o ∙ q)
+stepped_elsewhere n m (happened.Asked p r g x) ne o = λ e. ne (sym o ∙ e)
+stepped_elsewhere n m _ ne o = tt
 
 -- so the incarnations stay
 stepped_inc : (n m : ℕ) (r : Happened) → Stepped n r → (old : ℕ) → inc_after m r old ≡ old

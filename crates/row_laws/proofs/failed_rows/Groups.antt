@@ -1,18 +1,16 @@
 -- A provider's request is asked in one group alone, since its number is given once.
-use Rattle.std.proofs.Common.{◌≡◌, ◌⊎◌, ◌≤◌, ℕ, ◌+◌, List, [], ◌∷◌, ◌++◌, Option, Some, None, refl, sym, ◌∙◌, subst, inl, inr, ⊎_elim, arith}
-use Rattle.std.specs.Prelude.{fold, map, reverse}
+use Rattle.std.proofs.Common.{◌≡◌, ◌⊎◌, ◌≤◌, ℕ, ◌+◌, List, [], ◌∷◌, ◌++◌, Some, refl, sym, ◌∙◌, subst, inl, inr, ⊎_elim, arith}
+use Rattle.std.specs.Prelude.{reverse}
 use Rattle.rsct_packet.specs.declared.ids.ProviderId.{ProviderId}
-use Rattle.rsct_packet.specs.Mask.{nodes_of}
 use Rattle.rsct_packet.specs.Search.{Has}
-use Rattle.rsct_packet.proofs.HasLaws.{has_append, has_map}
+use Rattle.rsct_packet.proofs.HasLaws.{has_append}
 use Rattle.proposal_core.specs.declared.proposal.Proposal.{Proposal}
 use Rattle.node_state.specs.declared.config.Config.{Config}
 use Rattle.node_state.specs.declared.happened.Happened.{Happened}
 use Rattle.node_state.specs.declared.happened.Happened.TheVariants as happened
 use Rattle.node_state.specs.declared.state.Core.{Core}
 use Rattle.node_state.specs.HandOn.{Answering}
-use Rattle.node_state.specs.Step.{NodeEvent, Ticks, Asks, Given, Calls, Garbage, at_work, started, first_view, first_members, own_rings, ring_record, stepped}
-use Rattle.node_state.specs.State.{with_sessions}
+use Rattle.node_state.specs.Step.{NodeEvent, Ticks, Asks, Given, Calls, Garbage, at_work, stepped}
 use Rattle.session_state.specs.declared.state.Provider.{Provider}
 use Rattle.world_model.specs.declared.event.Event.{Event}
 use Rattle.run_safety.specs.Past.{records_of}
@@ -21,19 +19,19 @@ use Rattle.run_safety.specs.Group.{Noted}
 use Rattle.row_laws.proofs.failed_rows.Fitting.{asked_seen}
 use Rattle.step_refinement.specs.Ghost.{asking}
 use Rattle.step_refinement.specs.Tied.{Scene, NodeIs, NodeIsIf, Rests}
-use Rattle.step_refinement.specs.Rules.{nothing_yet, starts_too, ended, Arises}
-use Rattle.step_refinement.specs.Runs.{IsNote}
+use Rattle.step_refinement.specs.Rules.{ended, Arises}
 use Rattle.step_refinement.proofs.Changed.{set_here}
-use Rattle.step_refinement.proofs.RunLaw.{reached_rests}
-use Rattle.row_laws.specs.failed_rows.Scenes.{Names, Played, Nothing, AllStart, Starts, Stops, Steps, Notes, RequestsHaveOneGroup}
+use Rattle.row_laws.specs.failed_rows.Scenes.{Names, RequestsHaveOneGroup}
 use Rattle.row_laws.proofs.failed_rows.Origin.{root_of}
 use Rattle.row_laws.proofs.failed_rows.Joining.{OneAsk, one_call}
 use Rattle.row_laws.proofs.failed_rows.Between.{who_is}
-use Rattle.row_laws.proofs.failed_rows.Starting.{with_is}
+use Rattle.row_laws.proofs.failed_rows.Starting.{idle_asks}
 use Rattle.row_laws.proofs.failed_rows.Facts.{Unasked}
 use Rattle.row_laws.proofs.hearing.Incarnations.{incs_of}
-use Rattle.row_laws.proofs.hearing.Listening.{reverse_has}
-use Rattle.row_laws.proofs.failed_rows.Law.{reached, played_honest, asked_by_call, asked_here}
+use Rattle.run_induction.proofs.Idle.{reverse_has}
+use Rattle.run_induction.proofs.Ran.{Ran, ran_reached}
+use Rattle.run_induction.proofs.Laws.{PastLaw, past_holds}
+use Rattle.row_laws.proofs.failed_rows.Law.{playing, played_ran, rests_in, fails_hold, asked_by_call, asked_here}
 
 -- each request in one group
 abbrev OneGroup : List Happened → Type 0
@@ -47,15 +45,15 @@ quiet_group rs old none k p r g h x y a b = k p r g h x y (there g x a) (there h
 
 -- ---- a step
 
-module _ (c : Config) (w : Scene) (n : ℕ) (f : Answering) (s : Core) (e : NodeEvent) (v : Event) (k : Played c w) (up : w.cores n ≡ Some s) (arises : Arises w e) (says : Names n e v) where
+module _ (c : Config) (w : Scene) (n : ℕ) (f : Answering) (s : Core) (e : NodeEvent) (v : Event) (k : Ran playing c w) (next : Ran playing c (ended w n v (stepped f s e))) (up : w.cores n ≡ Some s) (arises : Arises w e) (says : Names n e v) where
   abbrev t : Core
   t = stepped f s e
 
   rests : (g : List ℕ) → Rests g w
-  rests g = reached_rests c w (reached c w k) g
+  rests g = rests_in c w k g
 
   after : (g : List ℕ) → Rests g (ended w n v t)
-  after g = reached_rests c (ended w n v t) (reached c (ended w n v t) (Steps w n f s e v k up arises says)) g
+  after g = rests_in c (ended w n v t) next g
 
   -- its providers are of its incarnation
   own : (x : Provider) → Has x s.sessions.providers → x.p.inc ≡ s.sessions.inc
@@ -72,7 +70,7 @@ module _ (c : Config) (w : Scene) (n : ℕ) (f : Answering) (s : Core) (e : Node
   one (Calls d) p r g x i = one_call d (at_work s) refl own p r g x i
 
   new : (p : ProviderId) (r : ℕ) (g : List ℕ) (x : Proposal) → Has (happened.Asked p r g x) t.records → ((root_of (at_work s) e).records ≡ happened.Asked p r g x ∷ []) × (r ≡ s.sessions.last_request + 1) × (p.inc ≡ s.sessions.inc)
-  new p r g x i = one e p r g x (asked_by_call w n f s e v up rests after arises says (incs_of c w (reached c w k) n) (played_honest c w k) p r g x i)
+  new p r g x i = one e p r g x (asked_by_call w n f s e v up rests after arises says (incs_of c w (ran_reached playing c w k) n) (fails_hold c w k) p r g x i)
 
   -- numbers that were given before are lower
   lower : (p : ProviderId) (r : ℕ) (g : List ℕ) (x : Proposal) → p.node ≡ n → p.inc ≡ s.sessions.inc → Has (happened.Asked p r g x) (records_of w.before) → r ≤ s.sessions.last_request
@@ -86,7 +84,7 @@ module _ (c : Config) (w : Scene) (n : ℕ) (f : Answering) (s : Core) (e : Node
   apart p r g h x y i j =
       let z = new p r g x i in
       let me : t.views.me ≡ n = who_is (ended w n v t) (after []) n t (set_here w.cores n (Some t)) in
-      let le = lower p r h y (asked_here w n f s e v up rests after arises says (incs_of c w (reached c w k) n) (played_honest c w k) p r g x i ∙ me) z.2 j in
+      let le = lower p r h y (asked_here w n f s e v up rests after arises says (incs_of c w (ran_reached playing c w k) n) (fails_hold c w k) p r g x i ∙ me) z.2 j in
       let number = z.1 in
       omega (arith, le, number)
 
@@ -106,44 +104,16 @@ module _ (c : Config) (w : Scene) (n : ℕ) (f : Answering) (s : Core) (e : Node
 
 -- ---- every scene
 
-note_asks : (r : Happened) → IsNote r → Unasked r
-note_asks (happened.Refused m c fault) k = tt
-note_asks (happened.Shown m line) k = tt
-note_asks _ k = absurd k
+one_group : (c : Config) → PastLaw playing c (λ h. OneGroup (records_of h))
+one_group c =
+    record {
+      none = λ p r g h x y a b. absurd a;
+      outer = λ w e t o k. quiet_group e.records (records_of w.before) (λ r i. idle_asks r (o.idle r i)) k;
+      steps = λ w n f s e v r next up arises says k. step_group c w n f s e v r next up arises says k;
+    }
 
--- a node that starts asks for nothing
-started_asks : (c : Config) (n j : ℕ) (r : Happened) → Has r (started c n j).records → Unasked r
-unfolding started with_sessions ring_record
-started_asks c n j r (inl e) = subst Unasked (sym e) tt
-started_asks c n j r (inr i) =
-    ⊎_elim (λ (a : Has r (map (ring_record n) (own_rings c c.mode n j))). let z = has_map (ring_record n) r (own_rings c c.mode n j) a in subst Unasked (sym z.2) tt) (λ (a : Has r (happened.In n (first_view c c.mode n j) (first_members c c.mode n j) ∷ [])). last a) (has_append r (map (ring_record n) (own_rings c c.mode n j)) (happened.In n (first_view c c.mode n j) (first_members c c.mode n j) ∷ []) i)
-  where
-    last : Has r (happened.In n (first_view c c.mode n j) (first_members c c.mode n j) ∷ []) → Unasked r
-    last (inl e) = subst Unasked (sym e) tt
-    last (inr z) = absurd z
-
-too_group : (w : Scene) (n : ℕ) (o : Option Core) → OneGroup (records_of w.before) → OneGroup (records_of (starts_too w n o).before)
-too_group w n (Some s) k = k
-too_group w n None k =
-    let rs : List Happened = (started w.config n (w.incs n + 1)).records in
-    subst OneGroup (sym (with_is w.before rs)) (quiet_group (reverse rs) (records_of w.before) (λ r i. started_asks w.config n (w.incs n + 1) r (reverse_has r rs i)) k)
-
-fold_group : (ns : List ℕ) (w : Scene) → OneGroup (records_of w.before) → OneGroup (records_of (fold (λ (w : Scene) n. starts_too w n (w.cores n)) w ns).before)
-fold_group [] w k = k
-fold_group (n ∷ ns) w k = fold_group ns (starts_too w n (w.cores n)) (too_group w n (w.cores n) k)
+pub groups_are_one : (c : Config) (w : Scene) → Ran playing c w → OneGroup (records_of w.before)
+groups_are_one c w r = past_holds playing c (λ h. OneGroup (records_of h)) (one_group c) w r
 
 pub requests_have_one_group : RequestsHaveOneGroup
-requests_have_one_group c w k = by w k
-  where
-    by : (w : Scene) → Played c w → OneGroup (records_of w.before)
-    by _ Nothing = λ p r g h x y a b. absurd a
-    by _ (AllStart fixed) = fold_group (nodes_of c.nodes) (record (nothing_yet c) { before = record { event = None; records = [] } ∷ [] }) (λ p r g h x y a b. absurd a)
-    by _ (Starts w n e k free real down) =
-        quiet_group (reverse (started w.config n (w.incs n + 1)).records) (records_of w.before) (λ r i. started_asks w.config n (w.incs n + 1) r (reverse_has r (started w.config n (w.incs n + 1)).records i)) (by w k)
-    by _ (Stops w n e s k up) = quiet_group (happened.Down n ∷ []) (records_of w.before) down (by w k)
-      where
-        down : (r : Happened) → Has r (happened.Down n ∷ []) → Unasked r
-        down r (inl q) = subst Unasked (sym q) tt
-        down r (inr z) = absurd z
-    by _ (Steps w n f s e v k up arises says) = step_group c w n f s e v k up arises says (by w k)
-    by _ (Notes w e rs k notes) = quiet_group (reverse rs) (records_of w.before) (λ r i. note_asks r (notes r (reverse_has r rs i))) (by w k)
+requests_have_one_group c w k = groups_are_one c w (played_ran c w k)

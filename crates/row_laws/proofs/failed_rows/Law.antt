@@ -1,12 +1,11 @@
 -- Each scene that events lead to.
-use Rattle.std.proofs.Common.{◌≡◌, ◌⊎◌, ℕ, List, [], ◌∷◌, ◌++◌, Some, None, true, false, refl, sym, ap, ◌∙◌, subst, inl, inr}
-use Rattle.std.specs.Prelude.{◌&&◌, ◌||◌, fold, reverse, if◌then◌else◌}
+use Rattle.std.proofs.Common.{◌≡◌, ◌⊎◌, ℕ, ◌+◌, List, [], ◌∷◌, ◌++◌, Some, None, true, false, refl, sym, ap, ◌∙◌, subst, inl, inr}
+use Rattle.std.specs.Prelude.{◌&&◌, ◌||◌, reverse, if◌then◌else◌}
 use Rattle.std.specs.List.{list_any}
 use Rattle.std.proofs.lemmas.Bool.{eq-eqb}
 use Rattle.rsct_packet.specs.declared.ids.ProviderId.{ProviderId}
-use Rattle.rsct_packet.specs.Mask.{nodes_of}
 use Rattle.rsct_packet.specs.Search.{Has}
-use Rattle.rsct_packet.proofs.HasLaws.{has_append, append_has_left, has_filter}
+use Rattle.rsct_packet.proofs.HasLaws.{append_has_left, has_filter}
 use Rattle.proposal_core.specs.Lists.{state_in}
 use Rattle.session_state.specs.declared.state.Provider.{Provider}
 use Rattle.session_state.specs.State.{is_client_of, client_token}
@@ -18,7 +17,6 @@ use Rattle.node_state.specs.declared.happened.Happened.TheVariants as happened
 use Rattle.proposal_core.specs.declared.proposal.Proposal.{Proposal}
 use Rattle.node_state.specs.declared.packet.Body.{Body}
 use Rattle.node_state.specs.declared.packet.Body.TheVariants as body
-use Rattle.node_state.specs.declared.packet.Packet.{Packet}
 use Rattle.node_state.specs.declared.state.Core.{Core}
 use Rattle.node_state.specs.HandOn.{Answering}
 use Rattle.node_state.specs.Calls.{take_call}
@@ -27,37 +25,49 @@ use Rattle.world_model.specs.declared.event.Event.{Event}
 use Rattle.run_safety.specs.Past.{records_of, inc_now}
 use Rattle.run_safety.specs.Stays.{is_refused, asks_join, client_of, joining_client, goodbye_of, is_named}
 use Rattle.step_refinement.specs.Tied.{Scene, NodeIs, NodeIsIf, Rests}
-use Rattle.step_refinement.specs.Rules.{over, ended, nothing_yet, starts_too, Arises}
-use Rattle.step_refinement.specs.Runs.{IsNote, noted, Reached}
-use Rattle.step_refinement.specs.Runs as runs
-use Rattle.step_refinement.proofs.Changed.{each_set, set_here}
+use Rattle.step_refinement.specs.Rules.{over, ended, Arises}
+use Rattle.step_refinement.specs.Runs.{Reached}
+use Rattle.step_refinement.proofs.Changed.{set_here}
 use Rattle.step_refinement.proofs.Begins.{begin_tied}
 use Rattle.step_refinement.proofs.RunLaw.{reached_rests}
 use Rattle.step_refinement.proofs.Turns.{has_turned}
 use Rattle.row_laws.proofs.honest_votes.At.{found, leads_row}
 use Rattle.row_laws.proofs.honest_votes.Changes.{Every, NoGroup}
 use Rattle.row_laws.proofs.hearing.Incarnations.{incs_of}
-use Rattle.row_laws.proofs.hearing.Listening.{reverse_has}
+use Rattle.run_induction.proofs.Idle.{reverse_has}
+use Rattle.run_induction.proofs.Ran as runs
+use Rattle.run_induction.proofs.Ran.{Telling, Ran, ran_reached}
+use Rattle.run_induction.proofs.Laws.{IfUp, if_up, Holds, UpDone, UpLaw, ups_hold}
 use Rattle.row_laws.specs.failed_rows.Failures.{GoneCause, SaidGoodbye}
 use Rattle.row_laws.specs.failed_rows.Scenes.{Names, Played, Nothing, AllStart, Starts, Stops, Steps, Notes, FailuresAreHonest}
 use Rattle.row_laws.proofs.failed_rows.Fitting.{noted_fit}
-use Rattle.row_laws.proofs.failed_rows.Facts.{Of, stepped_of, BasesFit, BodyFails, Lives}
+use Rattle.row_laws.proofs.failed_rows.Facts.{stepped_elsewhere, BasesFit, BodyFails, Lives, unasked_join, none_asked}
 use Rattle.row_laws.proofs.failed_rows.Origin.{origin_of, root_of}
 use Rattle.row_laws.proofs.failed_rows.Owners.{Owned, owned_slim, goodbye_named}
 use Rattle.row_laws.proofs.failed_rows.Joining.{call_now}
 use Rattle.row_laws.proofs.failed_rows.At.{At}
 use Rattle.row_laws.proofs.failed_rows.Calling.{Taken, Ended}
 use Rattle.row_laws.proofs.failed_rows.Steps.{BodyGone, Calling, at_stepped}
-use Rattle.row_laws.proofs.failed_rows.Between.{tally_on, queue_on, goodbye_on, gone_on, body_gone_on, CoreFails, CoreIf, Honest, core_if_on, who_is}
-use Rattle.row_laws.proofs.failed_rows.Starting.{start_honest, stop_honest, note_honest, fold_fresh, fresh_honest}
+use Rattle.row_laws.proofs.failed_rows.Between.{fails, tally_on, queue_on, goodbye_on, gone_on, body_gone_on, CoreFails, core_on, who_is}
+use Rattle.row_laws.proofs.failed_rows.Starting.{idle_asks, idle_puts, new_unasked, started_fails}
+
+-- runs in which each call is noted as such
+abbrev pub playing : Telling
+playing = record { steps = Names; others = λ w v. Unit {0} }
+
+pub played_ran : (c : Config) (w : Scene) → Played c w → Ran playing c w
+played_ran c _ Nothing = runs.Nothing
+played_ran c _ (AllStart fixed) = runs.AllStart fixed
+played_ran c _ (Starts w n e k free real down) = runs.Starts w n e (played_ran c w k) free real down tt
+played_ran c _ (Stops w n e s k up) = runs.Stops w n e s (played_ran c w k) up tt
+played_ran c _ (Steps w n f s e v k up arises says) = runs.Steps w n f s e v (played_ran c w k) up arises says
+played_ran c _ (Notes w e rs k notes) = runs.Notes w e rs (played_ran c w k) notes tt
 
 pub reached : (c : Config) (w : Scene) → Played c w → Reached c w
-reached c _ Nothing = runs.Nothing
-reached c _ (AllStart fixed) = runs.AllStart fixed
-reached c _ (Starts w n e k free real down) = runs.Starts w n e (reached c w k) free real down
-reached c _ (Stops w n e s k up) = runs.Stops w n e s (reached c w k) up
-reached c _ (Steps w n f s e v k up arises says) = runs.Steps w n f s e v (reached c w k) up arises
-reached c _ (Notes w e rs k notes) = runs.Notes w e rs (reached c w k) notes
+reached c w k = ran_reached playing c w (played_ran c w k)
+
+pub rests_in : (c : Config) (w : Scene) → Ran playing c w → (g : List ℕ) → Rests g w
+rests_in c w r g = reached_rests c w (ran_reached playing c w r) g
 
 -- ---- a step
 
@@ -65,7 +75,7 @@ none_refused : (rs : List Happened) → ((r : Happened) → Has r rs → is_refu
 none_refused [] all = refl
 none_refused (r ∷ rs) all = ap (λ b. b || list_any is_refused rs) (all r (inl refl)) ∙ none_refused rs (λ q i. all q (inr i))
 
-module _ (w : Scene) (n : ℕ) (f : Answering) (s : Core) (e : NodeEvent) (v : Event) (up : w.cores n ≡ Some s) (rests : (g : List ℕ) → Rests g w) (after : (g : List ℕ) → Rests g (ended w n v (stepped f s e))) (arises : Arises w e) (says : Names n e v) (counts : inc_now n (records_of w.before) ≡ w.incs n) (k : Honest w) where
+module _ (w : Scene) (n : ℕ) (f : Answering) (s : Core) (e : NodeEvent) (v : Event) (up : w.cores n ≡ Some s) (rests : (g : List ℕ) → Rests g w) (after : (g : List ℕ) → Rests g (ended w n v (stepped f s e))) (arises : Arises w e) (says : Names n e v) (counts : inc_now n (records_of w.before) ≡ w.incs n) (k : Holds (if_up fails) w) where
   abbrev t : Core
   t = stepped f s e
 
@@ -77,7 +87,7 @@ module _ (w : Scene) (n : ℕ) (f : Answering) (s : Core) (e : NodeEvent) (v : E
   Said p = ((l : Leaves) × (p.node ≡ n) × (is_named l.0 (client_of p w.before) ≡ true)) ⊎ SaidGoodbye w.before p
 
   were : CoreFails w.before s
-  were = subst (CoreIf w.before) up (k.nodes n)
+  were = subst (IfUp (CoreFails w.before)) up (k.nodes n)
 
   is_node : NodeIsIf w.config (rests []).ghost [] n (w.incs n) (Some s)
   is_node = subst (NodeIsIf w.config (rests []).ghost [] n (w.incs n)) up ((rests []).nodes n)
@@ -204,18 +214,15 @@ module _ (w : Scene) (n : ℕ) (f : Answering) (s : Core) (e : NodeEvent) (v : E
   rooted (Calls c) says =
       subst (λ (z : Event). Owned (λ p. if list_any (asks_join p) (reverse (take_call (at_work s) c).records) then joining_client (Some z) else client_of p w.before) (take_call (at_work s) c).sessions) (sym (says c refl)) (call_now (λ p. client_of p w.before) c (at_work s) refl ((rests []).turns n s up).numbered were.owners)
 
-  step_honest : Honest (ended w n v t)
-  step_honest =
+  step_fails : UpDone fails w n v t
+  step_fails =
       record {
-        sent = λ p i. by p (has_append p t.sends w.sent i);
-        nodes = each_set (λ m o. CoreIf (over v t ∷ w.before) o) w.cores n (Some t) own (λ m ne. core_if_on n m (over v t) w.before (w.cores m) (who_is w (rests []) m) ne (λ r i. subst (λ z. Of z r) me (stepped_of t.views.me r (at.whose r (reverse_has r t.records i)))) (k.nodes m));
-        puts = (at.puts tt fit, k.puts);
+        sends = λ p i. sent_gone p.body (at.sends p i);
+        node = own;
+        others = λ m ne d is b. core_on m (over v t) w.before d (who_is w (rests []) m d is) (λ r i. stepped_elsewhere t.views.me m r (λ q. ne (sym q ∙ me)) (at.whose r (reverse_has r t.records i))) b;
+        lines = (at.puts tt fit, k.lines);
       }
     where
-      by : (p : Packet) → Has p t.sends ⊎ Has p w.sent → BodyGone (over v t ∷ w.before) p.body
-      by p (inl i) = sent_gone p.body (at.sends p i)
-      by p (inr i) = body_gone_on (over v t) w.before p.body (k.sent p i)
-
       here : NodeIs (after []).ghost [] n t
       here = (subst (NodeIsIf w.config (after []).ghost [] n (w.incs n)) (set_here w.cores n (Some t)) ((after []).nodes n)).0
 
@@ -237,15 +244,19 @@ module _ (w : Scene) (n : ℕ) (f : Answering) (s : Core) (e : NodeEvent) (v : E
 
 -- ---- every scene
 
-pub played_honest : (c : Config) (w : Scene) → Played c w → Honest w
-played_honest c _ Nothing = record { sent = λ p i. absurd i; nodes = λ m. tt; puts = tt }
-played_honest c _ (AllStart fixed) =
-    fresh_honest (fold (λ (w : Scene) n. starts_too w n (w.cores n)) (record (nothing_yet c) { before = record { event = None; records = [] } ∷ [] }) (nodes_of c.nodes)) (fold_fresh (nodes_of c.nodes) (record (nothing_yet c) { before = record { event = None; records = [] } ∷ [] }) (record { sent = refl; nodes = λ m. tt; puts = (tt, tt); unasked = λ p. refl }))
-played_honest c _ (Starts w n e k free real down) = start_honest w n e (λ g. reached_rests c w (reached c w k) g) down (played_honest c w k)
-played_honest c _ (Stops w n e s k up) = stop_honest w n e (reached_rests c w (reached c w k) []) (played_honest c w k)
-played_honest c _ (Steps w n f s e v k up arises says) =
-    step_honest w n f s e v up (λ g. reached_rests c w (reached c w k) g) (λ g. reached_rests c (ended w n v (stepped f s e)) (reached c (ended w n v (stepped f s e)) (Steps w n f s e v k up arises says)) g) arises says (incs_of c w (reached c w k) n) (played_honest c w k)
-played_honest c _ (Notes w e rs k notes) = note_honest w e rs (reached_rests c w (reached c w k) []) notes (played_honest c w k)
+pub failing : (c : Config) → UpLaw playing c fails
+failing c =
+    record {
+      none = tt;
+      sent_on = λ e h x k. body_gone_on e h x.body k;
+      stays = λ w e t o m s up all k. core_on m e w.before s (who_is w (rests_in c w o.from []) m s up) all k;
+      comes = λ w e t o m came down. started_fails c m (w.incs m + 1) e w.before came (λ p node inc. none_asked p e.records (records_of w.before) (λ r i. unasked_join r (idle_asks r (o.idle r i)) p) ∙ new_unasked w (rests_in c w o.from) m down p node inc);
+      lines_on = λ w e t o k. (idle_puts e.records w.before o.idle, k);
+      steps = λ w n f s e v r next up arises says h k. step_fails w n f s e v up (rests_in c w r) (rests_in c (ended w n v (stepped f s e)) next) arises says (incs_of c w (ran_reached playing c w r) n) h;
+    }
+
+pub fails_hold : (c : Config) (w : Scene) → Ran playing c w → Holds (if_up fails) w
+fails_hold c w r = ups_hold playing c fails (failing c) w r
 
 pub failures_are_honest : FailuresAreHonest
-failures_are_honest c w k = (played_honest c w k).puts
+failures_are_honest c w k = (fails_hold c w (played_ran c w k)).lines

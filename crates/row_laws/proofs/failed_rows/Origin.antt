@@ -14,7 +14,7 @@ use Rattle.node_state.specs.declared.state.Core.{Core}
 use Rattle.node_state.specs.Calls.{take_call}
 use Rattle.node_state.specs.Step.{NodeEvent, Ticks, Asks, Given, Calls, Garbage}
 use Rattle.run_safety.specs.Stays.{asks_join}
-use Rattle.row_laws.proofs.hearing.Listening.{reverse_has}
+use Rattle.run_induction.proofs.Idle.{reverse_has}
 use Rattle.row_laws.proofs.failed_rows.Living.{Slimmer, slim_same, slim_then}
 use Rattle.row_laws.proofs.failed_rows.Facts.{Unasked, unasked_join, none_asked}
 

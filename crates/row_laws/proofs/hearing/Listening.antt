@@ -1,15 +1,9 @@
 -- In every scene that events lead to, providers hear in a row.
-use Rattle.std.proofs.Common.{◌≡◌, ◌≢◌, ◌≤◌, ◌<◌, ℕ, ◌+◌, List, [], ◌∷◌, ◌++◌, Option, Some, None, refl, sym, ap, ◌∙◌, subst, inl, inr, ⊎_elim, append_assoc, arith}
-use Rattle.std.specs.Prelude.{reverse, map, fold, find}
-use Rattle.std.proofs.lemmas.List.{append-nil, reverse-append}
-use Rattle.std.proofs.lemmas.Bool.{cases_eq}
+use Rattle.std.proofs.Common.{◌≡◌, ◌≤◌, ◌<◌, ℕ, ◌+◌, List, [], ◌∷◌, ◌++◌, Option, Some, None, refl, sym, ap, ◌∙◌, subst, inl, inr, arith}
+use Rattle.std.specs.Prelude.{find}
 use Rattle.rsct_packet.specs.declared.ids.ViewId.{ViewId}
 use Rattle.rsct_packet.specs.declared.ids.ProviderId.{ProviderId}
-use Rattle.rsct_packet.specs.declared.ids.Member.{Member}
-use Rattle.rsct_packet.specs.Mask.{nodes_of}
 use Rattle.rsct_packet.specs.Search.{Has}
-use Rattle.rsct_packet.proofs.HasLaws.{has_append, has_map}
-use Rattle.adapter_ring.specs.declared.ring.Ring.{Ring}
 use Rattle.session_state.specs.State.{is_provider, provider_of}
 use Rattle.session_state.specs.declared.state.Provider.{Provider}
 use Rattle.view_state.specs.Views.{views_new}
@@ -21,16 +15,18 @@ use Rattle.node_state.specs.declared.state.Core.{Core}
 use Rattle.node_state.specs.State.{row_of, list_of, len_of, state_of, with_sessions}
 use Rattle.node_state.specs.HandOn.{Answering}
 use Rattle.node_state.specs.Applying.{level_set}
-use Rattle.node_state.specs.Step.{NodeEvent, at_work, stepped, started, ring_record, own_rings, first_view, first_members}
+use Rattle.node_state.specs.Step.{NodeEvent, at_work, stepped, started, first_view, first_members}
 use Rattle.world_model.specs.declared.event.Event.{Event}
 use Rattle.world_model.specs.Run.{Happening}
-use Rattle.run_safety.specs.Past.{History, Within, records_of}
+use Rattle.run_safety.specs.Past.{History, records_of}
 use Rattle.step_refinement.specs.Tied.{Scene}
-use Rattle.step_refinement.specs.Rules.{at_node, starts_too, with_records, nothing_yet}
-use Rattle.step_refinement.specs.Runs.{IsNote, Reached, Nothing, AllStart, Starts, Stops, Steps, Notes}
-use Rattle.step_refinement.proofs.Changed.{set_here, set_there, each_set}
+use Rattle.step_refinement.specs.Rules.{over}
+use Rattle.step_refinement.specs.Runs.{Reached}
 use Rattle.step_refinement.proofs.Begins.{idle_start}
 use Rattle.step_refinement.proofs.RunLaw.{reached_rests}
+use Rattle.run_induction.proofs.Idle.{Idle, AllIdle, within_idle}
+use Rattle.run_induction.proofs.Ran.{anyhow, ran_reached, reached_ran}
+use Rattle.run_induction.proofs.Laws.{IfUp, if_up_on, Claim, Holds, Done, Law, ran_holds}
 use Rattle.row_laws.specs.hearing.Hearing.{last_heard, next_place, TakersHearAll, AtPut, HeardInARow, ProvidersHearInARow}
 use Rattle.row_laws.specs.hearing.Changes.{Aside, StepsAreChanges}
 use Rattle.row_laws.proofs.hearing.Rules.{OneOwner}
@@ -38,23 +34,11 @@ use Rattle.row_laws.proofs.hearing.Viewing.{Fit, Makes, once_does, step_comes}
 use Rattle.row_laws.proofs.hearing.Attending.{Before, Attending, aside_law, aside_last}
 use Rattle.row_laws.proofs.hearing.Doing.{Hearing, hearing_does}
 
--- ---- records of neither kind
-
-pub within_asides : (rs now : List Happened) (before : History) → ((r : Happened) → Has r rs → Aside r) → Within AtPut now before → Within AtPut (rs ++ now) before
-within_asides [] now before aside k = k
-within_asides (r ∷ rs) now before aside k = (aside_law (rs ++ now) before r (aside r (inl refl)), within_asides rs now before (λ q i. aside q (inr i)) k)
+-- ---- records of nothing put or heard
 
 last_asides : (p : ProviderId) (u : ViewId) (g : List ℕ) (rs xs : List Happened) → ((r : Happened) → Has r rs → Aside r) → last_heard p u g (rs ++ xs) ≡ last_heard p u g xs
 last_asides p u g [] xs aside = refl
 last_asides p u g (r ∷ rs) xs aside = aside_last p u g r (aside r (inl refl)) (rs ++ xs) ∙ last_asides p u g rs xs (λ q i. aside q (inr i))
-
-pub reverse_has : (r : Happened) (xs : List Happened) → Has r (reverse xs) → Has r xs
-reverse_has r [] h = h
-reverse_has r (x ∷ xs) h = ⊎_elim (λ (a : Has r (reverse xs)). inr (reverse_has r xs a)) (λ (a : Has r (x ∷ [])). last a) (has_append r (reverse xs) (x ∷ []) (subst (Has r) (reverse-append (x ∷ []) xs) h))
-  where
-    last : Has r (x ∷ []) → Has r (x ∷ xs)
-    last (inl e) = inl e
-    last (inr z) = absurd z
 
 -- ---- between events
 
@@ -123,147 +107,66 @@ rested_start c n j before old =
         none : None ≡ Some x → ⊥
         none e = cc
 
--- what is recorded at a start: that the node is up, its rings, and its view
-pub start_each : (P : Happened → Type 0) → ((n j : ℕ) → P (happened.Up n j)) → ((n : ℕ) (x : Ring) → P (ring_record n x)) → ((n : ℕ) (v : ViewId) (ms : List Member) → P (happened.In n v ms)) → (c : Config) (n j : ℕ) (r : Happened) → Has r (started c n j).records → P r
-unfolding started with_sessions
-start_each P up ring enters c n j r (inl e) = subst P (sym e) (up n j)
-start_each P up ring enters c n j r (inr h) =
-    ⊎_elim (λ (a : Has r (map (ring_record n) (own_rings c c.mode n j))). let q = has_map (ring_record n) r (own_rings c c.mode n j) a in subst P (sym q.2) (ring n q.0)) (λ (a : Has r (happened.In n (first_view c c.mode n j) (first_members c c.mode n j) ∷ [])). last a) (has_append r (map (ring_record n) (own_rings c c.mode n j)) (happened.In n (first_view c c.mode n j) (first_members c c.mode n j) ∷ []) h)
-  where
-    last : Has r (happened.In n (first_view c c.mode n j) (first_members c c.mode n j) ∷ []) → P r
-    last (inl e) = subst P (sym e) (enters n (first_view c c.mode n j) (first_members c c.mode n j))
-    last (inr z) = absurd z
+-- ---- every scene
 
-pub start_asides : (c : Config) (n j : ℕ) (r : Happened) → Has r (started c n j).records → Aside r
-unfolding ring_record
-start_asides c n j r h = start_each Aside (λ n j. tt) (λ n x. tt) (λ n v ms. tt) c n j r h
+pub idle_aside : (r : Happened) → Idle r → Aside r
+idle_aside (happened.Put n v g i e) a = a
+idle_aside (happened.Heard p v g i e ms value) a = a
+idle_aside _ a = tt
 
--- ---- the events
+-- what was heard at node m is of incarnations up to this one
+abbrev Began : ℕ → ℕ → List Happened → Type 0
+Began m inc rs = (p : ProviderId) (u : ViewId) (g : List ℕ) (j : ℕ) → p.node ≡ m → last_heard p u g rs ≡ Some j → p.inc ≤ inc
 
-listens_starts : (c : Config) (cores : ℕ → Option Core) (incs : ℕ → ℕ) (before after : History) (n : ℕ) → ((p : ProviderId) (u : ViewId) (g : List ℕ) → last_heard p u g (records_of after) ≡ last_heard p u g (records_of before)) → HeardInARow after → Listens cores incs before → Listens (at_node cores n (Some (started c n (incs n + 1)))) (at_node incs n (incs n + 1)) after
-listens_starts c cores incs before after n same law k =
-    record {
-      law = law;
-      began = λ p u g j q. more p (k.began p u g j (sym (same p u g) ∙ q));
-      up = λ m. each_set (λ m o. (d : Core) → o ≡ Some d → Rested (at_node incs n (incs n + 1) m) after m d) cores n (Some (started c n (incs n + 1))) new old m;
-    }
-  where
-    more : (p : ProviderId) → p.inc ≤ incs p.node → p.inc ≤ at_node incs n (incs n + 1) p.node
-    more p le =
-        ⊎_elim (λ (e : p.node ≡ n). subst (λ z. p.inc ≤ z) (sym (ap (at_node incs n (incs n + 1)) e ∙ set_here incs n (incs n + 1))) (let l : p.inc ≤ incs n = subst (λ z. p.inc ≤ incs z) e le in omega arith)) (λ (ne : p.node ≢ n). subst (λ z. p.inc ≤ z) (sym (set_there incs n (incs n + 1) p.node ne)) le) (cases_eq p.node n)
+abbrev listening : Claim
+listening = record { sent = λ h x. Unit {0}; node = λ m inc ps h o. Began m inc (records_of h) × IfUp (Rested inc h m) o; lines = HeardInARow }
 
-    new : (d : Core) → Some (started c n (incs n + 1)) ≡ Some d → Rested (at_node incs n (incs n + 1) n) after n d
-    new d q =
-        let e : started c n (incs n + 1) ≡ d = cc in
-        subst (λ z. Rested (at_node incs n (incs n + 1) n) after n z) e (subst (λ z. Rested z after n (started c n (incs n + 1))) (sym (set_here incs n (incs n + 1))) (rested_start c n (incs n + 1) after (λ p u g i m z. let l : p.inc ≤ incs n = subst (λ b. p.inc ≤ incs b) m (k.began p u g i (sym (same p u g) ∙ z)) in omega arith)))
-
-    old : (m : ℕ) → m ≢ n → (d : Core) → cores m ≡ Some d → Rested (at_node incs n (incs n + 1) m) after m d
-    old m ne d q =
-        subst (λ z. Rested z after m d) (sym (set_there incs n (incs n + 1) m ne)) (rested_on (incs m) before after m d (λ p u g z. same p u g) (k.up m d q))
-
--- an event with no more than such records, by which no node comes up
-listens_asides : (cores cores' : ℕ → Option Core) (incs : ℕ → ℕ) (before : History) (e : Option Event) (rs : List Happened) → ((r : Happened) → Has r rs → Aside r) → ((m : ℕ) (c : Core) → cores' m ≡ Some c → cores m ≡ Some c) → Listens cores incs before → Listens cores' incs (record { event = e; records = rs } ∷ before)
-listens_asides cores cores' incs before e rs aside fewer k =
-    record {
-      law = (subst (λ z. Within AtPut z before) (append-nil rs) (within_asides rs [] before aside tt), k.law);
-      began = λ p u g j q. k.began p u g j (sym (last_asides p u g rs (records_of before) aside) ∙ q);
-      up = λ m c q. rested_on (incs m) before (record { event = e; records = rs } ∷ before) m c (λ p u g z. last_asides p u g rs (records_of before) aside) (k.up m c (fewer m c q));
-    }
+heard_before : (e : Happening) (h : History) → AllIdle e.records → (p : ProviderId) (u : ViewId) (g : List ℕ) → last_heard p u g (e.records ++ records_of h) ≡ last_heard p u g (records_of h)
+heard_before e h idle p u g = last_asides p u g e.records (records_of h) (λ r i. idle_aside r (idle r i))
 
 -- a node takes a step
-listens_steps : (cores : ℕ → Option Core) (incs : ℕ → ℕ) (before : History) (n : ℕ) (f : Answering) (s : Core) (e : NodeEvent) (v : Option Event) → cores n ≡ Some s → OneOwner s.sessions → Listens cores incs before → Listens (at_node cores n (Some (stepped f s e))) incs (record { event = v; records = reverse (stepped f s e).records } ∷ before)
+step_done : (w : Scene) (n : ℕ) (f : Answering) (s : Core) (e : NodeEvent) (v : Event) → OneOwner s.sessions → Rested (w.incs n) w.before n s → HeardInARow w.before → Done listening w n v (stepped f s e)
 unfolding len_of state_of list_of row_of
-listens_steps cores incs before n f s e v is owner k =
+step_done w n f s e v owner rested law =
     record {
-      law = (h.at.law, k.law);
-      began = λ p u g j q. ⊎_elim (λ (a : p.node ≡ n). subst (λ z. p.inc ≤ incs z) (sym a) (h.at.began p u g j a q)) (λ (ne : p.node ≢ n). k.began p u g j (sym (h.at.others p u g ne) ∙ q)) (cases_eq p.node n);
-      up = λ m. each_set (λ m o. (d : Core) → o ≡ Some d → Rested (incs m) (event ∷ before) m d) cores n (Some t) new old m;
+      sends = λ x i. tt;
+      node = (λ p u g j a q. h.at.began p u g j a q, record { fit = makes.fit; me = h.me; inc_of = h.inc_of; at = record { me = h.at.me; inc_is = h.at.inc_is; law = tt; others = λ p u g ne. refl; began = h.at.began; own = h.at.own; here = h.at.here; heard = h.at.heard; upto = h.at.upto } });
+      others = λ m ne k. (λ p u g j a q. k.0 p u g j a (sym (h.at.others p u g (λ z. ne (sym a ∙ z))) ∙ q), if_up_on (Rested (w.incs m) w.before m) (Rested (w.incs m) (over v t ∷ w.before) m) (w.cores m) (λ d up a. rested_on (w.incs m) w.before (over v t ∷ w.before) m d (λ p u g z. h.at.others p u g (λ y. ne (sym z ∙ y))) a) k.1);
+      lines = (h.at.law, law);
     }
   where
     t : Core
     t = stepped f s e
 
-    event : Happening
-    event = record { event = v; records = reverse (stepped f s e).records }
-
-    rested : Rested (incs n) before n s
-    rested = k.up n s is
-
     makes : Makes (at_work s) t
     makes = step_comes f s e owner rested.fit
 
-    h : Hearing n (incs n) before t
-    h = hearing_does n (incs n) before (at_work s) t (once_does (at_work s) t makes.once) (record { me = rested.me; inc_of = rested.inc_of; at = rested.at })
+    h : Hearing n (w.incs n) w.before t
+    h = hearing_does n (w.incs n) w.before (at_work s) t (once_does (at_work s) t makes.once) (record { me = rested.me; inc_of = rested.inc_of; at = rested.at })
 
-    new : (d : Core) → Some t ≡ Some d → Rested (incs n) (event ∷ before) n d
-    new d q =
-        let z : t ≡ d = cc in
-        subst (λ c. Rested (incs n) (event ∷ before) n c) z (record { fit = makes.fit; me = h.me; inc_of = h.inc_of; at = record { me = h.at.me; inc_is = h.at.inc_is; law = tt; others = λ p u g ne. refl; began = h.at.began; own = h.at.own; here = h.at.here; heard = h.at.heard; upto = h.at.upto } })
+listens : (c : Config) → Law anyhow c listening
+listens c =
+    record {
+      waits = λ m. (λ p u g j a q. absurd (cc), tt);
+      none = tt;
+      sent_on = λ e h x k. tt;
+      stays = λ w e t o m all k. (λ p u g j a q. k.0 p u g j a (sym (heard_before e w.before o.idle p u g) ∙ q), if_up_on (Rested (w.incs m) w.before m) (Rested (w.incs m) (e ∷ w.before) m) (w.cores m) (λ d up a. rested_on (w.incs m) w.before (e ∷ w.before) m d (λ p u g z. heard_before e w.before o.idle p u g) a) k.1);
+      comes = λ w e t o m came down k. (λ p u g j a q. (let z = k.0 p u g j a (sym (heard_before e w.before o.idle p u g) ∙ q) in omega arith), rested_start c m (w.incs m + 1) (e ∷ w.before) (λ p u g j a q. (let z = k.0 p u g j a (sym (heard_before e w.before o.idle p u g) ∙ q) in omega arith)));
+      goes = λ w e t o m s down up k. (λ p u g j a q. k.0 p u g j a (sym (heard_before e w.before o.idle p u g) ∙ q), tt);
+      lines_on = λ w e t o k. (within_idle AtPut (λ r now h idle. aside_law now h r (idle_aside r idle)) e.records w.before o.idle, k);
+      steps = λ w n f s e v r next up arises told k. step_done w n f s e v ((reached_rests c w (ran_reached anyhow c w r) []).turns n s up).owner (subst (IfUp (Rested (w.incs n) w.before n)) up (k.nodes n).1) k.lines;
+    }
 
-    old : (m : ℕ) → m ≢ n → (d : Core) → cores m ≡ Some d → Rested (incs m) (event ∷ before) m d
-    old m ne d q = rested_on (incs m) before (event ∷ before) m d (λ p u g z. h.at.others p u g (λ a. ne (sym z ∙ a))) (k.up m d q)
-
--- ---- every scene
-
-abbrev pub Attentive : Scene → Type 0
-Attentive w = Listens w.cores w.incs w.before
-
-with_law : (before : History) (rs : List Happened) → ((r : Happened) → Has r rs → Aside r) → HeardInARow before → HeardInARow (with_records before rs)
-with_law [] rs aside k = (subst (λ z. Within AtPut z []) (append-nil (reverse rs)) (within_asides (reverse rs) [] [] (λ r h. aside r (reverse_has r rs h)) tt), tt)
-with_law (h ∷ before) rs aside k = (within_asides (reverse rs) h.records before (λ r i. aside r (reverse_has r rs i)) k.0, k.1)
-
-with_last : (p : ProviderId) (u : ViewId) (g : List ℕ) (before : History) (rs : List Happened) → ((r : Happened) → Has r rs → Aside r) → last_heard p u g (records_of (with_records before rs)) ≡ last_heard p u g (records_of before)
-with_last p u g [] rs aside = last_asides p u g (reverse rs) [] (λ r h. aside r (reverse_has r rs h))
-with_last p u g (h ∷ before) rs aside =
-    ap (last_heard p u g) (append_assoc (reverse rs) h.records (records_of before)) ∙ last_asides p u g (reverse rs) (h.records ++ records_of before) (λ r i. aside r (reverse_has r rs i))
-
-nothing_attends : (c : Config) → Attentive (nothing_yet c)
-nothing_attends c = record { law = tt; began = λ p u g j q. absurd (cc); up = λ m d q. absurd (cc) }
-
-start_attends : (ns : List ℕ) (w : Scene) → Attentive w → Attentive (fold (λ (w : Scene) n. starts_too w n (w.cores n)) w ns)
-start_attends [] w k = k
-start_attends (n ∷ ns) w k = start_attends ns (starts_too w n (w.cores n)) (by (w.cores n))
+pub reached_attends : (c : Config) (w : Scene) → Reached c w → Listens w.cores w.incs w.before
+reached_attends c w k =
+    record {
+      law = now.lines;
+      began = λ p u g j q. (now.nodes p.node).0 p u g j refl q;
+      up = λ m d up. subst (IfUp (Rested (w.incs m) w.before m)) up (now.nodes m).1;
+    }
   where
-    by : (o : Option Core) → Attentive (starts_too w n o)
-    by (Some s) = k
-    by None =
-        let rs : List Happened = (started w.config n (w.incs n + 1)).records in
-        listens_starts w.config w.cores w.incs w.before (with_records w.before rs) n (λ p u g. with_last p u g w.before rs (start_asides w.config n (w.incs n + 1))) (with_law w.before rs (start_asides w.config n (w.incs n + 1)) k.law) k
-
-pub note_aside : (r : Happened) → IsNote r → Aside r
-note_aside (happened.Up n j) a = tt
-note_aside (happened.Down n) a = tt
-note_aside (happened.Ring n k i ms m) a = tt
-note_aside (happened.In n v ms) a = tt
-note_aside (happened.Base n v g u len s) a = tt
-note_aside (happened.Put n v g i e) a = a
-note_aside (happened.Heard p v g i e ms value) a = a
-note_aside (happened.Cast p proto phase vote value message) a = tt
-note_aside (happened.Asked p r g x) a = tt
-note_aside (happened.Told p r why) a = tt
-note_aside (happened.Noted n c v i told) a = tt
-note_aside (happened.Refused n c fault) a = tt
-note_aside (happened.Shown n line) a = tt
-
-pub reached_attends : (c : Config) (w : Scene) → Reached c w → Attentive w
-reached_attends c _ Nothing = nothing_attends c
-reached_attends c _ (AllStart fixed) =
-    start_attends (nodes_of c.nodes) (record (nothing_yet c) { before = record { event = None; records = [] } ∷ [] }) (record { law = (tt, tt); began = λ p u g j q. absurd (cc); up = λ m d q. absurd (cc) })
-reached_attends c _ (Starts w n e k free real down) =
-    let rs : List Happened = (started w.config n (w.incs n + 1)).records in
-    let old = reached_attends c w k in
-    let aside : (r : Happened) → Has r (reverse rs) → Aside r = λ r h. start_asides w.config n (w.incs n + 1) r (reverse_has r rs h) in
-    listens_starts w.config w.cores w.incs w.before (record { event = Some e; records = reverse rs } ∷ w.before) n (λ p u g. last_asides p u g (reverse rs) (records_of w.before) aside) (subst (λ z. Within AtPut z w.before) (append-nil (reverse rs)) (within_asides (reverse rs) [] w.before aside tt), old.law) old
-reached_attends c _ (Stops w n e s k up) =
-    listens_asides w.cores (at_node w.cores n None) w.incs w.before (Some e) (happened.Down n ∷ []) one (each_set (λ m o. (d : Core) → o ≡ Some d → w.cores m ≡ Some d) w.cores n None (λ d q. absurd (cc)) (λ m ne d q. q)) (reached_attends c w k)
-  where
-    one : (r : Happened) → Has r (happened.Down n ∷ []) → Aside r
-    one r (inl q) = subst Aside (sym q) tt
-    one r (inr z) = absurd z
-reached_attends c _ (Steps w n f s e v k up arises) =
-    listens_steps w.cores w.incs w.before n f s e (Some v) up ((reached_rests c w k []).turns n s up).owner (reached_attends c w k)
-reached_attends c _ (Notes w e rs k notes) =
-    listens_asides w.cores w.cores w.incs w.before (Some e) (reverse rs) (λ r h. note_aside r (notes r (reverse_has r rs h))) (λ m d q. q) (reached_attends c w k)
+    now : Holds listening w
+    now = ran_holds anyhow c listening (listens c) w (reached_ran c w k)
 
 pub providers_hear : ProvidersHearInARow
 providers_hear c w k = (reached_attends c w k).law

@@ -40,7 +40,7 @@ use Rattle.provider_laws.proofs.attending.Fresh.{fresh_now}
 use Rattle.provider_laws.proofs.attending.Law.{begin_strict, step_fine}
 use Rattle.row_laws.proofs.hearing.Incarnations.{incs_of}
 use Rattle.provider_laws.proofs.attending.Living.{lively_now, failed_now}
-use Rattle.provider_laws.proofs.attending.OrderLaw.{reached_orderly}
+use Rattle.provider_laws.proofs.attending.OrderLaw.{node_placed}
 use Rattle.provider_laws.proofs.attending.Ordering.{Ordered, Fresh, Lively, ordered_does, entering_recorded, base_recorded_at}
 use Rattle.run_laws.specs.failed_causes.Passed.{ElsewhereFails, BasesFromElsewhereFail}
 use Rattle.run_laws.proofs.failed_causes.Bases.{view_self}
@@ -155,7 +155,7 @@ module _ (c : Config) (w : Scene) (n : ℕ) (f : Answering) (s : Core) (e : Node
   begin =
       record {
         strict = begin_strict c w n s k up (incs_of c w k n);
-        place = ((reached_orderly c w k).up n s up).0;
+        place = (node_placed c w k n s up).0;
         law = tt;
         others = λ m g ne. refl;
         counts = λ p u g ne. refl;

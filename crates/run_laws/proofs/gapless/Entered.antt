@@ -44,14 +44,14 @@ use Rattle.step_refinement.proofs.Turns.{has_turned}
 use Rattle.row_laws.specs.hearing.Changes.{Inner, Does, entering}
 use Rattle.row_laws.proofs.hearing.Attending.{pushed_reverse}
 use Rattle.row_laws.proofs.hearing.Handing.{among_is}
-use Rattle.row_laws.proofs.hearing.Listening.{reverse_has}
+use Rattle.run_induction.proofs.Idle.{reverse_has}
 use Rattle.row_laws.proofs.hearing.Doing.{present_row, rows_stay}
 use Rattle.row_laws.proofs.failed_rows.Living.{IsLive}
 use Rattle.row_laws.proofs.hearing.Added.{Adds, sides_add, enters_add}
 use Rattle.provider_laws.proofs.attending.Law.{begin_strict, step_fine}
 use Rattle.row_laws.proofs.hearing.Incarnations.{incs_of}
 use Rattle.provider_laws.proofs.attending.Ordering.{view_same, Ordered, entering_recorded, base_recorded_at, ordered_does}
-use Rattle.provider_laws.proofs.attending.OrderLaw.{reached_orderly}
+use Rattle.provider_laws.proofs.attending.OrderLaw.{node_placed}
 use Rattle.provider_laws.proofs.attending.Entering.{named_has, base_is, new_stay, entered_stays}
 use Rattle.provider_laws.proofs.attending.Fresh.{fresh_now}
 use Rattle.provider_laws.proofs.attending.Living.{lively_now, failed_now}
@@ -126,7 +126,7 @@ module _ (c : Config) (w : Scene) (n : ℕ) (f : Answering) (s : Core) (e : Node
   o =
       ordered_does n (w.incs n) w.before s.views.view s.sessions.last_request (at_work s) t does d.records before_it (step_fine c w n s reached up f e v arises) (lively_now c w n f s e v reached up arises) (fresh_now c w reached n s up) (record {
         strict = begin_strict c w n s reached up (incs_of c w reached n);
-        place = ((reached_orderly c w reached).up n s up).0;
+        place = (node_placed c w reached n s up).0;
         law = tt;
         others = λ m g ne. refl;
         counts = λ p u g ne. refl;

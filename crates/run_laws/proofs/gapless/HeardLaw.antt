@@ -2,7 +2,6 @@
 use Rattle.std.proofs.Common.{◌≡◌, ◌⊎◌, ℕ, ◌+◌, List, [], ◌∷◌, ◌++◌, Some, None, false, refl, sym, ◌∙◌, subst, inl, inr, append_assoc}
 use Rattle.std.specs.Prelude.{reverse, IsTrue}
 use Rattle.rsct_packet.specs.declared.ids.ProviderId.{ProviderId}
-use Rattle.rsct_packet.specs.Mask.{nodes_of}
 use Rattle.rsct_packet.specs.Search.{Has}
 use Rattle.rsct_packet.proofs.HasLaws.{append_has_right}
 use Rattle.node_state.specs.declared.config.Config.{Config}
@@ -10,49 +9,35 @@ use Rattle.node_state.specs.declared.happened.Happened.{Happened}
 use Rattle.node_state.specs.declared.happened.Happened.TheVariants as happened
 use Rattle.node_state.specs.declared.state.Core.{Core}
 use Rattle.node_state.specs.HandOn.{Answering}
-use Rattle.node_state.specs.Step.{NodeEvent, at_work, started, stepped}
+use Rattle.node_state.specs.Step.{NodeEvent, at_work, stepped}
 use Rattle.world_model.specs.declared.event.Event.{Event}
 use Rattle.world_model.specs.Run.{Happening}
 use Rattle.run_safety.specs.Past.{History, Within, earlier}
 use Rattle.run_safety.specs.Stays.{stays, part, takes_part, was_let_go}
 use Rattle.step_refinement.specs.Tied.{Scene}
-use Rattle.step_refinement.specs.Rules.{over, nothing_yet, Arises}
+use Rattle.step_refinement.specs.Rules.{over, Arises}
 use Rattle.step_refinement.specs.Runs.{Reached}
-use Rattle.row_laws.proofs.hearing.Listening.{reverse_has}
+use Rattle.run_induction.proofs.Idle.{Idle, reverse_has, within_idle}
+use Rattle.run_induction.proofs.Laws.{PastLaw, past_holds}
 use Rattle.row_laws.specs.failed_rows.Scenes.{Names}
 use Rattle.row_laws.proofs.failed_rows.Origin.{root_of}
-use Rattle.provider_laws.specs.leaving.Scenes.{IsCall, Nothing, AllStart, Starts, Stops, Steps, Notes}
+use Rattle.provider_laws.specs.leaving.Scenes.{IsCall}
 use Rattle.provider_laws.proofs.leaving.Keeping.{Clean}
-use Rattle.provider_laws.proofs.leaving.Law.{reached, clean}
+use Rattle.provider_laws.proofs.leaving.Law.{recounting, recounted_ran, reached, clean}
 use Rattle.run_laws.specs.gapless.Takers.{Dissolving}
 use Rattle.run_laws.proofs.gapless.Standing.{Heard_at, Law}
 use Rattle.run_laws.proofs.gapless.Adding.{Walked}
 use Rattle.run_laws.proofs.gapless.Resting.{Rested}
 use Rattle.run_laws.proofs.gapless.Stepping as stepping
-use Rattle.run_laws.proofs.gapless.TakerLaw.{Calm, start_calm, note_calm, fold_begins, rested}
+use Rattle.run_laws.proofs.gapless.TakerLaw.{rested}
 use Rattle.run_laws.specs.gapless.Heard.{leaves, AllHearUnlessLeaving, EachIsHeard, EachPutIsHeard}
 use Rattle.run_laws.proofs.gapless.Told.{never}
 
 -- ---- records of no step
 
-calm_heard : (x : Happening) (now : List Happened) (h : History) (r : Happened) → Calm r → AllHearUnlessLeaving x now h r
-calm_heard x now h (happened.Up n j) a = tt
-calm_heard x now h (happened.Down n) a = tt
-calm_heard x now h (happened.Ring n k i ms o) a = tt
-calm_heard x now h (happened.In n v ms) a = tt
-calm_heard x now h (happened.Base n v g u len s) a = tt
-calm_heard x now h (happened.Put n v g i e) a = absurd a
-calm_heard x now h (happened.Heard p v g i e ms value) a = tt
-calm_heard x now h (happened.Cast p proto phase vote value message) a = tt
-calm_heard x now h (happened.Asked p r g y) a = tt
-calm_heard x now h (happened.Told p r why) a = tt
-calm_heard x now h (happened.Noted n c v i told) a = tt
-calm_heard x now h (happened.Refused n c fault) a = tt
-calm_heard x now h (happened.Shown n line) a = tt
-
-calm_within : (x : Happening) (rs : List Happened) (h : History) → ((r : Happened) → Has r rs → Calm r) → Within (AllHearUnlessLeaving x) rs h
-calm_within x [] h all = tt
-calm_within x (r ∷ rs) h all = (calm_heard x rs h r (all r (inl refl)), calm_within x rs h (λ q i. all q (inr i)))
+idle_heard : (x : Happening) (r : Happened) (now : List Happened) (h : History) → Idle r → AllHearUnlessLeaving x now h r
+idle_heard x (happened.Put n v g i e) now h a = absurd a
+idle_heard x _ now h a = tt
 
 -- ---- a step
 
@@ -106,16 +91,13 @@ module _ (c : Config) (w : Scene) (n : ℕ) (f : Answering) (s : Core) (e : Node
 
 -- ---- every scene
 
+heard_law : (c : Config) → PastLaw recounting c EachIsHeard
+heard_law c =
+    record {
+      none = tt;
+      outer = λ w e t o k. (within_idle (AllHearUnlessLeaving e) (idle_heard e) e.records w.before o.idle, k);
+      steps = λ w n f s e v r next up arises told k. (step_heard c w n f s e v (reached c w r) up arises told.0 told.1 (clean c w r) (rested c w r), k);
+    }
+
 pub each_put_is_heard : EachPutIsHeard
-each_put_is_heard c _ Nothing = tt
-each_put_is_heard c _ (AllStart fixed) =
-    let x = fold_begins (nodes_of c.nodes) (record (nothing_yet c) { before = record { event = None; records = [] } ∷ [] }) (record { records = []; is = refl; calm = λ r i. absurd i }) in
-    subst EachIsHeard (sym x.is) (calm_within (record { event = None; records = x.records }) x.records [] x.calm, tt)
-each_put_is_heard c _ (Starts w n e k free real down none) =
-    let s : Core = started w.config n (w.incs n + 1) in
-    (calm_within (over e s) (reverse s.records) w.before (λ r i. start_calm w.config n (w.incs n + 1) r (reverse_has r s.records i)), each_put_is_heard c w k)
-each_put_is_heard c _ (Stops w n e s k up none) = ((tt, tt), each_put_is_heard c w k)
-each_put_is_heard c _ (Steps w n f s e v k up arises says is) =
-    (step_heard c w n f s e v (reached c w k) up arises says is (clean c w k) (rested c w k), each_put_is_heard c w k)
-each_put_is_heard c _ (Notes w e rs k notes down) =
-    (calm_within (record { event = Some e; records = reverse rs }) (reverse rs) w.before (λ r i. note_calm r (notes r (reverse_has r rs i))), each_put_is_heard c w k)
+each_put_is_heard c w k = past_holds recounting c EachIsHeard (heard_law c) w (recounted_ran c w k)

@@ -18,7 +18,7 @@ use Rattle.step_refinement.specs.Tied.{Scene}
 use Rattle.step_refinement.specs.Rules.{ended, Arises}
 use Rattle.step_refinement.specs.Runs.{Reached, Steps}
 use Rattle.node_state.specs.State.{InNameOrder}
-use Rattle.row_laws.proofs.hearing.Listening.{reverse_has}
+use Rattle.run_induction.proofs.Idle.{reverse_has}
 use Rattle.provider_laws.proofs.leaving.Events.{same_dissolved}
 use Rattle.run_laws.specs.seen_runs.Seen.{Seen}
 use Rattle.run_laws.proofs.seen_runs.Law.{traces_seen}

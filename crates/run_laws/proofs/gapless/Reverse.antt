@@ -16,7 +16,7 @@ use Rattle.run_safety.specs.SafeHeard.{LeftBehind, enters}
 use Rattle.step_refinement.specs.Tied.{Scene}
 use Rattle.step_refinement.specs.Rules.{over, Arises}
 use Rattle.step_refinement.specs.Runs.{Reached}
-use Rattle.row_laws.proofs.hearing.Listening.{reverse_has}
+use Rattle.run_induction.proofs.Idle.{reverse_has}
 use Rattle.row_laws.proofs.hearing.Added.{enters_add}
 use Rattle.run_laws.proofs.gapless.Fair.{Fair}
 use Rattle.run_laws.proofs.gapless.Moving.{Carries, Moves, Remains, Enters, NotCall}

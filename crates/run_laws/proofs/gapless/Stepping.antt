@@ -38,12 +38,13 @@ use Rattle.step_refinement.proofs.Changed.{each_set}
 use Rattle.step_refinement.proofs.RunLaw.{reached_rests}
 use Rattle.step_refinement.proofs.SessionLaws.{provider_same}
 use Rattle.step_refinement.proofs.Turns.{has_turned}
-use Rattle.row_laws.proofs.hearing.Listening.{steps_change, reverse_has}
+use Rattle.run_induction.proofs.Idle.{reverse_has}
+use Rattle.row_laws.proofs.hearing.Listening.{steps_change}
 use Rattle.provider_laws.proofs.attending.Law.{begin_strict, step_fine}
 use Rattle.row_laws.proofs.hearing.Incarnations.{incs_of}
 use Rattle.provider_laws.proofs.attending.Staying.{InStay}
 use Rattle.provider_laws.proofs.attending.Ordering.{Ordered, ordered_does}
-use Rattle.provider_laws.proofs.attending.OrderLaw.{reached_orderly}
+use Rattle.provider_laws.proofs.attending.OrderLaw.{node_placed}
 use Rattle.provider_laws.proofs.attending.Fresh.{fresh_now}
 use Rattle.provider_laws.proofs.attending.Living.{lively_now}
 use Rattle.run_laws.specs.seen_runs.Seen.{Seen}
@@ -209,7 +210,7 @@ module _ (c : Config) (w : Scene) (n : ℕ) (f : Answering) (s : Core) (e : Node
   ordered =
       ordered_does n (w.incs n) w.before s.views.view s.sessions.last_request (at_work s) t (steps_change c w reached n s up f e) t.records (λ r h. h) (step_fine c w n s reached up f e v arises) (lively_now c w n f s e v reached up arises) (fresh_now c w reached n s up) (record {
         strict = begin_strict c w n s reached up (incs_of c w reached n);
-        place = ((reached_orderly c w reached).up n s up).0;
+        place = (node_placed c w reached n s up).0;
         law = tt;
         others = λ m g ne. refl;
         counts = λ p u g ne. refl;
@@ -249,7 +250,7 @@ module _ (c : Config) (w : Scene) (n : ℕ) (f : Answering) (s : Core) (e : Node
     Now x = Inv_at n w.before p node t.records x
 
     stay_was : (g : List ℕ) → InStay s.views.view (stays n g (records_of w.before)) (len_of s g) (state_of s g)
-    stay_was g = ((reached_orderly c w reached).up n s up).0.stay g
+    stay_was g = (node_placed c w reached n s up).0.stay g
 
     waits_was : (g : List ℕ) → AskedJoin g p (records_of w.before) → Stood s.sessions p g false ⊎ Over n g p (records_of w.before)
     waits_was g a = subst (λ m. Stood s.sessions p g false ⊎ Over m g p (records_of w.before)) node (was.waits g a)

@@ -1,9 +1,8 @@
 -- In each scene whose history names calls, and calls alone, as calls: whoever takes part hears each put.
 use Rattle.std.proofs.Common.{◌≡◌, ◌≢◌, ◌⊎◌, ℕ, ◌+◌, List, [], ◌∷◌, ◌++◌, Option, Some, None, Bool, true, false, refl, sym, ap, ◌∙◌, subst, inl, inr}
-use Rattle.std.specs.Prelude.{◌==◌, ◌&&◌, ◌||◌, not, fold, reverse, if◌then◌else◌}
-use Rattle.std.proofs.lemmas.Bool.{eqb-true, eq-eqb}
+use Rattle.std.specs.Prelude.{◌==◌, ◌&&◌, ◌||◌, not}
+use Rattle.std.proofs.lemmas.Bool.{eq-eqb}
 use Rattle.rsct_packet.specs.declared.ids.ProviderId.{ProviderId}
-use Rattle.rsct_packet.specs.Mask.{nodes_of}
 use Rattle.rsct_packet.specs.Search.{Has}
 use Rattle.rsct_packet.proofs.HasLaws.{has_append, find_has}
 use Rattle.proposal_core.specs.Fold.{empty_state}
@@ -16,26 +15,24 @@ use Rattle.node_state.specs.declared.happened.Happened.TheVariants as happened
 use Rattle.node_state.specs.declared.state.Core.{Core}
 use Rattle.node_state.specs.State.{row_of, list_of, state_of, len_of, with_sessions}
 use Rattle.node_state.specs.Applying.{level_set}
-use Rattle.node_state.specs.Step.{started, ring_record}
+use Rattle.node_state.specs.Step.{started, stepped}
 use Rattle.world_model.specs.declared.event.Event.{Event}
 use Rattle.world_model.specs.Run.{Happening}
 use Rattle.run_safety.specs.Past.{History, Within, records_of, inc_now}
-use Rattle.run_safety.specs.Stays.{stays, asks_join, client_of, goodbye_of, was_let_go}
+use Rattle.run_safety.specs.Stays.{stays, client_of, goodbye_of, lets_go, was_let_go}
 use Rattle.step_refinement.specs.Tied.{Scene, NodeIsIf}
-use Rattle.step_refinement.specs.Rules.{over, nothing_yet, with_records, start_with, starts_too, stopped, all_started}
-use Rattle.step_refinement.specs.Runs.{IsNote, noted, Reached}
-use Rattle.step_refinement.specs.Runs as runs
-use Rattle.step_refinement.proofs.Changed.{each_set, set_here}
+use Rattle.step_refinement.specs.Rules.{at_node, over, ended}
+use Rattle.step_refinement.specs.Runs.{Reached}
+use Rattle.step_refinement.proofs.Changed.{set_here, set_there}
 use Rattle.step_refinement.proofs.RunLaw.{reached_rests}
 use Rattle.step_refinement.proofs.SessionLaws.{provider_self, provider_same}
-use Rattle.row_laws.proofs.hearing.Listening.{start_each, reverse_has}
+use Rattle.run_induction.proofs.Idle.{Idle, AllElsewhere, within_idle, stays_elsewhere, Came}
+use Rattle.run_induction.proofs.Ran.{Ran, Outer}
+use Rattle.run_induction.proofs.Laws.{Claim, Holds, Done, Law, ran_holds}
 use Rattle.row_laws.proofs.hearing.Incarnations.{incs_of}
 use Rattle.provider_laws.proofs.attending.Staying.{InStay}
-use Rattle.provider_laws.proofs.attending.OrderLaw.{inner_all, others_stay, note_inner, reached_orderly}
-use Rattle.row_laws.proofs.failed_rows.Starting.{FreshIf, AllFresh, fold_fresh}
-use Rattle.provider_laws.specs.leaving.Scenes.{Recounted, Nothing, AllStart, Starts, Stops, Steps, Notes}
-use Rattle.provider_laws.proofs.leaving.Events.{any_one}
-use Rattle.provider_laws.proofs.leaving.Law.{reached, clean}
+use Rattle.provider_laws.proofs.attending.OrderLaw.{came_placed}
+use Rattle.provider_laws.proofs.leaving.Law.{recounting, recounted_ran, reached, clean}
 use Rattle.run_laws.specs.gapless.Takers.{Taker, Stood, AskedJoin, TakersTakePart}
 use Rattle.run_laws.specs.gapless.Hears.{AllHearUnlessLetGo, EachHears, TakersHear}
 use Rattle.run_laws.proofs.gapless.Growing.{Unasked, asked_back, Over, over_more}
@@ -45,64 +42,34 @@ use Rattle.run_laws.proofs.gapless.Stepping.{step_rested}
 
 -- ---- records of no step
 
--- nothing is put, and no join is asked for
-abbrev pub Calm : Happened → Type 0
-Calm (happened.Put n v g i e) = ⊥
-Calm (happened.Asked p r g x) = ⊥
-Calm _ = Unit {0}
+idle_unasked : (r : Happened) → Idle r → Unasked r
+idle_unasked (happened.Asked p r g x) a = a
+idle_unasked _ a = tt
 
-calm_unasked : (r : Happened) → Calm r → Unasked r
-calm_unasked (happened.Up n j) a = tt
-calm_unasked (happened.Down n) a = tt
-calm_unasked (happened.Ring n k i ms o) a = tt
-calm_unasked (happened.In n v ms) a = tt
-calm_unasked (happened.Base n v g u len s) a = tt
-calm_unasked (happened.Put n v g i e) a = absurd a
-calm_unasked (happened.Heard p v g i e ms value) a = tt
-calm_unasked (happened.Cast p proto phase vote value message) a = tt
-calm_unasked (happened.Asked p r g x) a = absurd a
-calm_unasked (happened.Told p r why) a = tt
-calm_unasked (happened.Noted n c v i told) a = tt
-calm_unasked (happened.Refused n c fault) a = tt
-calm_unasked (happened.Shown n line) a = tt
+idle_hears : (x : Happening) (r : Happened) (now : List Happened) (h : History) → Idle r → AllHearUnlessLetGo x now h r
+idle_hears x (happened.Put n v g i e) now h a = absurd a
+idle_hears x _ now h a = tt
 
-calm_hears : (x : Happening) (now : List Happened) (h : History) (r : Happened) → Calm r → AllHearUnlessLetGo x now h r
-calm_hears x now h (happened.Up n j) a = tt
-calm_hears x now h (happened.Down n) a = tt
-calm_hears x now h (happened.Ring n k i ms o) a = tt
-calm_hears x now h (happened.In n v ms) a = tt
-calm_hears x now h (happened.Base n v g u len s) a = tt
-calm_hears x now h (happened.Put n v g i e) a = absurd a
-calm_hears x now h (happened.Heard p v g i e ms value) a = tt
-calm_hears x now h (happened.Cast p proto phase vote value message) a = tt
-calm_hears x now h (happened.Asked p r g y) a = tt
-calm_hears x now h (happened.Told p r why) a = tt
-calm_hears x now h (happened.Noted n c v i told) a = tt
-calm_hears x now h (happened.Refused n c fault) a = tt
-calm_hears x now h (happened.Shown n line) a = tt
+-- ---- what is said of a number
 
-calm_within : (x : Happening) (rs : List Happened) (h : History) → ((r : Happened) → Has r rs → Calm r) → Within (AllHearUnlessLetGo x) rs h
-calm_within x [] h all = tt
-calm_within x (r ∷ rs) h all = (calm_hears x rs h r (all r (inl refl)), calm_within x rs h (λ q i. all q (inr i)))
+abbrev standing : Claim
+standing = record { sent = λ h x. Unit {0}; node = λ m inc ps h o. ((p : ProviderId) → p.node ≡ m → was_let_go p h ≡ false → KnownIf p h o) × WaitsIf o; lines = EachHears }
 
-pub start_calm : (c : Config) (n j : ℕ) (r : Happened) → Has r (started c n j).records → Calm r
-unfolding ring_record
-start_calm c n j r i = start_each Calm (λ n j. tt) (λ n x. tt) (λ n v ms. tt) c n j r i
+rested_of : (w : Scene) → Holds standing w → Rested w
+rested_of w h = record { known = λ p spared. (h.nodes p.node).0 p refl spared; joins = λ m. (h.nodes m).1; law = h.lines }
 
-pub note_calm : (r : Happened) → IsNote r → Calm r
-note_calm (happened.Up n j) s = absurd s
-note_calm (happened.Down n) s = absurd s
-note_calm (happened.Ring n j i ms b) s = absurd s
-note_calm (happened.In n v ms) s = absurd s
-note_calm (happened.Base n v g old len st) s = absurd s
-note_calm (happened.Put n v g i e) s = absurd s
-note_calm (happened.Heard p v g i e ms value) s = absurd s
-note_calm (happened.Cast p proto phase vote value message) s = absurd s
-note_calm (happened.Asked p r g x) s = absurd s
-note_calm (happened.Told p r y) s = absurd s
-note_calm (happened.Noted n c v i told) s = absurd s
-note_calm (happened.Refused n c fault) s = tt
-note_calm (happened.Shown n line) s = tt
+done_of : (w : Scene) (n : ℕ) (v : Event) (t : Core) → Rested (ended w n v t) → Done standing w n v t
+done_of w n v t k =
+    record {
+      sends = λ x i. tt;
+      node = (λ p at spared. there n (Some t) (set_here w.cores n (Some t)) p at spared, subst WaitsIf (set_here w.cores n (Some t)) (k.joins n));
+      others = λ m ne a. (λ p at spared. there m (w.cores m) (set_there w.cores n (Some t) m ne) p at spared, subst WaitsIf (set_there w.cores n (Some t) m ne) (k.joins m));
+      lines = k.law;
+    }
+  where
+    there : (m : ℕ) (o : Option Core) → at_node w.cores n (Some t) m ≡ o → (p : ProviderId) → p.node ≡ m → was_let_go p (over v t ∷ w.before) ≡ false → KnownIf p (over v t ∷ w.before) o
+    there m o is p at spared =
+        subst (KnownIf p (over v t ∷ w.before)) (ap (at_node w.cores n (Some t)) at ∙ is) (k.known p spared)
 
 -- ---- a node that has just started
 
@@ -114,43 +81,30 @@ started_waits : (c : Config) (n j : ℕ) → JoinWaits (started c n j).sessions
 unfolding started with_sessions level_set
 started_waits c n j q i = absurd i
 
-start_rested : (c : Config) (w : Scene) (n : ℕ) (v : Event) → Reached c (start_with w n v (started w.config n (w.incs n + 1))) → w.cores n ≡ None → Rested w → Rested (start_with w n v (started w.config n (w.incs n + 1)))
-start_rested c w n v next down k =
-    record {
-      known = λ p spared. each_set (λ m o. p.node ≡ m → KnownIf p after o) w.cores n (Some s) (λ q. own p q (spared_before p (over v s) w.before spared).1) (λ m ne q. subst (λ z. KnownIf p after (w.cores z)) q (away p (λ z. ne (sym q ∙ z)) (spared_before p (over v s) w.before spared).1)) p.node refl;
-      joins = each_set (λ m o. WaitsIf o) w.cores n (Some s) (started_waits w.config n (w.incs n + 1)) (λ m ne. k.joins m);
-      law = (calm_within (over v s) (reverse s.records) w.before (λ r i. calm r i), k.law);
-    }
-  where
-    s : Core
-    s = started w.config n (w.incs n + 1)
+-- ---- an event in which no node takes a step
 
-    after : History
-    after = over v s ∷ w.before
+module _ (c : Config) (w : Scene) (e : Happening) (t : Scene) (o : Outer recounting c w e t) where
+  back : (g : List ℕ) (p : ProviderId) → AskedJoin g p (e.records ++ records_of w.before) → AskedJoin g p (records_of w.before)
+  back g p a = asked_all g p e.records (records_of w.before) (λ r i. idle_unasked r (o.idle r i)) a
 
-    calm : (r : Happened) → Has r (reverse s.records) → Calm r
-    calm r i = start_calm w.config n (w.incs n + 1) r (reverse_has r s.records i)
+  stay_known : (m : ℕ) → AllElsewhere m e.records → ((p : ProviderId) → p.node ≡ m → was_let_go p w.before ≡ false → KnownIf p w.before (w.cores m)) → (p : ProviderId) → p.node ≡ m → was_let_go p (e ∷ w.before) ≡ false → KnownIf p (e ∷ w.before) (w.cores m)
+  stay_known m all k p at spared =
+      known_on p w.before (e ∷ w.before) e.records (w.cores m) refl (λ g. stays_elsewhere p.node g e.records (records_of w.before) (subst (λ z. AllElsewhere z e.records) (sym at) all)) (λ g a. back g p a) (k p at (spared_before p e w.before spared).1)
 
-    back : (g : List ℕ) (p : ProviderId) → AskedJoin g p (records_of after) → AskedJoin g p (records_of w.before)
-    back g p a = asked_all g p (reverse s.records) (records_of w.before) (λ r i. calm_unasked r (calm r i)) a
+  -- nobody takes part at a node that comes up
+  come_known : (m : ℕ) → Came c m (w.incs m + 1) e.records → ((p : ProviderId) → p.node ≡ m → was_let_go p w.before ≡ false → KnownIf p w.before None) → (p : ProviderId) → p.node ≡ m → was_let_go p (e ∷ w.before) ≡ false → Known p (e ∷ w.before) (started c m (w.incs m + 1))
+  come_known m came k p at spared =
+      record {
+        waits = λ g a. inr (over_all p.node g p e.records (records_of w.before) (k p at (spared_before p e w.before spared).1 g (back g p a)));
+        takes = λ g a. absurd (nobody_takes p (stays m g (records_of (e ∷ w.before))) (stay g) (subst (λ z. Taker p (stays z g (records_of (e ∷ w.before)))) at a));
+      }
+    where
+      s : Core
+      s = started c m (w.incs m + 1)
 
-    own : (p : ProviderId) → p.node ≡ n → was_let_go p w.before ≡ false → Known p after s
-    own p q spared =
-        record {
-          waits = λ g a. inr (over_all p.node g p (reverse s.records) (records_of w.before) (was g (back g p a)));
-          takes = λ g a. absurd (nobody_takes p (stays n g (records_of after)) (stay g) (subst (λ m. Taker p (stays m g (records_of after))) q a));
-        }
-      where
-        was : KnownIf p w.before None
-        was = subst (KnownIf p w.before) (ap w.cores q ∙ down) (k.known p spared)
-
-        stay : (g : List ℕ) → InStay s.views.view (stays n g (records_of after)) (len_of s g) empty_state
-        stay g =
-            subst (InStay s.views.view (stays n g (records_of after)) (len_of s g)) (started_empty w.config n (w.incs n + 1) g) (((reached_orderly c (start_with w n v s) next).up n s (set_here w.cores n (Some s))).0.stay g)
-
-    away : (p : ProviderId) → p.node ≢ n → was_let_go p w.before ≡ false → KnownIf p after (w.cores p.node)
-    away p ne spared =
-        known_on p w.before after (reverse s.records) (w.cores p.node) refl (λ g. others_stay w.config n (w.incs n + 1) p.node g (records_of w.before) ne) (λ g a. back g p a) (k.known p spared)
+      stay : (g : List ℕ) → InStay s.views.view (stays m g (records_of (e ∷ w.before))) (len_of s g) empty_state
+      stay g =
+          subst (InStay s.views.view (stays m g (records_of (e ∷ w.before))) (len_of s g)) (started_empty c m (w.incs m + 1) g) ((came_placed c m (w.incs m + 1) e.records (records_of w.before) came).0.stay g)
 
 -- ---- a node that stops
 
@@ -158,135 +112,60 @@ found_in : (s : Core) (p : ProviderId) (y : Provider) → provider_of s.sessions
 unfolding provider_of
 found_in s p y f = let k = find_has (is_provider p) s.sessions.providers y f in (k.0, provider_same y.p p k.1)
 
-stop_rested : (c : Config) (w : Scene) (n : ℕ) (v : Event) (s : Core) → Reached c w → w.cores n ≡ Some s → Rested w → Rested (stopped w n v)
-stop_rested c w n v s reach up k =
-    record {
-      known = λ p spared. each_set (λ m o. p.node ≡ m → KnownIf p (e ∷ w.before) o) w.cores n None (λ q. own p q spared) (λ m ne q. subst (λ z. KnownIf p (e ∷ w.before) (w.cores z)) q (away p (λ z. ne (sym q ∙ z)) (spared_before p e w.before spared).1)) p.node refl;
-      joins = each_set (λ m o. WaitsIf o) w.cores n None tt (λ m ne. k.joins m);
-      law = ((tt, tt), k.law);
-    }
+-- whose join waited there was let go
+stop_known : (c : Config) (w : Scene) (o : Option Event) (m : ℕ) (s : Core) → Reached c w → w.cores m ≡ Some s → ((p : ProviderId) → p.node ≡ m → was_let_go p w.before ≡ false → Known p w.before s) → (p : ProviderId) → p.node ≡ m → was_let_go p (record { event = o; records = happened.Down m ∷ [] } ∷ w.before) ≡ false → (g : List ℕ) → AskedJoin g p (happened.Down m ∷ records_of w.before) → Over p.node g p (happened.Down m ∷ records_of w.before)
+stop_known c w o m s reach up k p at spared g a = by (was.waits g (asked_back g p down (records_of w.before) tt a))
   where
     down : Happened
-    down = happened.Down n
+    down = happened.Down m
 
-    e : Happening
-    e = record { event = Some v; records = down ∷ [] }
+    before : (lets_go p (record { event = o; records = down ∷ [] }) w.before ≡ false) × (was_let_go p w.before ≡ false)
+    before = spared_before p (record { event = o; records = down ∷ [] }) w.before spared
 
-    here : NodeIsIf w.config (reached_rests c w reach []).ghost [] n (w.incs n) (Some s)
-    here = subst (NodeIsIf w.config (reached_rests c w reach []).ghost [] n (w.incs n)) up ((reached_rests c w reach []).nodes n)
+    here : NodeIsIf w.config (reached_rests c w reach []).ghost [] m (w.incs m) (Some s)
+    here = subst (NodeIsIf w.config (reached_rests c w reach []).ghost [] m (w.incs m)) up ((reached_rests c w reach []).nodes m)
 
-    own : (p : ProviderId) → p.node ≡ n → was_let_go p (e ∷ w.before) ≡ false → (g : List ℕ) → AskedJoin g p (down ∷ records_of w.before) → Over p.node g p (down ∷ records_of w.before)
-    own p q spared g a = by (was.waits g (asked_back g p down (records_of w.before) tt a))
+    was : Known p w.before s
+    was = k p at before.1
+
+    gone : Stood s.sessions p g false → ⊥
+    gone x = absurd (let u : true ≡ false = sym test ∙ (or_false (m == p.node && inc_now p.node (records_of w.before) == p.inc) false (or_false ((m == p.node && inc_now p.node (records_of w.before) == p.inc) || false) (goodbye_of p.node (client_of p w.before) o && not false) before.0).0).0 in cc)
       where
-        was : Known p w.before s
-        was = subst (KnownIf p w.before) (ap w.cores q ∙ up) (k.known p (spared_before p e w.before spared).1)
+        there : Has x.provider s.sessions.providers × (x.provider.p ≡ p)
+        there = found_in s p x.provider x.found
 
-        gone : Stood s.sessions p g false → ⊥
-        gone x = absurd (let u : true ≡ false = sym test ∙ (or_false (n == p.node && inc_now p.node (records_of w.before) == p.inc) false (or_false ((n == p.node && inc_now p.node (records_of w.before) == p.inc) || false) (goodbye_of p.node (client_of p w.before) (Some v) && not false) (spared_before p e w.before spared).0).0).0 in cc)
-          where
-            there : Has x.provider s.sessions.providers × (x.provider.p ≡ p)
-            there = found_in s p x.provider x.found
+        inc : p.inc ≡ w.incs m
+        inc = ap (λ (z : ProviderId). z.inc) (sym there.1) ∙ (here.0.owes.providers x.provider there.0).1 ∙ here.2
 
-            inc : p.inc ≡ w.incs n
-            inc = ap (λ (z : ProviderId). z.inc) (sym there.1) ∙ (here.0.owes.providers x.provider there.0).1 ∙ here.2
+        test : (m == p.node && inc_now p.node (records_of w.before) == p.inc) ≡ true
+        test = (λ i. eq-eqb m p.node (sym at) i && eq-eqb (inc_now p.node (records_of w.before)) p.inc (ap (λ z. inc_now z (records_of w.before)) at ∙ incs_of c w reach m ∙ sym inc) i)
 
-            test : (n == p.node && inc_now p.node (records_of w.before) == p.inc) ≡ true
-            test = (λ i. eq-eqb n p.node (sym q) i && eq-eqb (inc_now p.node (records_of w.before)) p.inc (ap (λ m. inc_now m (records_of w.before)) q ∙ incs_of c w reach n ∙ sym inc) i)
-
-        by : Stood s.sessions p g false ⊎ Over p.node g p (records_of w.before) → Over p.node g p (down ∷ records_of w.before)
-        by (inl x) = absurd (gone x)
-        by (inr o) = over_more p.node g p down (records_of w.before) o
-
-    away : (p : ProviderId) → p.node ≢ n → was_let_go p w.before ≡ false → KnownIf p (e ∷ w.before) (w.cores p.node)
-    away p ne spared = known_on p w.before (e ∷ w.before) (down ∷ []) (w.cores p.node) refl (λ g. one g (n == p.node) refl) (λ g a. asked_back g p down (records_of w.before) tt a) (k.known p spared)
-      where
-        one : (g : List ℕ) (b : Bool) → (n == p.node) ≡ b → (if b then [] else stays p.node g (records_of w.before)) ≡ stays p.node g (records_of w.before)
-        one g true z = absurd (ne (sym (eqb-true n p.node z)))
-        one g false z = refl
-
--- ---- an event by which no node changes
-
-note_rested : (w : Scene) (v : Event) (rs : List Happened) → ((r : Happened) → Has r rs → IsNote r) → Rested w → Rested (noted w v rs)
-note_rested w v rs notes k =
-    record {
-      known = λ p spared. known_on p w.before (e ∷ w.before) (reverse rs) (w.cores p.node) refl (λ g. inner_all p.node g (reverse rs) (records_of w.before) (λ r i. note_inner r (notes r (reverse_has r rs i)))) (λ g a. asked_all g p (reverse rs) (records_of w.before) (λ r i. calm_unasked r (calm r i)) a) (k.known p (spared_before p e w.before spared).1);
-      joins = k.joins;
-      law = (calm_within e (reverse rs) w.before calm, k.law);
-    }
-  where
-    e : Happening
-    e = record { event = Some v; records = reverse rs }
-
-    calm : (r : Happened) → Has r (reverse rs) → Calm r
-    calm r i = note_calm r (notes r (reverse_has r rs i))
-
--- ---- every node starts, in one event
-
-pub record Begins (w : Scene) : Type 0 where
-  pub records : List Happened
-  pub is : w.before ≡ record { event = None; records = records } ∷ []
-  pub calm : (r : Happened) → Has r records → Calm r
-
-too_begins : (w : Scene) (n : ℕ) (o : Option Core) → Begins w → Begins (starts_too w n o)
-too_begins w n (Some s) k = k
-too_begins w n None k =
-    record { records = reverse rs ++ k.records; is = ap (λ h. with_records h rs) k.is; calm = λ r i. by r (has_append r (reverse rs) k.records i) }
-  where
-    rs : List Happened
-    rs = (started w.config n (w.incs n + 1)).records
-
-    by : (r : Happened) → Has r (reverse rs) ⊎ Has r k.records → Calm r
-    by r (inl i) = start_calm w.config n (w.incs n + 1) r (reverse_has r rs i)
-    by r (inr i) = k.calm r i
-
-pub fold_begins : (ns : List ℕ) (w : Scene) → Begins w → Begins (fold (λ (w : Scene) n. starts_too w n (w.cores n)) w ns)
-fold_begins [] w k = k
-fold_begins (n ∷ ns) w k = fold_begins ns (starts_too w n (w.cores n)) (too_begins w n (w.cores n) k)
-
-rows_empty : (s : Core) → s.groups ≡ [] → (g : List ℕ) → state_of s g ≡ empty_state
-unfolding state_of list_of row_of
-rows_empty s e g = ap (λ (rows : List GroupRow). state_of (record s { groups = rows }) g) e
-
-begins_rested : (c : Config) (w : Scene) → Reached c w → Begins w → AllFresh w → Rested w
-begins_rested c w reach k fresh =
-    record {
-      known = λ p spared. known p (w.cores p.node) refl (fresh.nodes p.node);
-      joins = λ m. waits m (w.cores m) (fresh.nodes m) ((reached_rests c w reach []).nodes m);
-      law = subst EachHears (sym k.is) (calm_within (record { event = None; records = k.records }) k.records [] k.calm, tt);
-    }
-  where
-    unasked : (g : List ℕ) (p : ProviderId) → AskedJoin g p (records_of w.before) → ⊥
-    unasked g p a =
-        let z = any_one (asks_join p) (happened.Asked p p.join g a.proposal) (records_of w.before) a.there (λ i. provider_self p i && eq-eqb p.join p.join refl i) in
-        let u : true ≡ false = sym z ∙ fresh.unasked p in cc
-
-    known : (p : ProviderId) (o : Option Core) → w.cores p.node ≡ o → FreshIf w.before p.node o → KnownIf p w.before o
-    known p None q x = λ g a. absurd (unasked g p a)
-    known p (Some s) q x =
-        record {
-          waits = λ g a. absurd (unasked g p a);
-          takes = λ g a. absurd (nobody_takes p (stays p.node g (records_of w.before)) (subst (InStay s.views.view (stays p.node g (records_of w.before)) (len_of s g)) (rows_empty s x.groups g) (((reached_orderly c w reach).up p.node s q).0.stay g)) a);
-        }
-
-    waits : (m : ℕ) (o : Option Core) → FreshIf w.before m o → NodeIsIf w.config (reached_rests c w reach []).ghost [] m (w.incs m) o → WaitsIf o
-    waits m None x z = tt
-    waits m (Some s) x z = λ q i e. let y = z.0.owes.attended q i in absurd (subst (Has y.0) x.providers y.1)
+    by : Stood s.sessions p g false ⊎ Over p.node g p (records_of w.before) → Over p.node g p (down ∷ records_of w.before)
+    by (inl x) = absurd (gone x)
+    by (inr q) = over_more p.node g p down (records_of w.before) q
 
 -- ---- every scene
 
-pub rested : (c : Config) (w : Scene) → Recounted c w → Rested w
-rested c _ Nothing = record { known = λ p spared. λ g a. absurd a.there; joins = λ m. tt; law = tt }
-rested c _ (AllStart fixed) =
-    begins_rested c (all_started c) (runs.AllStart fixed) (fold_begins (nodes_of c.nodes) (record (nothing_yet c) { before = record { event = None; records = [] } ∷ [] }) (record { records = []; is = refl; calm = λ r i. absurd i })) (fold_fresh (nodes_of c.nodes) (record (nothing_yet c) { before = record { event = None; records = [] } ∷ [] }) (record { sent = refl; nodes = λ m. tt; puts = (tt, tt); unasked = λ p. refl }))
-rested c _ (Starts w n e k free real down none) = start_rested c w n e (runs.Starts w n e (reached c w k) free real down) down (rested c w k)
-rested c _ (Stops w n e s k up none) = stop_rested c w n e s (reached c w k) up (rested c w k)
-rested c _ (Steps w n f s e v k up arises says is) = step_rested c w n f s e v (reached c w k) up arises says is (clean c w k) (rested c w k)
-rested c _ (Notes w e rs k notes down) = note_rested w e rs notes (rested c w k)
+standing_law : (c : Config) → Law recounting c standing
+standing_law c =
+    record {
+      waits = λ m. (λ p at spared g a. absurd a.there, tt);
+      none = tt;
+      sent_on = λ e h x k. tt;
+      stays = λ w e t o m all k. (λ p at spared. stay_known c w e t o m all k.0 p at spared, k.1);
+      comes = λ w e t o m came down k. (λ p at spared. come_known c w e t o m came k.0 p at spared, started_waits c m (w.incs m + 1));
+      goes = λ w e t o m s down up k. (λ p at spared. subst (λ rs. was_let_go p (record { event = e.event; records = rs } ∷ w.before) ≡ false → (g : List ℕ) → AskedJoin g p (rs ++ records_of w.before) → Over p.node g p (rs ++ records_of w.before)) (sym down) (λ spared. stop_known c w e.event m s (reached c w o.from) up k.0 p at spared) spared, tt);
+      lines_on = λ w e t o k. (within_idle (AllHearUnlessLetGo e) (idle_hears e) e.records w.before o.idle, k);
+      steps = λ w n f s e v r next up arises told h. done_of w n v (stepped f s e) (step_rested c w n f s e v (reached c w r) up arises told.0 told.1 (clean c w r) (rested_of w h));
+    }
+
+pub rested : (c : Config) (w : Scene) → Ran recounting c w → Rested w
+rested c w r = rested_of w (ran_holds recounting c standing (standing_law c) w r)
 
 pub takers_take_part : TakersTakePart
 takers_take_part c w k n s up p node spared g a =
-    let z : Known p w.before s = subst (KnownIf p w.before) (ap w.cores node ∙ up) ((rested c w k).known p spared) in
+    let z : Known p w.before s = subst (KnownIf p w.before) (ap w.cores node ∙ up) ((rested c w (recounted_ran c w k)).known p spared) in
     z.takes g (subst (λ m. Taker p (stays m g (records_of w.before))) (sym node) a)
 
 pub takers_hear : TakersHear
-takers_hear c w k = (rested c w k).law
+takers_hear c w k = (rested c w (recounted_ran c w k)).law

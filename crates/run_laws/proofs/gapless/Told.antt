@@ -37,7 +37,7 @@ use Rattle.step_refinement.specs.Rules.{Arises}
 use Rattle.step_refinement.specs.Runs.{Reached}
 use Rattle.row_laws.specs.hearing.Changes.{Aside, entering, Does}
 use Rattle.row_laws.proofs.hearing.Added.{Adds, enters_add}
-use Rattle.row_laws.proofs.hearing.Listening.{reverse_has}
+use Rattle.run_induction.proofs.Idle.{reverse_has}
 use Rattle.provider_laws.proofs.attending.Entering.{base_is, new_stay, entered_stays}
 use Rattle.provider_laws.proofs.attending.Fresh.{join_carried}
 use Rattle.run_laws.specs.seen_runs.Seen.{Seen, BeginsOnce, WasTold}

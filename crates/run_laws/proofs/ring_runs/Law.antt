@@ -24,9 +24,11 @@ use Rattle.node_state.specs.Step.{NodeEvent, started, stepped, at_work}
 use Rattle.world_model.specs.declared.event.Event.{Event}
 use Rattle.run_safety.specs.Past.{History, records_of}
 use Rattle.step_refinement.specs.Tied.{Scene}
-use Rattle.step_refinement.specs.Rules.{at_node, ended, stopped, nothing_yet, with_records, starts_too, Arises}
+use Rattle.step_refinement.specs.Rules.{at_node, ended, stopped, nothing_yet, all_started, with_records, starts_too, Arises}
 use Rattle.step_refinement.specs.Runs.{IsNote, Reached, Nothing, AllStart, Starts, Stops, Steps, Notes}
 use Rattle.step_refinement.proofs.Changed.{each_set}
+use Rattle.run_induction.proofs.Idle.{reverse_has}
+use Rattle.run_induction.proofs.Ran.{anyhow, reached_ran, config_of, Opened, all_start_holds}
 use Rattle.run_laws.specs.ring_runs.Rings.{ring_settings, told_on, rings_told, RingsAgreeInRuns}
 use Rattle.run_laws.proofs.ring_runs.Finding.{gone_here, gone_there}
 use Rattle.run_laws.proofs.ring_runs.Playing.{ring_on, Own, Tells, comes_on, At, Played, played_rules, played_views, played_calls}
@@ -34,33 +36,12 @@ use Rattle.run_laws.proofs.ring_runs.Ticking.{played_rings}
 use Rattle.run_laws.proofs.ring_runs.Starting.{Stands, Plays, start_plays}
 use Rattle.step_walk.proofs.Walking.{GivenBy, on_called, on_stepped}
 
-reverse_has : {A : Type 0} (x : A) (xs : List A) → Has x (reverse xs) → Has x xs
-reverse_has x [] h = h
-reverse_has x (y ∷ ys) h = ⊎_elim (λ (a : Has x (reverse ys)). inr (reverse_has x ys a)) (λ (a : Has x (y ∷ [])). last a) (has_append x (reverse ys) (y ∷ []) (subst (Has x) (reverse-append (y ∷ []) ys) h))
-  where
-    last : Has x (y ∷ []) → Has x (y ∷ ys)
-    last (inl e) = inl e
-    last (inr z) = absurd z
-
 -- what stands for a scene
 abbrev PlaysIn : ℕ → Scene → Type 0
 PlaysIn net w = Plays net w.config w.cores w.incs w.sent (records_of w.before)
 
 config_is : (c : Config) (w : Scene) → Reached c w → w.config ≡ c
-config_is c _ Nothing = refl
-config_is c _ (AllStart fixed) = all (nodes_of c.nodes) (record (nothing_yet c) { before = record { event = None; records = [] } ∷ [] }) refl
-  where
-    one : (w : Scene) (n : ℕ) (o : Option Core) → w.config ≡ c → (starts_too w n o).config ≡ c
-    one w n (Some s) e = e
-    one w n None e = e
-
-    all : (ns : List ℕ) (w : Scene) → w.config ≡ c → (fold (λ (w : Scene) n. starts_too w n (w.cores n)) w ns).config ≡ c
-    all [] w e = e
-    all (n ∷ ns) w e = all ns (starts_too w n (w.cores n)) (one w n (w.cores n) e)
-config_is c _ (Starts w n e k free real down) = config_is c w k
-config_is c _ (Stops w n e s k up) = config_is c w k
-config_is c _ (Steps w n f s e v k up arises) = config_is c w k
-config_is c _ (Notes w e rs k notes) = config_is c w k
+config_is c w k = config_of anyhow c w (reached_ran c w k)
 
 -- a node that starts sends nothing
 no_sends : (c : Config) (n j : ℕ) → (started c n j).sends ≡ []
@@ -91,15 +72,13 @@ module _ (net : ℕ) where
   too_has (e ∷ before) rs r h =
       ⊎_elim (λ (a : Has r (reverse rs ++ e.records)). ⊎_elim (λ (b : Has r (reverse rs)). inl (reverse_has r rs b)) (λ (b : Has r e.records). inr (append_has_left r e.records (records_of before) b)) (has_append r (reverse rs) e.records a)) (λ (a : Has r (records_of before)). inr (append_has_right r e.records (records_of before) a)) (has_append r (reverse rs ++ e.records) (records_of before) h)
 
-  all_start : (c : Config) (ns : List ℕ) (w : Scene) → length (addresses_on c net) ≤ 32 → is_fixed c.mode ≡ true → w.config ≡ c → PlaysIn net w → PlaysIn net (fold (λ (w : Scene) n. starts_too w n (w.cores n)) w ns)
-  all_start c [] w few fixed same p = p
-  all_start c (n ∷ ns) w few fixed same p = let q = by (w.cores n) refl in all_start c ns (starts_too w n (w.cores n)) few fixed q.0 q.1
+  all_start : (c : Config) → length (addresses_on c net) ≤ 32 → is_fixed c.mode ≡ true → PlaysIn net (all_started c)
+  all_start c few fixed = (all_start_holds c (PlaysIn net) one (nothing_stands c [] (λ r h. h))).1
     where
-      by : (o : Option Core) → w.cores n ≡ o → ((starts_too w n o).config ≡ c) × PlaysIn net (starts_too w n o)
-      by (Some s) e = (same, p)
-      by None e =
-          let here : is_fixed w.config.mode ≡ true = ap (λ (z : Config). is_fixed z.mode) same ∙ fixed in
-          (same, start_plays net w.config w.cores w.incs w.sent (records_of w.before) (records_of (starts_too w n None).before) n (subst (λ z. length (addresses_on z net) ≤ 32) (sym same) few) (λ free. absurd (cc)) e (λ r h. too_has w.before (started w.config n (w.incs n + 1)).records r h) p)
+      one : (w : Scene) (n : ℕ) → Opened c w → Has n (nodes_of c.nodes) → w.cores n ≡ None → PlaysIn net w → PlaysIn net (starts_too w n None)
+      one w n k there down p =
+          let here : is_fixed w.config.mode ≡ true = ap (λ (z : Config). is_fixed z.mode) k.config ∙ fixed in
+          start_plays net w.config w.cores w.incs w.sent (records_of w.before) (records_of (starts_too w n None).before) n (subst (λ z. length (addresses_on z net) ≤ 32) (sym k.config) few) (λ free. absurd (cc)) down (λ r h. too_has w.before (started w.config n (w.incs n + 1)).records r h) p
 
   -- ---- a node stops
 
@@ -201,8 +180,7 @@ module _ (net : ℕ) where
 
   reached_plays : (c : Config) (w : Scene) → length (addresses_on c net) ≤ 32 → Reached c w → PlaysIn net w
   reached_plays c _ few Nothing = nothing_stands c [] (λ r h. h)
-  reached_plays c _ few (AllStart fixed) =
-      all_start c (nodes_of c.nodes) (record (nothing_yet c) { before = record { event = None; records = [] } ∷ [] }) few fixed refl (nothing_stands c [] (λ r h. h))
+  reached_plays c _ few (AllStart fixed) = all_start c few fixed
   reached_plays c _ few (Starts w n e k free real down) =
       let rs : List Happened = (started w.config n (w.incs n + 1)).records in
       let more : List Happened = reverse rs ++ records_of w.before in

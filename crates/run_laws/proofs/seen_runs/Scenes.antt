@@ -27,11 +27,14 @@ use Rattle.run_safety.specs.SafeLists.{Each}
 use Rattle.run_safety.proofs.Tests.{has_any}
 use Rattle.run_safety.proofs.Lives.{whole}
 use Rattle.step_refinement.specs.Tied.{Scene, NodeIs, NodeIsIf}
-use Rattle.step_refinement.specs.Rules.{at_node, over, ended, starts_too, with_records, nothing_yet, Arises}
+use Rattle.step_refinement.specs.Rules.{at_node, over, ended, starts_too, with_records, nothing_yet, all_started, Arises}
 use Rattle.step_refinement.specs.Runs.{IsNote, Reached, Nothing, AllStart, Starts, Stops, Steps, Notes}
 use Rattle.step_refinement.proofs.Changed.{set_here, set_there, each_set}
 use Rattle.step_refinement.proofs.RunLaw.{reached_rests}
-use Rattle.row_laws.proofs.hearing.Listening.{reverse_has, steps_change}
+use Rattle.run_induction.proofs.Idle.{reverse_has}
+use Rattle.run_induction.proofs.Ran.{Opened, opened_inc, all_start_holds}
+use Rattle.row_laws.proofs.hearing.Listening.{steps_change}
+use Rattle.row_laws.proofs.hearing.Incarnations.{incs_of}
 use Rattle.run_laws.proofs.seen_runs.LineRules.{bare, Entered, last_in, LinesSeen}
 use Rattle.run_laws.proofs.seen_runs.LineLaws.{lines_seen}
 use Rattle.run_laws.proofs.seen_runs.LastViews.{entered_by, at_last}
@@ -39,7 +42,7 @@ use Rattle.run_laws.proofs.seen_runs.Froms.{in_kept}
 use Rattle.run_laws.proofs.seen_runs.Shown.{AllShow}
 use Rattle.run_laws.proofs.seen_runs.Steps.{Mine, step_mine}
 use Rattle.run_laws.proofs.seen_runs.Nodes.{NodeShown, Here, step_shown}
-use Rattle.run_laws.proofs.seen_runs.Starting.{AllIn, start_within, start_records, start_others, start_ups}
+use Rattle.run_laws.proofs.seen_runs.Starting.{AllIn, start_within, start_records, start_ups}
 
 pub all_show : (c : Config) (w : Scene) → Reached c w → AllShow w.before
 all_show c w k g = let t = reached_rests c w k g in subst (λ l. LinesSeen (bare l)) t.lines (lines_seen t.life)
@@ -47,7 +50,6 @@ all_show c w k g = let t = reached_rests c w k g in subst (λ l. LinesSeen (bare
 -- numbers of incarnations rise
 record Numbers (incs : ℕ → ℕ) (before : History) : Type 0 where
   upto : (m k : ℕ) → Has (happened.Up m k) (records_of before) → k ≤ incs m
-  inc : (m : ℕ) → inc_now m (records_of before) ≡ incs m
   rules : Each NodeShown before
 
 -- ---- records by which no node starts
@@ -55,21 +57,6 @@ record Numbers (incs : ℕ → ℕ) (before : History) : Type 0 where
 abbrev Quiet : Happened → Type 0
 Quiet (happened.Up m j) = ⊥
 Quiet _ = Unit {0}
-
-quiet_inc : (m : ℕ) (r : Happened) (old : ℕ) → Quiet r → inc_after m r old ≡ old
-quiet_inc m (happened.Up n j) old q = absurd q
-quiet_inc m (happened.Down n) old q = refl
-quiet_inc m (happened.Ring n net id ms x) old q = refl
-quiet_inc m (happened.In n v ms) old q = refl
-quiet_inc m (happened.Base n v g u len s) old q = refl
-quiet_inc m (happened.Put n v g i e) old q = refl
-quiet_inc m (happened.Heard p v g i e ms value) old q = refl
-quiet_inc m (happened.Cast p proto phase vote value message) old q = refl
-quiet_inc m (happened.Asked p r g x) old q = refl
-quiet_inc m (happened.Told p r why) old q = refl
-quiet_inc m (happened.Noted n c v i t) old q = refl
-quiet_inc m (happened.Refused n c f) old q = refl
-quiet_inc m (happened.Shown n l) old q = refl
 
 mine_quiet : (n : ℕ) (r : Happened) → Mine n r → Quiet r
 mine_quiet n (happened.Up m j) a = a
@@ -96,10 +83,6 @@ note_shown rs (happened.Refused m c f) a = record { later = tt; rising = tt; amo
 note_shown rs (happened.Shown m l) a = record { later = tt; rising = tt; among = tt; in_view = tt }
 note_shown rs _ a = absurd a
 
-quiet_now : (m : ℕ) (rs xs : List Happened) → ((r : Happened) → Has r rs → Quiet r) → inc_now m (rs ++ xs) ≡ inc_now m xs
-quiet_now m [] xs q = refl
-quiet_now m (r ∷ rs) xs q = quiet_inc m r (inc_now m (rs ++ xs)) (q r (inl refl)) ∙ quiet_now m rs xs (λ s h. q s (inr h))
-
 quiet_up : (m k : ℕ) (rs xs : List Happened) → ((r : Happened) → Has r rs → Quiet r) → Has (happened.Up m k) (rs ++ xs) → Has (happened.Up m k) xs
 quiet_up m k rs xs q h = ⊎_elim (λ (a : Has (happened.Up m k) rs). absurd (q (happened.Up m k) a)) (λ (a : Has (happened.Up m k) xs). a) (has_append (happened.Up m k) rs xs h)
 
@@ -108,7 +91,6 @@ quietly : (incs : ℕ → ℕ) (before : History) (o : Option Event) (rs : List 
 quietly incs before o rs quiet all k =
     record {
       upto = λ m j h. k.upto m j (quiet_up m j rs (records_of before) quiet h);
-      inc = λ m. quiet_now m rs (records_of before) quiet ∙ k.inc m;
       rules = (all, k.rules);
     }
 
@@ -152,7 +134,6 @@ started_too : (c : Config) (n : ℕ) (incs : ℕ → ℕ) (o q : Option Event) (
 started_too c n incs o q now before member k =
     record {
       upto = λ m i h. bounded m i (start_ups c n j now before m i (subst (λ l. Has (happened.Up m i) (l ++ records_of before)) is h));
-      inc = λ m. ap (λ l. inc_now m (l ++ records_of before)) is ∙ inc_at m (cases_eq m n);
       rules = (subst (λ l. AllIn l before) (sym is) shown.0, k.rules.1);
     }
   where
@@ -172,43 +153,15 @@ started_too c n incs o q now before member k =
     bounded m i (inl e) = subst (λ z. i ≤ at_node incs n (incs n + 1) z) (sym e.0) (subst (λ z. i ≤ z) (sym (set_here incs n (incs n + 1))) (let z = e.1 in omega arith))
     bounded m i (inr h) = let a = k.upto m i h in let b = grows m in omega arith
 
-    inc_at : (m : ℕ) → (m ≡ n) ⊎ (m ≢ n) → inc_now m ((happened.In n (first_view c c.mode n j) (first_members c c.mode n j) ∷ (reverse (map (ring_record n) (own_rings c c.mode n j)) ++ happened.Up n j ∷ now)) ++ records_of before) ≡ at_node incs n (incs n + 1) m
-    inc_at m (inl e) = subst (λ z. inc_now z ((happened.In n (first_view c c.mode n j) (first_members c c.mode n j) ∷ (reverse (map (ring_record n) (own_rings c c.mode n j)) ++ happened.Up n j ∷ now)) ++ records_of before) ≡ at_node incs n (incs n + 1) z) (sym e) (shown.1 ∙ sym (set_here incs n (incs n + 1)))
-    inc_at m (inr ne) = start_others c n j now before m ne ∙ k.inc m ∙ sym (set_there incs n (incs n + 1) m ne)
-
 -- ---- in mode fixed all start at once
 
-record Opens (c : Config) (w : Scene) : Type 0 where
-  numbers : Numbers w.incs w.before
-  config : w.config ≡ c
-  idle : (m : ℕ) → w.cores m ≡ None → w.incs m ≡ 0
-
-module _ (c : Config) (fixed : is_fixed c.mode ≡ true) where
-  opens_too : (w : Scene) (n : ℕ) (o : Option Core) → w.cores n ≡ o → Has n (nodes_of c.nodes) → Opens c w → Opens c (starts_too w n o)
-  opens_too w n (Some s) e there k = k
-  opens_too w n None e there k =
-      record {
-        numbers = with_before w.before k.numbers;
-        config = k.config;
-        idle = λ m. each_set (λ m (x : Option Core). x ≡ None → at_node w.incs n (w.incs n + 1) m ≡ 0) w.cores n (Some (started w.config n (w.incs n + 1))) (λ z. absurd (cc)) (λ m ne z. set_there w.incs n (w.incs n + 1) m ne ∙ k.idle m z) m;
-      }
-    where
-      member : is_member (first_members w.config w.config.mode n (w.incs n + 1)) n (w.incs n + 1) ≡ true
-      member =
-          subst (λ (z : Config × ℕ). is_member (first_members z.0 z.0.mode n (z.1 + 1)) n (z.1 + 1) ≡ true) (λ i. (sym k.config i, sym (k.idle n e) i)) (fixed_member c n fixed there)
-
-      with_before : (h : History) → Numbers w.incs h → Numbers (at_node w.incs n (w.incs n + 1)) (with_records h (started w.config n (w.incs n + 1)).records)
-      with_before [] q =
-          let z = started_too w.config n w.incs None None [] [] member (record { upto = q.upto; inc = q.inc; rules = (tt, tt) }) in
-          subst (λ l. Numbers (at_node w.incs n (w.incs n + 1)) (record { event = None; records = l } ∷ [])) (append-nil (reverse (started w.config n (w.incs n + 1)).records)) z
-      with_before (x ∷ before) q =
-          let z = started_too w.config n w.incs x.event x.event x.records before member (record { upto = q.upto; inc = q.inc; rules = q.rules }) in
-          record { upto = z.upto; inc = z.inc; rules = z.rules }
-
-  opens_all : (ns : List ℕ) (w : Scene) → ((n : ℕ) → Has n ns → Has n (nodes_of c.nodes)) → Opens c w → Opens c (fold (λ (w : Scene) n. starts_too w n (w.cores n)) w ns)
-  opens_all [] w there k = k
-  opens_all (n ∷ ns) w there k =
-      opens_all ns (starts_too w n (w.cores n)) (λ m h. there m (inr h)) (opens_too w n (w.cores n) refl (there n (inl refl)) k)
+all_numbered : (c : Config) → is_fixed c.mode ≡ true → Numbers (all_started c).incs (all_started c).before
+all_numbered c fixed = (all_start_holds c (λ w. Numbers w.incs w.before) one (record { upto = λ m k h. absurd h; rules = (tt, tt) })).1
+  where
+    one : (w : Scene) (n : ℕ) → Opened c w → Has n (nodes_of c.nodes) → w.cores n ≡ None → Numbers w.incs w.before → Numbers (at_node w.incs n (w.incs n + 1)) (with_records w.before (started w.config n (w.incs n + 1)).records)
+    one w n k there down numbers =
+        let member : is_member (first_members w.config w.config.mode n (w.incs n + 1)) n (w.incs n + 1) ≡ true = subst (λ (z : Config × ℕ). is_member (first_members z.0 z.0.mode n (z.1 + 1)) n (z.1 + 1) ≡ true) (λ i. (sym k.config i, sym (opened_inc c w n k down) i)) (fixed_member c n fixed there) in
+        subst (λ h. Numbers (at_node w.incs n (w.incs n + 1)) (with_records h (started w.config n (w.incs n + 1)).records)) (sym k.before) (started_too w.config n w.incs None None k.records [] member (subst (Numbers w.incs) k.before numbers))
 
 -- ---- a step
 
@@ -240,7 +193,7 @@ numbers_step c w n f s e v k up arises old =
           view = s.views.view;
           last = ap (λ l. last_in n (kept l)) (sym t.lines) ∙ (at_last t.life n).0 a ∙ (λ i. Some (record { inc = (own.0.stands.inc ∙ own.2) i; view = own.0.stands.view i }));
           is = t.placed n s up;
-          inc_is = old.inc n;
+          inc_is = incs_of c w k n;
         }
 
     -- after it
@@ -260,9 +213,8 @@ numbers_step c w n f s e v k up arises old =
 -- ---- every scene
 
 numbered : (c : Config) (w : Scene) → Reached c w → Numbers w.incs w.before
-numbered c _ Nothing = record { upto = λ m k h. absurd h; inc = λ m. refl; rules = tt }
-numbered c _ (AllStart fixed) =
-    (opens_all c fixed (nodes_of c.nodes) (record (nothing_yet c) { before = record { event = None; records = [] } ∷ [] }) (λ n h. h) (record { numbers = record { upto = λ m k h. absurd h; inc = λ m. refl; rules = (tt, tt) }; config = refl; idle = λ m e. refl })).numbers
+numbered c _ Nothing = record { upto = λ m k h. absurd h; rules = tt }
+numbered c _ (AllStart fixed) = all_numbered c fixed
 numbered c _ (Starts w n e k real nz down) =
     let old = numbered c w k in
     let z = started_too w.config n w.incs None (Some e) [] w.before (first_member w.config n (w.incs n + 1) real) (quietly w.incs w.before None [] (λ r h. absurd h) tt old) in

@@ -17,7 +17,7 @@ use Rattle.node_state.specs.State.{with_sessions}
 use Rattle.node_state.specs.Step.{started, ring_record, own_rings, first_view, first_members}
 use Rattle.run_safety.specs.Past.{History, records_of, Within, view_now, inc_now}
 use Rattle.run_safety.specs.SafeLists.{is_later}
-use Rattle.row_laws.proofs.hearing.Listening.{reverse_has}
+use Rattle.run_induction.proofs.Idle.{reverse_has}
 use Rattle.run_laws.proofs.seen_runs.Nodes.{NodeShown}
 
 abbrev pub ShownIn : History → List Happened → Happened → Type 0
@@ -25,13 +25,6 @@ ShownIn before now r = NodeShown (now ++ records_of before) r
 
 abbrev pub AllIn : List Happened → History → Type 0
 AllIn now before = Within (λ now before r. NodeShown (now ++ records_of before) r) now before
-
--- rings change no incarnation
-inc_rings : (n m : ℕ) (qs now : List Happened) (before : History) → ((r : Happened) → Has r qs → (x : Ring) × (r ≡ ring_record n x)) → inc_now m ((qs ++ now) ++ records_of before) ≡ inc_now m (now ++ records_of before)
-unfolding ring_record
-inc_rings n m [] now before are = refl
-inc_rings n m (r ∷ qs) now before are =
-    let x = are r (inl refl) in ap (λ z. inc_now m (z ∷ (qs ++ now) ++ records_of before)) x.1 ∙ inc_rings n m qs now before (λ q h. are q (inr h))
 
 module _ (c : Config) (n j : ℕ) (now : List Happened) (before : History) where
   abbrev v : ViewId
@@ -74,16 +67,7 @@ module _ (c : Config) (n j : ℕ) (now : List Happened) (before : History) where
   start_records =
       ap (λ l. l ++ now) (reverse-append (happened.Up n j ∷ rings) (happened.In n v ms ∷ []) ∙ ap (λ l. happened.In n v ms ∷ l) (reverse-append (happened.Up n j ∷ []) rings)) ∙ ap (λ l. happened.In n v ms ∷ l) (append_assoc (reverse rings) (happened.Up n j ∷ []) now)
 
-  -- the incarnations of other nodes are as they were, and no other node starts
-  pub start_others : (m : ℕ) → m ≢ n → inc_now m ((happened.In n v ms ∷ (reverse rings ++ first)) ++ records_of before) ≡ inc_now m (now ++ records_of before)
-  start_others m ne = past (reverse rings) (λ r h. let k = has_map (ring_record n) r (own_rings c c.mode n j) (reverse_has r rings h) in (k.0, k.2)) ∙ up
-    where
-      up : inc_now m (first ++ records_of before) ≡ inc_now m (now ++ records_of before)
-      up = grind (arith, nat_tests)
-
-      past : (qs : List Happened) → ((r : Happened) → Has r qs → (x : Ring) × (r ≡ ring_record n x)) → inc_now m ((qs ++ first) ++ records_of before) ≡ inc_now m (first ++ records_of before)
-      past qs are = inc_rings n m qs first before are
-
+  -- no other node starts
   pub start_ups : (m k : ℕ) → Has (happened.Up m k) ((happened.In n v ms ∷ (reverse rings ++ first)) ++ records_of before) → ((m ≡ n) × (k ≡ j)) ⊎ Has (happened.Up m k) (now ++ records_of before)
   unfolding ring_record
   start_ups m k (inl e) = absurd (cc)

@@ -7,11 +7,11 @@ use Rattle.group_members.proofs.entries.put_next.Goals as goal
 pub returns-clause-work : goal.returns-clause-work
 returns-clause-work g c =
     on_ok_weaker c.follow.result
-    (work_row c.put_and_hand.new.core c.follow.new.core _ c.put_and_hand.new.clients.items c.in_ok-put_and_hand.ensures.work (followed_keeps c.args.from c.args.group.now c.args.stable c.put_and_hand.new.core))
+    (work_row c.put_and_hand.new.core c.follow.new.core _ c.put_and_hand.new.clients.items c.in_ok-put_and_hand.ensures.work (followed_keeps c.args.from c.args.placed.now.group.now c.args.placed.now.stable c.put_and_hand.new.core))
     c.follow.ensures
 
 pub returns-clause-does : goal.returns-clause-does
 returns-clause-does g c =
     on_ok_weaker c.follow.result
-    (next_does _ _ c.args.core.now c.put_and_hand.new.core c.follow.new.core c.args.from c.args.group.now c.args.stable c.args.entry.now c.in_ok-put_and_hand.ensures.does)
+    (next_does _ _ c.args.core.now c.put_and_hand.new.core c.follow.new.core c.args.from c.args.placed.now.group.now c.args.placed.now.stable c.args.placed.now.entry.now c.in_ok-put_and_hand.ensures.does)
     c.follow.ensures

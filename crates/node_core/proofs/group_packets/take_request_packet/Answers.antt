@@ -8,4 +8,4 @@ pub returns-then-not-is_used-clause-does : goal.returns-then-not-is_used-clause-
 returns-then-not-is_used-clause-does g c = unused_does _ _ (receive_nothing _ _) c.args.core.now _ _ (cc)
 
 pub returns-clause-does : goal.returns-clause-does
-returns-clause-does g c = on_ok_weaker c.take_request.result (λ done. used_does _ _ c.args.core.now c.take_request.new.core _ _ (cc) done) (rw (c.in_ok-name.ensures, c.in_ok-own.ensures.ok) at c.take_request.ensures.does)
+returns-clause-does g c = on_ok_weaker c.take_request.result (λ done. used_does _ _ c.args.core.now c.take_request.new.core _ _ (cc) done) (rw (c.in_ok-name_of.ensures, c.in_ok-own.ensures.ok) at c.take_request.ensures.does)

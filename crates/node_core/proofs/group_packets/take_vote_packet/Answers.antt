@@ -10,4 +10,4 @@ returns-then-not-is_used-clause-does g c = unused_does _ _ (receive_nothing _ _)
 pub returns-clause-does : goal.returns-clause-does
 returns-clause-does g c =
     on_ok_weaker c.take_vote.result (λ done. used_does _ _ c.args.core.now c.take_vote.new.core _ _ (cc) done)
-    (rw (c.in_ok-name.ensures, c.as_ref.ensures.value, c.as_ref-2.ensures.value, c.in_ok-value.ensures, c.in_ok-message.ensures) at c.take_vote.ensures.does)
+    (rw (c.in_ok-name.ensures, c.in_ok-optional_text_of.ensures, c.in_ok-optional_text_of-2.ensures) at c.take_vote.ensures.does)

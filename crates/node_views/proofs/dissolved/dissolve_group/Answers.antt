@@ -11,5 +11,5 @@ pub returns-in_ok-dissolve_each-in-Some-clause-does : goal.returns-in_ok-dissolv
 returns-in_ok-dissolve_each-in-Some-clause-does g c =
     on_ok_weaker c.dissolve_each-in-Some.result
     (λ next. list_does _ _ _ _ (receive_then _ _ _ _) c.args.old c.args.bases.now c.args.core.now c.dissolve_each.new.core c.dissolve_each-in-Some.new.core c.args.row.now c.in-Some.list _ c.in-Some.is (rw c.bytes.ensures.value at c.base_named-base.ensures)
-    (rw (c.as_slice.ensures.value, c.state-state.ensures.value) at c.in_ok-dissolve_each-in-Some.ensures.does) (rw (c.joiners_in.ensures, c.state-state.ensures.value) at next))
+    (rw (c.as_slice.ensures.value, c.state-state.ensures.value) at c.in_ok-dissolve_each-in-Some.ensures.does) (rw (c.joiners.ensures.value, c.state-state.ensures.value) at next))
     (rw c.in_ok-dissolve_each-in-Some.ensures.scripts at c.dissolve_each-in-Some.ensures.does)
