@@ -24,7 +24,6 @@ use Rattle.node_state.specs.State.{led_of, state_of, fits_at_end, others, least_
 use Rattle.node_state.specs.HandOn.{Answering}
 use Rattle.node_state.specs.Leading.{put, appended, append_if_fits, tally_set, tally_opened, closing_entry, is_phase, closes_from, closes, begin_many, begins}
 use Rattle.node_state.specs.Deciding.{refused}
-
 use Rattle.node_state.specs.Ticks.{late_appended}
 use Rattle.vote_phases.specs.Tally.{open_voters}
 use Rattle.proposal_core.specs.declared.group_state.Running.{Running}

@@ -30,7 +30,6 @@ use Rattle.node_state.specs.State.{with_led, led_of, state_of, len_of, list_forg
 use Rattle.node_state.specs.Sending.{send_on, sent, send_all, send_if_known, network_to, vote_of}
 use Rattle.node_state.specs.HandOn.{Answering, fills, heard, note_of, notes, noted, ballot_sent, cast_sent_of, casts_sent, hand_on}
 use Rattle.node_state.specs.Leading.{put, put_and_hand, forget_least, with_waiting, wait_if, new_members_wait, appended}
-
 use Rattle.step_walk.proofs.Waiting.{Few, Apart, MildWaits, fails_few, fails_apart}
 use Rattle.rsct_packet.specs.Providers.{differ}
 use Rattle.proposal_core.specs.Lists.{list_or_new}

@@ -294,4 +294,3 @@ voted_more s m v value = session (is_empty s.sessions)
 pub last_is : (xs : List KeptBallot) (k : KeptBallot) (o : Option KeptBallot) → last_or o (xs ++ k ∷ []) ≡ Some k
 last_is [] k o = refl
 last_is (x ∷ xs) k o = last_is xs k (Some x)
-

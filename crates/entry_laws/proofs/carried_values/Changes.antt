@@ -390,7 +390,6 @@ module _ (h : Course) where
           by None = refl
           by (Some b) = refl
 
-
   -- a vote is recorded and kept
   votes : (s : Core) (t : SessionState) (m : OneMore s.sessions t) → Full h s → Full h (recorded (with_sessions s t) (happened.Cast m.ballot.p m.ballot.proto m.ballot.phase m.filled.vote m.filled.value m.filled.message))
   unfolding recorded with_sessions
