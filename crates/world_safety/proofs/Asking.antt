@@ -21,12 +21,12 @@ use Rattle.entry_laws.specs.source_order.Sources.{PutBefore}
 use Rattle.world_laws.specs.world_answers.Answers.{Answered, goes_on, answered_after, worded, worded_from, all_worded}
 use Rattle.world_safety.specs.Mirrors.{core_at}
 use Rattle.world_safety.specs.Askers.{LooksUp, FirstAsks, RecordLed}
-use Rattle.world_safety.specs.Samples.{history_after, db, two, two_view, lookup_of, until_asked, asks_first, after_asked, two_ask, two_asked}
+use Rattle.world_safety.specs.Samples.{history_after, db, two, two_view, lookup_of, until_asked, asks_first, second_leads, first_leads, two_ask, second_led, first_led}
 use Rattle.world_safety.specs.Opens.{all_opens}
 
-pub two_asked_is : history_after two two_ask ≡ two_asked 2 1
+pub second_led_is : history_after two (two_ask second_leads) ≡ second_led
 unfolding all_opens
-two_asked_is = refl
+second_led_is = refl
 
 -- ---- who asks first
 
@@ -86,21 +86,27 @@ abbrev core_or : Option Core → Core
 core_or None = started two 1 1
 core_or (Some s) = s
 
-pub second_node_asks_first : FirstAsks two (all_worded two two_ask) two_view db 2
+second_node_asks_first : (then : List Event) → FirstAsks two (all_worded two (two_ask then)) two_view db 2
 unfolding all_opens
-second_node_asks_first =
+second_node_asks_first then =
     record {
       before = all_worded two until_asked;
       event = worded (fold happens (world_new two) until_asked) asks_first;
-      rest = worded_from (happens (fold happens (world_new two) until_asked) asks_first) after_asked;
-      at = worded_at (world_new two) until_asked after_asked asks_first;
+      rest = worded_from (happens (fold happens (world_new two) until_asked) asks_first) then;
+      at = worded_at (world_new two) until_asked then asks_first;
       asks = record { coordinator = core_or (core_at (answered_after two (all_worded two until_asked)).nodes 1); up = refl; coordinates_it = refl; sender = 2; number = 3; happens = refl; packet = lookup_of 2; given = refl; to = refl; from = refl; looks_up = refl; used = refl };
       first = λ k. none_asks two_view db (all_worded two until_asked) k.before k.rest (world_new two) k.event k.asker nobody_asked k.at k.asks;
     }
 
+pub second_asks_and_leads : FirstAsks two (all_worded two (two_ask second_leads)) two_view db 2
+second_asks_and_leads = second_node_asks_first second_leads
+
+pub second_asks_and_first_leads : FirstAsks two (all_worded two (two_ask first_leads)) two_view db 2
+second_asks_and_first_leads = second_node_asks_first first_leads
+
 -- ---- who leads
 
-pub second_node_leads : EachRecord (RecordLed 2 two_view db) (two_asked 2 1)
+pub second_node_leads : EachRecord (RecordLed 2 two_view db) second_led
 unfolding all_opens
 second_node_leads =
     (((λ u h. inr (2, _, inr (inl refl))), tt), ((tt, ((λ u h. inl refl), tt)), (tt, (tt, ((tt, tt), (tt, (tt, ((tt, tt), (tt, ((tt, tt), ((tt, tt), (tt, (tt, ((tt, (tt, tt)), ((tt, (tt, tt)), tt)))))))))))))))
@@ -109,12 +115,12 @@ abbrev is_put : Happened → Bool
 is_put (Put m v g i e) = true
 is_put _ = false
 
-pub first_node_leads : EachRecord (RecordLed 2 two_view db) (two_asked 1 2) → ⊥
+pub first_node_leads : EachRecord (RecordLed 2 two_view db) first_led → ⊥
 unfolding all_opens
-first_node_leads k = by (k.1.0.1.0 refl refl)
+first_node_leads k = by (k.1.0.0 refl refl)
   where
     rs : List Happened
-    rs = records_of (drop 2 (two_asked 1 2))
+    rs = records_of (drop 2 first_led)
 
     by : (◌≡◌ {A = ℕ} 1 2) ⊎ PutBefore rs two_view db 0 → ⊥
     by (inl e) = absurd (cc)

@@ -166,17 +166,24 @@ unfoldable pub until_asked : List Event
 until_asked =
     event.Start 1 ∷ event.Start 2 ∷ event.Ask 1 (mask_of (1 ∷ 2 ∷ [])) ∷ event.Deliver 1 2 1 ∷ event.Deliver 2 1 1 ∷ event.Deliver 1 2 2 ∷ comes 2 (codes "a") ∷ joins 2 (codes "a") db 7 empty_attrs ∷ []
 
--- node 1 takes that, and then what it asks itself for a client of its own; node 2 is told that it leads, and takes its client's
--- request; node 1 takes the entry
+-- node 1 takes what it asks itself for a client of its own; node 2 is told who leads
 unfoldable pub after_asked : List Event
-after_asked =
-    comes 1 (codes "b") ∷ joins 1 (codes "b") db 8 empty_attrs ∷ event.Deliver 1 1 1 ∷ event.Deliver 1 2 3 ∷ event.Deliver 2 2 1 ∷ event.Deliver 2 1 4 ∷ []
+after_asked = comes 1 (codes "b") ∷ joins 1 (codes "b") db 8 empty_attrs ∷ event.Deliver 1 1 1 ∷ event.Deliver 1 2 3 ∷ []
+
+-- it is itself: it takes its client's request, and node 1 takes the entry
+unfoldable pub second_leads : List Event
+second_leads = after_asked ++ event.Deliver 2 2 1 ∷ event.Deliver 2 1 4 ∷ []
+
+-- it is node 1, which takes that request, and node 2 takes the entry
+unfoldable pub first_leads : List Event
+first_leads = after_asked ++ event.Deliver 2 1 4 ∷ event.Deliver 1 2 4 ∷ []
 
 abbrev pub asks_first : Event
 asks_first = event.Deliver 2 1 3
 
-unfoldable pub two_ask : List Event
-two_ask = until_asked ++ asks_first ∷ after_asked
+-- node 2 asks first, and then this happens
+unfoldable pub two_ask : List Event → List Event
+two_ask then = until_asked ++ asks_first ∷ then
 
 abbrev pub two_members : List Member
 two_members = one_member ∷ record { node = 2; inc = 1 } ∷ []
@@ -195,13 +202,10 @@ first_asker = record { node = 2; inc = 1; instance = 7; join = 1 }
 abbrev pub second_asker : ProviderId
 second_asker = record { node = 1; inc = 1; instance = 8; join = 1 }
 
--- what is recorded where this node puts the first entry, and that one puts it next
-unfoldable pub two_asked : ℕ → ℕ → History
-two_asked leader follower =
-    let e : Entry = Once (join_of first_asker empty_attrs None) in
-    happening (event.Deliver 2 1 4) (happened.Put follower two_view db 0 e ∷ [])
-    ∷ happening (event.Deliver 2 2 1) (happened.Heard first_asker two_view db 0 e (first_asker ∷ []) [] ∷ happened.Put leader two_view db 0 e ∷ [])
-    ∷ happening (event.Deliver 1 2 3) []
+-- what is recorded until node 2 knows who leads
+unfoldable pub until_named : History
+until_named =
+    happening (event.Deliver 1 2 3) []
     ∷ happening (event.Deliver 1 1 1) []
     ∷ happening (joins 1 (codes "b") db 8 empty_attrs) (asks second_asker db empty_attrs)
     ∷ happening (comes 1 (codes "b")) []
@@ -215,6 +219,20 @@ two_asked leader follower =
     ∷ alone 2
     ∷ alone 1
     ∷ []
+
+-- a node puts the entry of the first asker, and the provider hears it
+abbrev pub puts_first : ℕ → Happened
+puts_first n = happened.Put n two_view db 0 (Once (join_of first_asker empty_attrs None))
+
+abbrev pub first_hears : Happened
+first_hears = happened.Heard first_asker two_view db 0 (Once (join_of first_asker empty_attrs None)) (first_asker ∷ []) []
+
+-- where node 2 leads, and where node 1 does
+unfoldable pub second_led : History
+second_led = happening (event.Deliver 2 1 4) (puts_first 1 ∷ []) ∷ happening (event.Deliver 2 2 1) (first_hears ∷ puts_first 2 ∷ []) ∷ until_named
+
+unfoldable pub first_led : History
+first_led = happening (event.Deliver 1 2 4) (first_hears ∷ puts_first 2 ∷ []) ∷ happening (event.Deliver 2 1 4) (puts_first 1 ∷ []) ∷ until_named
 
 -- ---- whose state a group goes on with: two nodes, in mode asked, each at first alone
 
@@ -326,5 +344,5 @@ start_after c es n g = start_of_node (core_at (answered_after c (all_worded c es
 
 -- opens each word of this file, for a computation
 unfoldable pub samples_opens : Unit {0}
-unfolding history_after two_join two_joined target_joins target_joined until_asked after_asked two_ask two_asked two_sides two_merged more_win fewer_win none_wins two_entries sent_after start_after
+unfolding history_after two_join two_joined target_joins target_joined until_asked after_asked second_leads first_leads two_ask until_named second_led first_led two_sides two_merged more_win fewer_win none_wins two_entries sent_after start_after
 samples_opens = tt

@@ -9,7 +9,7 @@ ghost use Rattle.entry_laws.specs.closing_rows.Rows.{WasTold};
 ghost use Rattle.entry_laws.specs.source_order.Sources.{FirstsFollowSources};
 ghost use Rattle.world_laws.specs.world_answers.Answers.{all_worded};
 ghost use Rattle.world_safety.specs.Askers.{FirstAsks, RecordLed};
-ghost use Rattle.world_safety.specs.Samples.{history_after, db, one, two_join, two_joined, limited, target_joins, target_joined, sourced, two, two_view, two_ask, two_asked, two_sides, more_win, fewer_win, none_wins, pair, one_view, two_entries, sent_after, start_after};
+ghost use Rattle.world_safety.specs.Samples.{history_after, db, one, two_join, two_joined, limited, target_joins, target_joined, sourced, two, two_view, second_leads, first_leads, two_ask, second_led, first_led, two_sides, more_win, fewer_win, none_wins, pair, one_view, two_entries, sent_after, start_after};
 
 /// Two clients join a group, one after the other: the entry of the first has the attributes that it asked for, since the group
 /// was empty and idle, and that of the second has the group's.
@@ -23,6 +23,12 @@ pub fn joins_have_what_is_meant()
 #[tactic(auto, using(crate::proofs::Samples::second_has_other_attributes))]
 pub fn other_attributes_are_refused()
     ensures { FirstsFollowSources (two_joined limited empty_attrs) → ⊥ }
+{}
+
+/// So are entries with empty attributes, whatever was asked for.
+#[tactic(auto, using(crate::proofs::Samples::first_has_no_attributes))]
+pub fn empty_attributes_are_refused()
+    ensures { FirstsFollowSources (two_joined empty_attrs empty_attrs) → ⊥ }
 {}
 
 /// A client joins a group whose attributes name a source: its entry carries the length of the source's list.
@@ -39,17 +45,18 @@ pub fn no_source_is_refused()
 {}
 
 /// Two nodes ask who leads a group without a base. Node 2 asks first, and puts first.
-#[tactic(auto, using(crate::proofs::Asking::two_asked_is, crate::proofs::Asking::second_node_asks_first, crate::proofs::Asking::second_node_leads))]
+#[tactic(auto, using(crate::proofs::Asking::second_led_is, crate::proofs::Asking::second_asks_and_leads, crate::proofs::Asking::second_node_leads))]
 pub fn first_asker_leads()
-    ensures records { history_after two two_ask ≡ two_asked 2 1 }
-    ensures asks { FirstAsks two (all_worded two two_ask) two_view db 2 }
-    ensures accepted { EachRecord (RecordLed 2 two_view db) (two_asked 2 1) }
+    ensures records { history_after two (two_ask second_leads) ≡ second_led }
+    ensures asks { FirstAsks two (all_worded two (two_ask second_leads)) two_view db 2 }
+    ensures accepted { EachRecord (RecordLed 2 two_view db) second_led }
 {}
 
-/// Where node 1 puts first, the records are refused.
-#[tactic(auto, using(crate::proofs::Asking::first_node_leads))]
+/// Where node 1, the coordinator, leads and puts first, the records are refused.
+#[tactic(auto, using(crate::proofs::Asking::second_asks_and_first_leads, crate::proofs::Asking::first_node_leads))]
 pub fn another_leader_is_refused()
-    ensures { EachRecord (RecordLed 2 two_view db) (two_asked 1 2) → ⊥ }
+    ensures asks { FirstAsks two (all_worded two (two_ask first_leads)) two_view db 2 }
+    ensures refused { EachRecord (RecordLed 2 two_view db) first_led → ⊥ }
 {}
 
 /// Two nodes meet, each with its own members of a group, two on one side and one on the other: the group goes on with the two.
