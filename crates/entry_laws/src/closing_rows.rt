@@ -1,6 +1,6 @@
 //! The rows of the entries that close phases, in every run.
 
-ghost use Rattle.entry_laws.specs.closing_rows.Rows.{RowsAreAlwaysVoters, TalliesAreOfVoters, EveryListStartsAsTold, PutsAreInOrder, PutsFit};
+ghost use Rattle.entry_laws.specs.closing_rows.Rows.{RowsAreAlwaysVoters, TalliesAreOfVoters, StepsForget, PutsAreInOrder, PutsFit};
 
 /// Each entry that closes a phase has rows that are one for each voter of the state before it, in the voters' order.
 #[tactic(auto, using(crate::proofs::closing_rows::Law::rows_are_voters))]
@@ -14,11 +14,12 @@ pub fn tallies_are_of_voters()
     ensures { TalliesAreOfVoters }
 {}
 
-/// What a node's list of a group lacks at its front is nothing, or the node was told to forget just that: an ENTRY that was sent
-/// to it in the view says that all members hold so many entries. Or the node leads the group.
-#[tactic(auto, using(crate::proofs::closing_rows::Law::lists_start_as_told))]
-pub fn lists_start_as_told()
-    ensures { EveryListStartsAsTold }
+/// In each step, a list of a group that the node does not lead comes to start where it did, or where the step tells it to, whichever is
+/// greater: an ENTRY of its view, which it takes, says that all members hold so many entries. In a view that the step enters it
+/// starts at 0.
+#[tactic(auto, using(crate::proofs::closing_rows::Law::steps_forget))]
+pub fn steps_forget()
+    ensures { StepsForget }
 {}
 
 /// The places of a node's puts of one view and group are 0, 1, 2 and on.

@@ -1,6 +1,6 @@
 -- The rows of packets of a view.
-use Rattle.std.proofs.Common.{◌≡◌, ◌⊎◌, ℕ, List, Option, Some, None, Bool, true, false, refl, sym, ap, ◌∙◌, subst, inl, inr}
-use Rattle.std.specs.Prelude.{◌==◌, ◌&&◌, ◌||◌, find, fold, reverse, nat_le, nat_lt, is_none}
+use Rattle.std.proofs.Common.{◌≡◌, ◌≤◌, ◌⊎◌, ℕ, ◌+◌, List, Option, Some, None, Bool, true, false, refl, sym, ap, ◌∙◌, subst, inl, inr, arith}
+use Rattle.std.specs.Prelude.{◌==◌, ◌&&◌, ◌||◌, find, fold, reverse, nat_le, nat_lt, is_none, is_some}
 use Rattle.std.specs.Option.{unwrap_or}
 use Rattle.rsct_packet.specs.declared.ids.ProviderId.{ProviderId}
 use Rattle.rsct_packet.specs.declared.ids.ProtoId.{ProtoId}
@@ -11,7 +11,8 @@ use Rattle.proposal_core.specs.declared.proposal.Proposal.{Proposal}
 use Rattle.proposal_core.specs.declared.entry.Entry.{Entry}
 use Rattle.proposal_core.specs.declared.entry.Vote.{Vote}
 use Rattle.proposal_core.specs.Fold.{runs, present}
-use Rattle.proposal_core.specs.Lists.{state_in, len_in}
+use Rattle.proposal_core.specs.GroupView.{GroupView}
+use Rattle.proposal_core.specs.Lists.{state_in, len_in, with_entry}
 use Rattle.batch_rules.specs.Waiting.{add_failure, drop_join}
 use Rattle.vote_phases.specs.Tally.{TallyView, tally_fail}
 use Rattle.name_server.specs.Names as names
@@ -33,13 +34,12 @@ use Rattle.node_state.specs.Following.{take_lookup, take_tell, requests_of, name
 use Rattle.run_safety.specs.Past.{earlier}
 use Rattle.node_state.proofs.NameOrder.{cases_text, row_here, row_there, rows_ordered}
 use Rattle.step_refinement.proofs.Appending.{handed_rows}
-use Rattle.entry_laws.specs.closing_rows.Rows.{TallyFits}
+use Rattle.entry_laws.specs.closing_rows.Rows.{TallyFits, start_in}
 use Rattle.row_laws.proofs.hearing.Changes.{put_handed_onward}
-use Rattle.entry_laws.specs.closing_rows.Rows.{WasTold}
-use Rattle.entry_laws.proofs.closing_rows.At.{found, leads_row, leads_is, RowIs, StartIs, ToldOf, Frame, PutFact, StateIs, calm_fold, At, at_for, at_fold, at_calm, at_table, at_row, list_with}
+use Rattle.entry_laws.proofs.closing_rows.At.{found, leads_row, leads_is, seat, RowStarts, RowIs, Frame, PutFact, StateIs, calm_fold, At, at_for, at_fold, at_calm, at_table, at_row, list_with}
 use Rattle.entry_laws.proofs.closing_rows.Calms.{calm_sent, request_calm, at_tell}
 use Rattle.entry_laws.proofs.closing_rows.Tallies.{failed_fits, voted_fits}
-use Rattle.entry_laws.proofs.closing_rows.Leading.{put_row, at_put_and_handed_for, at_led, at_waits, at_forgets, at_forgets_least, at_closes}
+use Rattle.entry_laws.proofs.closing_rows.Leading.{put_row, raised, at_put_and_handed_for, at_led, at_waits, at_forgets_least, at_told, at_told_less, at_closes}
 use Rattle.entry_laws.proofs.closing_rows.Ending.{Every, NoGroup, at_decided}
 
 -- a vote is counted
@@ -52,6 +52,15 @@ row_voted led row p v value message k = by row.led.tally refl k
     by (Some t) e (inl none) = let z : Some t ≡ None = sym e ∙ none in absurd (cc)
     by (Some t) e (inr j) = inr (j.0, voted_fits p v t (state_in row.list) (subst (λ z. TallyFits z (state_in row.list)) e j.1))
 
+-- an ENTRY is taken: at the end of the list one that fits there
+abbrev pub is_taken : Core → List ℕ → ℕ → Entry → Bool
+is_taken s g place e = elim (place == len_of s g) [ true ↦ fits_at_end s g e | false ↦ true ]
+
+-- then it tells a place
+abbrev pub told_if : Frame → List ℕ → ℕ → Bool → Frame
+told_if h g stable true = record h { floors = raised h.floors g stable }
+told_if h g stable false = h
+
 module _ (h : Frame) where
   abbrev Full : Core → Type 0
   Full s = At h Every NoGroup s
@@ -61,6 +70,7 @@ module _ (h : Frame) where
   unfolding set_leader with_row row_of
   at_led_by s g n own still a =
       record {
+        came = a.came;
         rows = record { order = rows_ordered g f (λ x. refl) s a.rows.order; starts = λ k. start k (cases_text g k); tallies = λ k u. tally k (cases_text g k); led = λ k z. absurd z };
         facts = a.facts;
         states = λ fresh. list_with (λ k l. StateIs s.views.me s.views.view k l (earlier (reverse s.records) h.history)) s g f (λ x. refl) a.rows.order (a.states fresh g) (λ k ne. a.states fresh k);
@@ -69,15 +79,19 @@ module _ (h : Frame) where
       f : GroupRow → GroupRow
       f row = record row { leader = Some n }
 
-      start_here : StartIs (ToldOf h.sent s g) (leads_row s (found s g)) (found s g).list → StartIs (ToldOf h.sent s g) (leads_row s (f (found s g))) (found s g).list
-      start_here (inl e) = inl e
-      start_here (inr (inl led)) = inr (inl (still led))
-      start_here (inr (inr told)) = inr (inr told)
+      unled : (b c : Bool) → (b ≡ true → c ≡ true) → c ≡ false → b ≡ false
+      unled false c on e = refl
+      unled true c on e = absurd (let z : true ≡ false = sym (on refl) ∙ e in cc)
 
-      start : (k : List ℕ) → (g ≡ k) ⊎ (g ≡ k → ⊥) → StartIs (ToldOf h.sent s k) (leads_row s (found (with_row s g f) k)) (found (with_row s g f) k).list
+      start_here : RowStarts h.floors (seat s) g (f (found s g))
+      start_here =
+          let old = a.rows.starts g in
+          record { told = λ e. old.told (unled (leads_row s (found s g)) (leads_row s (f (found s g))) still e); goes = λ e. still (old.goes e) }
+
+      start : (k : List ℕ) → (g ≡ k) ⊎ (g ≡ k → ⊥) → RowStarts h.floors (seat s) k (found (with_row s g f) k)
       start k (inl e) =
-          subst (λ z. StartIs (ToldOf h.sent s z) (leads_row s (found (with_row s g f) z)) (found (with_row s g f) z).list) e (subst (λ (z : GroupRow). StartIs (ToldOf h.sent s g) (leads_row s z) z.list) (sym (row_here g f (λ x. refl) s a.rows.order)) (start_here (a.rows.starts g)))
-      start k (inr ne) = subst (λ (z : GroupRow). StartIs (ToldOf h.sent s k) (leads_row s z) z.list) (sym (row_there g f (λ x. refl) s k ne)) (a.rows.starts k)
+          subst (λ z. RowStarts h.floors (seat s) z (found (with_row s g f) z)) e (subst (RowStarts h.floors (seat s) g) (sym (row_here g f (λ x. refl) s a.rows.order)) start_here)
+      start k (inr ne) = subst (RowStarts h.floors (seat s) k) (sym (row_there g f (λ x. refl) s k ne)) (a.rows.starts k)
 
       tally : (k : List ℕ) → (g ≡ k) ⊎ (g ≡ k → ⊥) → RowIs (leads_row s (found (with_row s g f) k)) (found (with_row s g f) k)
       tally k (inl e) =
@@ -196,17 +210,35 @@ module _ (h : Frame) where
       let leader = ap (λ (l : List GroupRow). (row_found g (find (has_name g) l)).leader) rows.0 ∙ ap (λ (z : GroupRow). z.leader) (row_here g (λ row. put_row h s row e) (λ x. refl) s order) in
       λ i. is_this (views i).me (leader_by (rows.1 i).mode (views i).view.coord (leader i))
 
-  -- what the node does not lead is not counted there; the entry was put by someone, and the node was told what to forget
-  module _ (f : Answering) (s : Core) (from : ℕ) (g : List ℕ) (stable : ℕ) (e : Entry) (told : ToldOf h.sent s g stable) where
-    at_next : PutFact (reverse s.records) h.history s.views.me s.views.view g (len_in (found s g).list) e → (leads s g ≡ true → ⊥) → Full s → Full (entry_next f s from g stable e true)
-    unfolding entry_next sent send_on set_leader with_row
+  -- and its list is longer
+  len_after : (f : Answering) (s : Core) (from : ℕ) (g : List ℕ) (e : Entry) → InNameOrder s.groups → len_in (found (put_and_hand f s (Some from) g e) g).list ≡ len_in (found s g).list + 1
+  unfolding put_and_hand put recorded with_row row_of with_entry
+  len_after f s from g e order =
+      ap (λ rows. len_in (row_found g (find (has_name g) rows)).list) (handed_rows f (put s g e) (Some from) g (len_of s g) (state_of s g) (state_of (put s g e) g) e).0 ∙ ap (λ (z : GroupRow). len_in z.list) (row_here g (λ row. put_row h s row e) (λ x. refl) s order)
+
+  -- its list is that of before where a leader is noted
+  noted_list : (s : Core) (g : List ℕ) (n : ℕ) → InNameOrder s.groups → (found (set_leader s g n) g).list ≡ (found s g).list
+  unfolding set_leader with_row row_of
+  noted_list s g n order = ap (λ (z : GroupRow). z.list) (row_here g (λ row. record row { leader = Some n }) (λ x. refl) s order)
+
+  -- what the node does not lead is not counted there; the entry was put by someone, and the node is told a place that it has
+  module _ (f : Answering) (s : Core) (from : ℕ) (g : List ℕ) (stable : ℕ) (e : Entry) (le : stable ≤ len_in (found s g).list) where
+    abbrev Told : Core → Type 0
+    Told c = At (record h { floors = raised h.floors g stable }) Every NoGroup c
+
+    at_next : PutFact (reverse s.records) h.history s.views.me s.views.view g (len_in (found s g).list) e → (leads s g ≡ true → ⊥) → Full s → Told (entry_next f s from g stable e true)
+    unfolding entry_next sent send_on
     at_next fact follows a =
         let t : Core = put_and_hand f s (Some from) g e in
         let u : Core = sent t from (body.Ack t.views.view g (len_of t g)) in
         let b : Full t = at_put_and_handed_for h Every NoGroup Every f s (Some from) g e fact (λ k u ne. u) (λ u. inl none) a in
         let c : Full u = at_calm h Every NoGroup t u (calm_sent t from (body.Ack t.views.view g (len_of t g))) b in
-        at_forgets h Every NoGroup (set_leader u g from) g stable (inr (subst (λ (z : Views). WasTold h.sent z.me z.view g stable) (sym (put_handed_onward f s (Some from) g e a.rows.order).views) told)) (at_led_by u g from (inl after) (λ q. absurd (follows (sym (leads_is s g) ∙ sym (leads_after f s from g e a.rows.order) ∙ q))) c)
+        let d : Full (set_leader u g from) = at_led_by u g from (inl after) (λ q. absurd (follows (sym (leads_is s g) ∙ sym (leads_after f s from g e a.rows.order) ∙ q))) c in
+        at_told h Every NoGroup (set_leader u g from) g stable (long (len_in (found s g).list) (len_in (found (set_leader u g from) g).list) (ap len_in (noted_list u g from c.rows.order) ∙ len_after f s from g e a.rows.order) le) d
       where
+        long : (i j : ℕ) → j ≡ i + 1 → stable ≤ i → stable ≤ j
+        long i j e k = omega arith
+
         none : (found s g).led.tally ≡ None
         none = at (a.rows.tallies g tt)
           where
@@ -220,25 +252,32 @@ module _ (h : Frame) where
         after : (found (sent t from (body.Ack t.views.view g (len_of t g))) g).led.tally ≡ None
         after = rows_after f s from g e a.rows.order ∙ none
 
-    at_next_if : PutFact (reverse s.records) h.history s.views.me s.views.view g (len_in (found s g).list) e → (leads s g ≡ true → ⊥) → (b : Bool) → Full s → Full (entry_next f s from g stable e b)
+    at_next_if : PutFact (reverse s.records) h.history s.views.me s.views.view g (len_in (found s g).list) e → (leads s g ≡ true → ⊥) → (b : Bool) → Full s → At (told_if h g stable b) Every NoGroup (entry_next f s from g stable e b)
     unfolding entry_next
     at_next_if fact follows false a = a
     at_next_if fact follows true a = at_next fact follows a
 
-    at_elsewhere : (b : Bool) → Full s → Full (entry_elsewhere s from g stable b)
-    unfolding entry_elsewhere sent send_on
-    at_elsewhere true a = at_forgets h Every NoGroup (sent s from (body.Ack s.views.view g (len_of s g))) g stable (inr told) (at_calm h Every NoGroup s _ (calm_sent s from (body.Ack s.views.view g (len_of s g))) a)
-    at_elsewhere false a = by (holds s g)
+    at_elsewhere : (b : Bool) → Full s → Told (entry_elsewhere s from g stable b)
+    unfolding entry_elsewhere holds row_of sent send_on
+    at_elsewhere true a = at_told h Every NoGroup (sent s from (body.Ack s.views.view g (len_of s g))) g stable le (at_calm h Every NoGroup s _ (calm_sent s from (body.Ack s.views.view g (len_of s g))) a)
+    at_elsewhere false a = by (holds s g) refl
       where
-        by : (b : Bool) → Full (elim b as (λ _. Core) [ true ↦ forget_below s g stable | false ↦ s ])
-        by true = at_forgets h Every NoGroup s g stable (inr told) a
-        by false = a
+        bare : (l : Option GroupView) → is_some l ≡ false → stable ≤ len_in l → stable ≤ start_in l
+        bare None e k = k
+        bare (Some l) e k = absurd (cc)
 
-    pub at_entry : (place : ℕ) → ((place == len_of s g) ≡ true → PutFact (reverse s.records) h.history s.views.me s.views.view g (len_in (found s g).list) e) → ((place == len_of s g) ≡ true → leads s g ≡ true → ⊥) → Full s → Full (take_entry f s from g place stable e)
+        lacks : holds s g ≡ false → stable ≤ start_in (found s g).list
+        lacks e = bare (found s g).list e le
+
+        by : (b : Bool) → holds s g ≡ b → Told (elim b as (λ _. Core) [ true ↦ forget_below s g stable | false ↦ s ])
+        by true e = at_told h Every NoGroup s g stable le a
+        by false e = at_told_less h Every NoGroup s g stable (lacks e) a
+
+    pub at_entry : (place : ℕ) → ((place == len_of s g) ≡ true → PutFact (reverse s.records) h.history s.views.me s.views.view g (len_in (found s g).list) e) → ((place == len_of s g) ≡ true → leads s g ≡ true → ⊥) → Full s → At (told_if h g stable (is_taken s g place e)) Every NoGroup (take_entry f s from g place stable e)
     unfolding take_entry
     at_entry place fact follows a = by (place == len_of s g) refl
       where
-        by : (b : Bool) → (place == len_of s g) ≡ b → Full (elim b as (λ _. Core) [ true ↦ entry_next f s from g stable e (fits_at_end s g e) | false ↦ entry_elsewhere s from g stable (nat_lt place (len_of s g)) ])
+        by : (b : Bool) → (place == len_of s g) ≡ b → At (told_if h g stable (elim b as (λ _. Bool) [ true ↦ fits_at_end s g e | false ↦ true ])) Every NoGroup (elim b as (λ _. Core) [ true ↦ entry_next f s from g stable e (fits_at_end s g e) | false ↦ entry_elsewhere s from g stable (nat_lt place (len_of s g)) ])
         by true q = at_next_if (fact q) (follows q) (fits_at_end s g e) a
         by false q = at_elsewhere (nat_lt place (len_of s g)) a
 

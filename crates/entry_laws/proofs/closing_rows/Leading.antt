@@ -1,6 +1,7 @@
 -- What the leader of a group does.
-use Rattle.std.proofs.Common.{◌≡◌, ◌⊎◌, ℕ, zero, suc, ◌-◌, max, List, [], drop, Option, Some, None, Bool, true, false, refl, sym, ap, ◌∙◌, subst, inl, inr, arith}
+use Rattle.std.proofs.Common.{◌≡◌, ◌≤◌, ◌⊎◌, ℕ, zero, suc, ◌-◌, max, List, [], drop, Option, Some, None, Bool, true, false, refl, sym, ap, ◌∙◌, subst, inl, inr, arith}
 use Rattle.std.proofs.lemmas.Bool.Decides.{nat_tests}
+use Rattle.std.specs.Str.{bytes_eq}
 use Rattle.std.specs.Prelude.{◌&&◌, not, filter, is_none, nat_le, reverse, if◌then◌else◌}
 use Rattle.std.proofs.lemmas.Bool.{and_parts}
 use Rattle.rsct_packet.specs.declared.ids.ViewId.{ViewId}
@@ -28,8 +29,9 @@ use Rattle.node_state.specs.State.{row_of, with_led, led_of, list_of, state_of, 
 use Rattle.node_state.specs.Sending.{send_all}
 use Rattle.node_state.specs.HandOn.{Answering, hand_on}
 use Rattle.node_state.specs.Leading.{put, put_and_hand, forget_least, with_waiting, wait_if, new_members_wait, appended, append_if_fits, tally_for, tally_set, tally_opened, closing_entry, is_phase, closes_from, closes, begin_many, begins}
+use Rattle.node_state.proofs.NameOrder.{cases_text, text_self, text_other}
 use Rattle.entry_laws.specs.closing_rows.Rows.{start_in, HasRows, TallyFits}
-use Rattle.entry_laws.proofs.closing_rows.At.{found, leads_row, RowIs, StartIs, ToldOf, Frame, PutFact, At, at_put_for, at_fold, at_calm, at_row, at_row_for, put_fact}
+use Rattle.entry_laws.proofs.closing_rows.At.{found, leads_row, Seat, seat, Floors, RowStarts, RowIs, Frame, PutFact, At, at_put_for, at_fold, at_calm, at_row, at_row_for, put_fact}
 use Rattle.entry_laws.proofs.closing_rows.Calms.{calm_all, at_handed}
 use Rattle.entry_laws.proofs.closing_rows.Tallies.{opened_fits, idle_voters, closing_rows}
 
@@ -53,26 +55,26 @@ forgotten_len (Some l) n = by (nat_le n l.len)
     by true = refl
     by false = refl
 
-forgotten_place : (l : Option GroupView) (n : ℕ) → (start_in (list_forgotten n l) ≡ start_in l) ⊎ (start_in (list_forgotten n l) ≡ n)
+-- up to the length
+forgotten_start : (l : Option GroupView) (n : ℕ) → n ≤ len_in l → start_in (list_forgotten n l) ≡ max (start_in l) n
 unfolding forgotten
-forgotten_place None n = inl refl
-forgotten_place (Some l) n = by (nat_le n l.len)
-  where
-    greater : (max l.start n ≡ l.start) ⊎ (max l.start n ≡ n)
-    greater = grind (arith, nat_tests)
+forgotten_start None n le = omega arith
+forgotten_start (Some l) n le =
+    let up : nat_le n l.len ≡ true = grind (arith, nat_tests) in
+    ap (λ b. (if b then record l { start = max l.start n; entries = drop (n - l.start) l.entries } else l).start) up
 
-    by : (b : Bool) → ((if b then record l { start = max l.start n; entries = drop (n - l.start) l.entries } else l).start ≡ l.start) ⊎ ((if b then record l { start = max l.start n; entries = drop (n - l.start) l.entries } else l).start ≡ n)
-    by true = greater
-    by false = inl refl
+-- a node is told a place of a group's list
+abbrev pub raised : Floors → List ℕ → ℕ → Floors
+raised x g n = record x { starts = λ k. if bytes_eq g k then max (x.starts k) n else x.starts k }
 
--- what was forgotten before stays so, or the list starts at that place
-forgotten_start : (told : ℕ → Type 0) (led : Bool) (l : Option GroupView) (n : ℕ) → (led ≡ true) ⊎ told n → StartIs told led l → StartIs told led (list_forgotten n l)
-forgotten_start told led l n (inl q) a = inr (inl q)
-forgotten_start told led l n (inr t) a = by (forgotten_place l n)
-  where
-    by : (start_in (list_forgotten n l) ≡ start_in l) ⊎ (start_in (list_forgotten n l) ≡ n) → StartIs told led (list_forgotten n l)
-    by (inl e) = subst (λ i. (i ≡ 0) ⊎ ((led ≡ true) ⊎ told i)) (sym e) a
-    by (inr e) = inr (inr (subst told (sym e) t))
+pub raised_here : (x : Floors) (g : List ℕ) (n : ℕ) → (raised x g n).starts g ≡ max (x.starts g) n
+raised_here x g n = ap (λ b. if b then max (x.starts g) n else x.starts g) (text_self g)
+
+pub raised_there : (x : Floors) (g : List ℕ) (n : ℕ) (k : List ℕ) → (g ≡ k → ⊥) → (raised x g n).starts k ≡ x.starts k
+raised_there x g n k ne = ap (λ b. if b then max (x.starts k) n else x.starts k) (text_other g k ne)
+
+raised_beside : (x : Floors) (a : Seat) (g : List ℕ) (n : ℕ) (k : List ℕ) (row : GroupRow) → (g ≡ k → ⊥) → RowStarts x a k row → RowStarts (raised x g n) a k row
+raised_beside x a g n k row ne z = record { told = λ e. z.told e ∙ sym (raised_there x g n k ne); goes = z.goes }
 
 -- an entry that begins and ends at once finds and leaves nothing running, and one of who is late leaves what runs
 pub once_idle : (st : GroupState) (v : ViewId) (i : ℕ) (x : Proposal) → fits st (Once x) ≡ true → (after st v i (Once x)).running ≡ None
@@ -128,15 +130,41 @@ module _ (h : Frame) where
     unfolding with_waiting
     at_waits s g change a = at_led s g (λ l. record l { waiting = change l.waiting }) (λ l. refl) a
 
-    -- the node leads the group, or was told the place
-    pub at_forgets : (s : Core) (g : List ℕ) (n : ℕ) → (leads_row s (found s g) ≡ true) ⊎ ToldOf h.sent s g n → At h T G s → At h T G (forget_below s g n)
+    abbrev forgotten_row : Core → List ℕ → ℕ → GroupRow
+    forgotten_row s g n = record (found s g) { list = list_forgotten n (found s g).list }
+
+    at_forgets : (y : Floors) (s : Core) (g : List ℕ) (n : ℕ) → RowStarts y (seat s) g (forgotten_row s g n) → ((k : List ℕ) → (g ≡ k → ⊥) → RowStarts h.floors (seat s) k (found s k) → RowStarts y (seat s) k (found s k)) → At h T G s → At (record h { floors = y }) T G (forget_below s g n)
     unfolding forget_below
-    at_forgets s g n why a =
-        at_row_for h T G T s g (λ row. record row { list = list_forgotten n row.list }) (λ x. refl) (λ x. refl) (λ x. forgotten_state x.list n) (λ x. forgotten_len x.list n) (λ k t ne. t) (λ t. row_is_same (leads_row s (found s g)) (found s g) (record (found s g) { list = list_forgotten n (found s g).list }) refl (ap voters (forgotten_state (found s g).list n)) (a.rows.tallies g t)) (forgotten_start (ToldOf h.sent s g) (leads_row s (found s g)) (found s g).list n why (a.rows.starts g)) a
+    at_forgets y s g n begins rest a =
+        at_row_for h T G y T s g (λ row. record row { list = list_forgotten n row.list }) (λ x. refl) (λ x. refl) (λ x. forgotten_state x.list n) (λ x. forgotten_len x.list n) (λ k t ne. t) (λ t. row_is_same (leads_row s (found s g)) (found s g) (forgotten_row s g n) refl (ap voters (forgotten_state (found s g).list n)) (a.rows.tallies g t)) begins rest a
 
     pub at_forgets_least : (s : Core) (g : List ℕ) → leads_row s (found s g) ≡ true → At h T G s → At h T G (forget_least s g)
     unfolding forget_least
-    at_forgets_least s g led a = at_forgets s g (least_acked s g) (inl led) a
+    at_forgets_least s g led a =
+        at_forgets h.floors s g (least_acked s g) (record { told = λ e. absurd (let z : true ≡ false = sym led ∙ e in cc); goes = λ e. led }) (λ k ne z. z) a
+
+    -- the node is told a place that its list has
+    pub at_told : (s : Core) (g : List ℕ) (n : ℕ) → n ≤ len_in (found s g).list → At h T G s → At (record h { floors = raised h.floors g n }) T G (forget_below s g n)
+    at_told s g n le a =
+        let old = a.rows.starts g in
+        at_forgets (raised h.floors g n) s g n (record { told = λ e. forgotten_start (found s g).list n le ∙ ap (λ i. max i n) (old.told e) ∙ sym (raised_here h.floors g n); goes = old.goes }) (λ k ne z. raised_beside h.floors (seat s) g n k (found s k) ne z) a
+
+    -- below that it lacks all already
+    pub at_told_less : (s : Core) (g : List ℕ) (n : ℕ) → n ≤ start_in (found s g).list → At h T G s → At (record h { floors = raised h.floors g n }) T G s
+    at_told_less s g n le a =
+        record { came = a.came; rows = record { order = a.rows.order; starts = λ k. start k (cases_text g k); tallies = a.rows.tallies; led = a.rows.led }; facts = a.facts; states = a.states }
+      where
+        same : (i j : ℕ) → i ≡ j → n ≤ i → i ≡ max j n
+        same i j e up = omega arith
+
+        here : RowStarts (raised h.floors g n) (seat s) g (found s g)
+        here =
+            let old = a.rows.starts g in
+            record { told = λ e. same (start_in (found s g).list) (h.floors.starts g) (old.told e) le ∙ sym (raised_here h.floors g n); goes = old.goes }
+
+        start : (k : List ℕ) → (g ≡ k) ⊎ (g ≡ k → ⊥) → RowStarts (raised h.floors g n) (seat s) k (found s k)
+        start k (inl e) = subst (λ z. RowStarts (raised h.floors g n) (seat s) z (found s z)) e here
+        start k (inr ne) = raised_beside h.floors (seat s) g n k (found s k) ne (a.rows.starts k)
 
     at_waits_if : (s : Core) (g : List ℕ) (p : ProviderId) (a b : Bool) → At h T G s → At h T G (wait_if s g p a b)
     unfolding wait_if
@@ -171,7 +199,7 @@ module _ (h : Frame) where
     pub at_tally_set : (s : Core) (g : List ℕ) (t : Option TallyView) → (T g → RowIs (leads_row s (found s g)) (record (found s g) { led = record ((found s g).led) { tally = t; given = [] } })) → At h (But g T) G s → At h T G (tally_set s g t)
     unfolding tally_set with_led
     at_tally_set s g t own a =
-        at_row_for h (But g T) G T s g (λ row. record row { led = record (row.led) { tally = t; given = [] } }) (λ x. refl) (λ x. refl) (λ x. refl) (λ x. refl) (λ k u ne. (u, ne)) own (a.rows.starts g) a
+        at_row_for h (But g T) G h.floors T s g (λ row. record row { led = record (row.led) { tally = t; given = [] } }) (λ x. refl) (λ x. refl) (λ x. refl) (λ x. refl) (λ k u ne. (u, ne)) own (record { told = (a.rows.starts g).told; goes = (a.rows.starts g).goes }) (λ k ne z. z) a
 
     pub at_tally_opened : (s : Core) (g : List ℕ) → G g → At h (But g T) G s → At h T G (tally_opened s g)
     unfolding tally_opened state_of list_of row_of
@@ -180,7 +208,7 @@ module _ (h : Frame) where
 
     pub at_opened_anew : (s : Core) (g : List ℕ) → G g → At h T G s → At h T G (tally_opened s g)
     at_opened_anew s g led a =
-        at_tally_opened s g led (record { rows = record { order = a.rows.order; starts = a.rows.starts; tallies = λ k t. a.rows.tallies k t.0; led = a.rows.led }; facts = a.facts; states = a.states })
+        at_tally_opened s g led (record { came = a.came; rows = record { order = a.rows.order; starts = a.rows.starts; tallies = λ k t. a.rows.tallies k t.0; led = a.rows.led }; facts = a.facts; states = a.states })
 
     at_appended_loose : (f : Answering) (s : Core) (g : List ℕ) (e : Entry) → HasRows (state_in (found s g).list) e → G g → At h T G s → At h (But g T) G (appended f s g e)
     at_appended_loose f s g e ok led a = at_appended_for T G (But g T) f s g e ok (λ k u ne. u.0) (λ u. absurd (u.1 refl)) led a

@@ -1,6 +1,7 @@
 -- The rows of an entry that closes a phase: one for each voter.
-use Rattle.std.specs.Prelude.{ℕ, ◌≡◌, ◌⊎◌, false, List, map, Option, Some, None}
+use Rattle.std.specs.Prelude.{ℕ, ◌≡◌, ◌≤◌, ◌⊎◌, true, false, List, map, Option, Some, None}
 use Rattle.rsct_packet.specs.declared.ids.ViewId.{ViewId}
+use Rattle.rsct_packet.specs.declared.ids.Member.{Member}
 use Rattle.rsct_packet.specs.Search.{Has}
 use Rattle.proposal_core.specs.declared.entry.Row.{Row}
 use Rattle.proposal_core.specs.declared.entry.Entry.{Entry}
@@ -15,12 +16,15 @@ use Rattle.node_state.specs.declared.config.Config.{Config}
 use Rattle.node_state.specs.declared.packet.Body.TheVariants as body
 use Rattle.node_state.specs.declared.packet.Packet.{Packet}
 use Rattle.node_state.specs.declared.state.Core.{Core}
-use Rattle.node_state.specs.State.{row_of, led_of, state_of, leads}
+use Rattle.node_state.specs.State.{row_of, led_of, state_of, len_of, fits_at_end, leads}
+use Rattle.node_state.specs.HandOn.{Answering}
+use Rattle.node_state.specs.Step.{NodeEvent, Given, is_used, stepped}
 use Rattle.node_state.specs.declared.happened.Happened.{Happened}
 use Rattle.node_state.specs.declared.happened.Happened.TheVariants as happened
 use Rattle.run_safety.specs.Past.{History, earlier, EachRecord, state_at}
 use Rattle.run_safety.specs.SafeLists.{NextPlace, Fitting, Each}
 use Rattle.step_refinement.specs.Tied.{Scene}
+use Rattle.step_refinement.specs.Rules.{Arises}
 use Rattle.step_refinement.specs.Runs.{Reached}
 
 -- one row for each voter of the state, in the voters' order
@@ -68,23 +72,41 @@ TalliesAreOfVoters =
 abbrev pub start_in : Option GroupView → ℕ
 start_in l = (list_or_new l).start
 
--- an ENTRY of the group that was sent to the node in the view says that all members hold so many entries
-pub record WasTold (sent : List Packet) (n : ℕ) (v : ViewId) (g : List ℕ) (k : ℕ) : Type 0 where
+-- where the node's list of the group starts; 0 where it has none
+abbrev pub start_of : Core → List ℕ → ℕ
+start_of s g = start_in (row_of s g).list
+
+-- The event gives the node an ENTRY of its view that says that all members hold so many entries of the group, and the node takes
+-- it: at the end of its list one that fits there.
+pub record Tells (s : Core) (e : NodeEvent) (g : List ℕ) (k : ℕ) : Type 0 where
   pub packet : Packet
-  pub there : Has packet sent
-  pub to : packet.to ≡ n
+  pub given : e ≡ Given packet
+  pub to : packet.to ≡ s.views.me
   pub place : ℕ
   pub entry : Entry
-  pub says : packet.body ≡ body.Entry v g place k entry
+  pub says : packet.body ≡ body.Entry s.views.view g place k entry
+  pub used : is_used s packet s.views.view ≡ true
+  pub fits : place ≡ len_of s g → fits_at_end s g entry ≡ true
 
--- What a node's list of a group lacks at its front is nothing, or it was told to forget just that; or the node leads the group.
-abbrev pub ListsStartAsTold : Core → List Packet → Type 0
-ListsStartAsTold s sent =
-    (g : List ℕ) → leads s g ≡ false → (start_in (row_of s g).list ≡ 0) ⊎ WasTold sent s.views.me s.views.view g (start_in (row_of s g).list)
+-- From one moment to the next, in one view and in a group that the node does not lead: the list starts where it did, or where the
+-- event tells it, whichever is greater.
+pub record StartGoesOn (s : Core) (e : NodeEvent) (t : Core) (g : List ℕ) : Type 0 where
+  pub view : t.views.view ≡ s.views.view
+  pub led : leads s g ≡ false
+  pub old : start_of s g ≤ start_of t g
+  pub told : (k : ℕ) → Tells s e g k → k ≤ start_of t g
+  pub one : (start_of t g ≡ start_of s g) ⊎ Tells s e g (start_of t g)
 
--- whatever starts, stops and steps, at each node that is up
-abbrev pub EveryListStartsAsTold : Type 0
-EveryListStartsAsTold = (c : Config) (w : Scene) → Reached c w → (n : ℕ) (s : Core) → w.cores n ≡ Some s → ListsStartAsTold s w.sent
+-- the node entered its view in the event, and the list starts at 0
+pub record StartsAnew (t : Core) (g : List ℕ) : Type 0 where
+  pub members : List Member
+  pub enters : Has (happened.In t.views.me t.views.view members) t.records
+  pub start : start_of t g ≡ 0
+
+-- whatever starts, stops and steps: at each node that takes a step, of each group that it does not lead after it
+abbrev pub StepsForget : Type 0
+StepsForget =
+    (c : Config) (w : Scene) → Reached c w → (n : ℕ) (f : Answering) (s : Core) (e : NodeEvent) → w.cores n ≡ Some s → Arises w e → (g : List ℕ) → leads (stepped f s e) g ≡ false → StartGoesOn s e (stepped f s e) g ⊎ StartsAnew (stepped f s e) g
 
 -- ---- the records of one node
 
