@@ -35,7 +35,7 @@ use Rattle.node_state.specs.declared.happened.Happened.{Happened}
 use Rattle.node_state.specs.declared.happened.Happened.TheVariants as happened
 use Rattle.node_state.specs.declared.packet.Body.TheVariants as body
 use Rattle.node_state.specs.declared.state.Core.{Core}
-use Rattle.node_state.specs.State.{InNameOrder, AllAfter, row_found, state_of, held_rows, recorded_all, with_sessions, has_name}
+use Rattle.node_state.specs.State.{InNameOrder, AllAfter, new_row, row_found, state_of, held_rows, recorded_all, with_sessions, has_name}
 use Rattle.node_state.specs.Sending.{sent, send_requests, send_votes_again}
 use Rattle.node_state.specs.HandOn.{Answering, subscriber_name, note_of}
 use Rattle.node_state.specs.Leading.{with_waiting, tally_opened}
@@ -43,8 +43,7 @@ use Rattle.node_state.specs.Applying.{Lacking, lacking, fill_lists, level_set, b
 use Rattle.run_safety.specs.Past.{History, earlier, puts_of, base_of, fold_from, state_now}
 use Rattle.node_state.proofs.NameOrder.{none_after, text_same}
 use Rattle.step_refinement.proofs.BaseOrder.{bases_ordered, row_of_base, base_noted}
-use Rattle.entry_laws.specs.closing_rows.Rows.{start_in}
-use Rattle.entry_laws.proofs.closing_rows.At.{Frame, Fresh, Facts, StateIs, Silent, calm_fold, At, at_fold, at_calm, at_recorded, at_recorded_all, at_views}
+use Rattle.entry_laws.proofs.closing_rows.At.{Frame, seat, RowStarts, nothing_said, fresh_row, Fresh, Facts, StateIs, Silent, calm_fold, At, at_fold, at_calm, at_recorded, at_recorded_all, at_views}
 use Rattle.entry_laws.proofs.closing_rows.Calms.{calm_sent, calm_sessions, owed_calm}
 use Rattle.entry_laws.proofs.closing_rows.Leading.{at_waits, at_opened_anew, at_closes}
 use Rattle.entry_laws.proofs.closing_rows.Ending.{Every, NoGroup, at_led_groups}
@@ -214,9 +213,9 @@ module _ (h : Frame) where
   unfolding lead_groups
   at_groups_led f s a = at_led_groups h (lead f) (at_group_led f) s a
 
--- the node has entered a view, in which nothing was told or led yet
+-- the node has entered a view, in which nothing was told, led or acknowledged yet
 abbrev pub entering : Frame → Frame
-entering h = record h { entered = true; floors = record { starts = λ g. 0; led = λ g. false } }
+entering h = record h { entered = true; floors = nothing_said }
 
 module _ (h : Frame) where
   abbrev Entered : Core → Type 0
@@ -231,7 +230,7 @@ module _ (h : Frame) where
   at_view_entered s i =
       record {
         came = (i.members, append_has_right enters s.records (enters ∷ map (base_noted s.views.me i.view) bs) (inl refl));
-        rows = record { order = bases_ordered i; starts = λ g. record { told = λ e. start g; goes = λ e. absurd (cc) }; tallies = λ g u. inl (tally g); led = λ g z. absurd z };
+        rows = record { order = bases_ordered i; starts = start; tallies = λ g u. inl (tally g); led = λ g z. absurd z };
         facts = subst (λ l. Facts h.history (reverse l)) same (based_facts h.history s.views.me i.view bs rs (subst (Facts h.history) (sym entering) tt));
         states = λ fresh g. state g (fresh_there (subst (λ l. Fresh (reverse l) h.history) (sym same) fresh));
       }
@@ -258,12 +257,12 @@ module _ (h : Frame) where
           by None = refl
           by (Some b) = refl
 
-      start : (g : List ℕ) → start_in (row_found g (find (has_name g) (map base_row bs))).list ≡ 0
-      start g = ap (λ o. start_in (row_found g o).list) (row_of_base g bs) ∙ by (base_named bs g)
+      start : (g : List ℕ) → RowStarts nothing_said (seat (view_entered s i (bases_of i))) g (row_found g (find (has_name g) (map base_row bs)))
+      start g = subst (λ o. RowStarts nothing_said (seat (view_entered s i (bases_of i))) g (row_found g o)) (sym (row_of_base g bs)) (by (base_named bs g))
         where
-          by : (o : Option Base) → start_in (row_found g (option_map base_row o)).list ≡ 0
-          by None = refl
-          by (Some b) = refl
+          by : (o : Option Base) → RowStarts nothing_said (seat (view_entered s i (bases_of i))) g (row_found g (option_map base_row o))
+          by None = fresh_row (seat (view_entered s i (bases_of i))) g (new_row g) refl refl refl
+          by (Some b) = fresh_row (seat (view_entered s i (bases_of i))) g (base_row b) refl refl refl
 
       fresh_there : Fresh (reverse (rs ++ map (base_noted s.views.me i.view) bs)) h.history → (g : List ℕ) → (puts_of s.views.me i.view g (earlier (reverse s.records) h.history) ≡ []) × (base_of s.views.me i.view g (earlier (reverse s.records) h.history) ≡ empty_state)
       fresh_there k = (subst (λ l. Fresh l h.history) entering (based_fresh h.history s.views.me i.view bs rs k)).0
@@ -312,4 +311,4 @@ module _ (h : Frame) where
   at_views_taken f s w k a =
       let c : Core = record s { views = w.views } in
       let d : Core = fold (λ t (x : ViewSend). sent t x.to (body.View x.packet)) c w.sends in
-      at_applied f d w.install (at_calm h Every NoGroup c d (calm_fold (λ t (x : ViewSend). sent t x.to (body.View x.packet)) (λ t x. calm_sent t x.to (body.View x.packet)) w.sends c) (at_views h Every NoGroup s w.views k.me k.view a))
+      at_applied f d w.install (at_calm h Every NoGroup c d (calm_fold (λ t (x : ViewSend). sent t x.to (body.View x.packet)) (λ t x. calm_sent t x.to (body.View x.packet)) w.sends c) (at_views h Every NoGroup s w.views k.me k.view k.members a))

@@ -11,9 +11,10 @@ use Rattle.view_state.specs.Views.{views_new}
 use Rattle.node_state.specs.declared.config.Config.{Config}
 use Rattle.node_state.specs.declared.happened.Happened.{Happened}
 use Rattle.node_state.specs.declared.happened.Happened.TheVariants as happened
+use Rattle.node_state.specs.declared.group.GroupRow.{GroupRow}
 use Rattle.node_state.specs.declared.packet.Packet.{Packet}
 use Rattle.node_state.specs.declared.state.Core.{Core}
-use Rattle.node_state.specs.State.{row_of, led_of, list_of, state_of, len_of, fits_at_end, frozen, with_sessions, leads, leads_in, leader_in}
+use Rattle.node_state.specs.State.{new_row, acked_from, row_of, led_of, list_of, state_of, len_of, fits_at_end, frozen, with_sessions, leads, leads_in, leader_in}
 use Rattle.node_state.specs.HandOn.{Answering}
 use Rattle.node_state.specs.Applying.{level_set}
 use Rattle.node_state.specs.Step.{NodeEvent, Given, at_work, is_used, started, stepped}
@@ -33,16 +34,16 @@ use Rattle.step_refinement.specs.Runs.{Reached}
 use Rattle.step_refinement.proofs.Begins.{begin_tied}
 use Rattle.step_refinement.proofs.RowWorks.{keeps_of}
 use Rattle.step_refinement.proofs.RunLaw.{reached_rests}
-use Rattle.entry_laws.specs.closing_rows.Rows.{RowsAreAlwaysVoters, TallyFits, TalliesAreOfVoters, start_in, Tells, StartGoesOn, StartsAnew, StepsForget}
+use Rattle.entry_laws.specs.closing_rows.Rows.{RowsAreAlwaysVoters, TallyFits, TalliesAreOfVoters, start_in, start_of, Tells, Acknowledges, StartGoesOn, EntersView, StepsForget, acked_of, AckGoesOn, StepsKeepAcks, LeadersForget}
 use Rattle.entry_laws.proofs.closing_rows.Told.{Told, told_of, within_told, within_all}
 use Rattle.entry_laws.proofs.closing_rows.Lists.{puts_all, fresh_before, state_rest}
 use Rattle.run_induction.proofs.Invariants.{Among, Sends, Holds, Done, Invariant, reached_holds, node_holds}
 use Rattle.run_induction.proofs.Quiet.{PutsNone}
 use Rattle.entry_laws.proofs.closing_rows.Entered.{since_within}
 use Rattle.entry_laws.proofs.closing_rows.Evident.{Evident, ToldNow, told_less, rows_right, again_evident}
-use Rattle.entry_laws.proofs.closing_rows.At.{found, leads_row, RowIs, FreshIn, Fresh, RecordFact, Facts, StateIs, At}
+use Rattle.entry_laws.proofs.closing_rows.At.{found, leads_row, Seat, seat, leads_by, least_at, least_is, Floors, RowStarts, nothing_said, fresh_row, RowIs, FreshIn, Fresh, RecordFact, Facts, StateIs, At}
 use Rattle.entry_laws.proofs.closing_rows.Ending.{Every, NoGroup}
-use Rattle.entry_laws.proofs.closing_rows.Steps.{frame_of, Reaches, entry_told, at_stepped}
+use Rattle.entry_laws.proofs.closing_rows.Steps.{floors_of, frame_of, Reaches, entry_told, ack_known, at_stepped}
 
 -- ---- what a step has recorded
 
@@ -128,9 +129,14 @@ module _ (bases : List ℕ → Bases) (log : List ℕ → ViewId → List Entry)
 
 -- ---- the invariant
 
+-- the floors of a row are where it stands
+own_floors : (a : Seat) (g : List ℕ) (row : GroupRow) (x : Floors) → RowStarts x a g row → x.settled g ≡ true → (y : Floors) → y.starts g ≡ start_in row.list → y.led g ≡ leads_by a row → ((m : ℕ) → y.acks g m ≡ acked_from m row.led.acked) → RowStarts y a g row
+own_floors a g row x k settled y start led acks =
+    record { told = λ e. sym start; goes = λ e. sym led ∙ e; acked = λ m. sym (acks m); within = k.within; below = k.below; least = λ e. k.least settled; empty = λ e. k.empty settled }
+
 -- what holds of a node, whatever was sent and recorded
 abbrev CoreIs : List Packet → List Happened → Core → Type 0
-CoreIs ps rs s = (g : List ℕ) → RowIs (leads_row s (found s g)) (found s g)
+CoreIs ps rs s = (g : List ℕ) → RowIs (leads_row s (found s g)) (found s g) × RowStarts (floors_of s) (seat s) g (found s g)
 
 core_on : (ps qs : List Packet) → Sends ps qs → (rs ts : List Happened) → Among rs ts → (s : Core) → CoreIs ps rs s → CoreIs qs ts s
 core_on ps qs more rs ts old s k = k
@@ -146,7 +152,7 @@ none_evident _ now before z = tt
 -- a node that starts
 started_is : (ps : List Packet) (rs : List Happened) (c : Config) (n j : ℕ) → CoreIs ps rs (started c n j)
 unfolding started with_sessions level_set views_new
-started_is ps rs c n j = λ g. inl refl
+started_is ps rs c n j = λ g. (inl refl, own_floors (seat (started c n j)) g (new_row g) nothing_said (fresh_row (seat (started c n j)) g (new_row g) refl refl refl) refl (floors_of (started c n j)) refl refl (λ m. refl))
 
 -- a step begins in what its node is
 step_begins : (w : Scene) (n : ℕ) (s : Core) → w.cores n ≡ Some s → ((g : List ℕ) → Rests g w) → CoreIs w.sent (records_of w.before) s → At (frame_of w (at_work s)) Every NoGroup (at_work s)
@@ -154,7 +160,7 @@ step_begins w n s up rests c =
     record {
       came = refl;
       rows =
-        record { order = (subst (NodeIsIf w.config (rests []).ghost [] n (w.incs n)) up ((rests []).nodes n)).0.order; starts = λ g. record { told = λ e. refl; goes = λ e. e }; tallies = λ g t. c g; led = λ g z. absurd z };
+        record { order = (subst (NodeIsIf w.config (rests []).ghost [] n (w.incs n)) up ((rests []).nodes n)).0.order; starts = λ g. (c g).1; tallies = λ g t. (c g).0; led = λ g z. absurd z };
       facts = tt;
       states = λ fresh. states_rest w rests n s up;
     }
@@ -169,7 +175,7 @@ step_done w n f s e v up rests after arises k c = by (step_reaches w n f s e up 
     now : Scene
     now = ended w n v (stepped f s e)
 
-    done : ((g : List ℕ) → RowIs (leads_row (stepped f s e) (found (stepped f s e) g)) (found (stepped f s e) g)) → Facts w.before (reverse (stepped f s e).records) → Done Sent CoreIs Evident w (stepped f s e)
+    done : CoreIs w.sent (records_of w.before) (stepped f s e) → Facts w.before (reverse (stepped f s e).records) → Done Sent CoreIs Evident w (stepped f s e)
     done rows facts =
         record {
           sends = λ p i. tt;
@@ -177,9 +183,12 @@ step_done w n f s e v up rests after arises k c = by (step_reaches w n f s e up 
           lines = facts_evident (bases_in now after) (logs_in now after) w.before (reverse (stepped f s e).records) (λ g. told_in now after g) facts;
         }
 
+    own : (x : Floors) → (g : List ℕ) → x.settled g ≡ true → RowStarts x (seat (stepped f s e)) g (found (stepped f s e) g) → RowStarts (floors_of (stepped f s e)) (seat (stepped f s e)) g (found (stepped f s e) g)
+    own x g settled k = own_floors (seat (stepped f s e)) g (found (stepped f s e) g) x k settled (floors_of (stepped f s e)) refl refl (λ m. refl)
+
     by : Reaches (frame_of w (at_work s)) (at_work s) e (stepped f s e) → Done Sent CoreIs Evident w (stepped f s e)
-    by (inl a) = done (λ g. a.rows.tallies g tt) a.facts
-    by (inr a) = let b = a.2 in done (λ g. b.rows.tallies g tt) b.facts
+    by (inl a) = done (λ g. (a.rows.tallies g tt, own nothing_said g refl (a.rows.starts g))) a.facts
+    by (inr (y, go, b)) = done (λ g. (b.rows.tallies g tt, own y g (go.settled g) (b.rows.starts g))) b.facts
 
 fitting : Invariant Sent CoreIs Evident
 fitting =
@@ -198,7 +207,7 @@ rows_are_voters c w k =
 
 pub tallies_are_of_voters : TalliesAreOfVoters
 unfolding led_of state_of list_of row_of
-tallies_are_of_voters c w k n s up g = by (node_holds Sent CoreIs Evident fitting c w k n s up g)
+tallies_are_of_voters c w k n s up g = by (node_holds Sent CoreIs Evident fitting c w k n s up g).0
   where
     by : RowIs (leads_row s (found s g)) (found s g) → TallyFits (found s g).led.tally (state_in (found s g).list)
     by (inl none) = subst (λ o. TallyFits o (state_in (found s g).list)) (sym none) tt
@@ -222,8 +231,8 @@ steps_forget c w k n f s e up arises g away = by (step_reaches w n f s e up (λ 
     t : Core
     t = stepped f s e
 
-    by : Reaches (frame_of w (at_work s)) (at_work s) e t → StartGoesOn s e t g ⊎ StartsAnew t g
-    by (inl a) = inr (record { members = a.came.0; enters = a.came.1; start = (a.rows.starts g).told away })
+    by : Reaches (frame_of w (at_work s)) (at_work s) e t → StartGoesOn s e t g ⊎ (EntersView t × (start_of t g ≡ 0))
+    by (inl a) = inr (record { members = a.came.0; enters = a.came.1 }, (a.rows.starts g).told away)
     by (inr (y, go, a)) =
         let begun = a.rows.starts g in
         let is : start_in (found t g).list ≡ y.starts g = begun.told away in
@@ -242,6 +251,46 @@ steps_forget c w k n f s e up arises g away = by (step_reaches w n f s e up (λ 
         one : start_in (found t g).list ≡ y.starts g → (y.starts g ≡ start_in (found s g).list) ⊎ Tells (at_work s) e g (y.starts g) → (start_in (found t g).list ≡ start_in (found s g).list) ⊎ Tells s e g (start_in (found t g).list)
         one is (inl q) = inl (is ∙ q)
         one is (inr z) = inr (subst (Tells s e g) (sym is) (begins_told s e g (y.starts g) z))
+
+-- ---- what members acknowledged
+
+begins_acked : (s : Core) (e : NodeEvent) (g : List ℕ) (m k : ℕ) → Acknowledges (at_work s) e g m k → Acknowledges s e g m k
+unfolding is_used frozen leads leads_in leader_in row_of
+begins_acked s e g m k t = record { packet = t.packet; given = t.given; to = t.to; from = t.from; says = t.says; used = t.used; led = t.led }
+
+ends_acked : (s : Core) (e : NodeEvent) (g : List ℕ) (m k : ℕ) → Acknowledges s e g m k → Acknowledges (at_work s) e g m k
+unfolding is_used frozen leads leads_in leader_in row_of
+ends_acked s e g m k t = record { packet = t.packet; given = t.given; to = t.to; from = t.from; says = t.says; used = t.used; led = t.led }
+
+pub steps_keep_acks : StepsKeepAcks
+unfolding led_of row_of
+steps_keep_acks c w k n f s e up arises g m = by (step_reaches w n f s e up (λ g. reached_rests c w k g) arises (node_holds Sent CoreIs Evident fitting c w k n s up))
+  where
+    t : Core
+    t = stepped f s e
+
+    by : Reaches (frame_of w (at_work s)) (at_work s) e t → AckGoesOn s e t g m ⊎ (EntersView t × (acked_of t g m ≡ 0))
+    by (inl a) = inr (record { members = a.came.0; enters = a.came.1 }, (a.rows.starts g).acked m)
+    by (inr (y, go, a)) =
+        let is : acked_from m (found t g).led.acked ≡ y.acks g m = (a.rows.starts g).acked m in
+        inl (record {
+          view = a.came;
+          old = subst (λ i. acked_from m (found s g).led.acked ≤ i) (sym is) (go.more g m);
+          told = λ j z. subst (λ i. j ≤ i) (sym is) (go.acked g m j (ends_acked s e g m j z));
+          one = one is (go.ack g m);
+        })
+      where
+        one : acked_from m (found t g).led.acked ≡ y.acks g m → (y.acks g m ≡ acked_from m (found s g).led.acked) ⊎ Acknowledges (at_work s) e g m (y.acks g m) → (acked_from m (found t g).led.acked ≡ acked_from m (found s g).led.acked) ⊎ Acknowledges s e g m (acked_from m (found t g).led.acked)
+        one is (inl q) = inl (is ∙ q)
+        one is (inr z) = inr (subst (Acknowledges s e g m) (sym is) (begins_acked s e g m (y.acks g m) z))
+
+pub leaders_forget : LeadersForget
+unfolding leads leads_in leader_in row_of
+leaders_forget c w k n s up g led =
+    let is = (node_holds Sent CoreIs Evident fitting c w k n s up g).1 in
+    let below : start_in (found s g).list ≤ least_at (seat s) (found s g) = is.below led in
+    let least : least_at (seat s) (found s g) ≤ start_in (found s g).list = is.least refl led in
+    let same : start_in (found s g).list ≡ least_at (seat s) (found s g) = omega arith in same ∙ sym (least_is s g)
 
 -- ---- what a node puts
 
@@ -282,4 +331,13 @@ told_held c w r n s up p sent g k t =
     let now : Tells (at_work s) (Given p) g k = ends_told s (Given p) g k t in
     let same : p ≡ now.packet = let e : Given p ≡ Given now.packet = now.given in cc in
     let le : k ≤ len_in (found s g).list = entry_told s.views.view g now.place k now.entry w n (at_work s) now.packet now.says (subst (λ z. Has z w.sent) same sent) (begin_tied g w n s up (rests g)) now.used in
+    subst (λ i. k ≤ i) (states_rest w rests n s up g).len le
+
+-- and what it takes as the leader that a member holds
+pub acked_held : (c : Config) (w : Scene) → Reached c w → (n : ℕ) (s : Core) → w.cores n ≡ Some s → (p : Packet) → Has p w.sent → (g : List ℕ) (m k : ℕ) → Acknowledges s (Given p) g m k → k ≤ length (puts_of s.views.me s.views.view g (records_of w.before))
+acked_held c w r n s up p sent g m k t =
+    let rests : (h : List ℕ) → Rests h w = λ h. reached_rests c w r h in
+    let now : Acknowledges (at_work s) (Given p) g m k = ends_acked s (Given p) g m k t in
+    let same : p ≡ now.packet = let e : Given p ≡ Given now.packet = now.given in cc in
+    let le : k ≤ len_in (found s g).list = ack_known s.views.view g k w n (at_work s) now.packet now.says (subst (λ z. Has z w.sent) same sent) (begin_tied g w n s up (rests g)) now.used now.led in
     subst (λ i. k ≤ i) (states_rest w rests n s up g).len le

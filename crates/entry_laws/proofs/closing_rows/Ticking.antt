@@ -56,7 +56,7 @@ module _ (h : Frame) where
     at_ticked : (s : Core) (g : List ℕ) → At h Every G s → At h Every G (with_tally s g (ticked_in (led_of s g).tally))
     unfolding with_tally with_led led_of row_of
     at_ticked s g a =
-        at_row h Every G s g (λ row. record row { led = record (row.led) { tally = ticked_in (found s g).led.tally } }) (λ x. refl) (λ x. refl) (λ x. refl) (λ x. refl) (λ x. refl) (λ t. row_ticked (leads_row s (found s g)) (found s g) (a.rows.tallies g t)) a
+        at_row h Every G s g (λ row. record row { led = record (row.led) { tally = ticked_in (found s g).led.tally } }) (λ x. refl) (λ x. refl) (λ x. refl) (λ x. refl) (λ x. refl) (λ x m. refl) (λ t. row_ticked (leads_row s (found s g)) (found s g) (a.rows.tallies g t)) a
 
     at_tally_ticks : (s : Core) (g : List ℕ) (o : Option TallyView) → G g → At h Every G s → At h Every G (tally_ticks f s g o)
     unfolding tally_ticks

@@ -16,7 +16,7 @@ use Rattle.node_state.specs.declared.config.Config.{Config}
 use Rattle.node_state.specs.declared.packet.Body.TheVariants as body
 use Rattle.node_state.specs.declared.packet.Packet.{Packet}
 use Rattle.node_state.specs.declared.state.Core.{Core}
-use Rattle.node_state.specs.State.{row_of, led_of, state_of, len_of, fits_at_end, leads}
+use Rattle.node_state.specs.State.{row_of, led_of, state_of, len_of, acked_from, least_acked, fits_at_end, leads}
 use Rattle.node_state.specs.HandOn.{Answering}
 use Rattle.node_state.specs.Step.{NodeEvent, Given, is_used, stepped}
 use Rattle.node_state.specs.declared.happened.Happened.{Happened}
@@ -88,6 +88,17 @@ pub record Tells (s : Core) (e : NodeEvent) (g : List ℕ) (k : ℕ) : Type 0 wh
   pub used : is_used s packet s.views.view ≡ true
   pub fits : place ≡ len_of s g → fits_at_end s g entry ≡ true
 
+-- The event gives the node, which leads the group, an ACK of its view in which the member says that it holds so many entries of the
+-- group, and the node takes it.
+pub record Acknowledges (s : Core) (e : NodeEvent) (g : List ℕ) (m k : ℕ) : Type 0 where
+  pub packet : Packet
+  pub given : e ≡ Given packet
+  pub to : packet.to ≡ s.views.me
+  pub from : packet.from ≡ m
+  pub says : packet.body ≡ body.Ack s.views.view g k
+  pub used : is_used s packet s.views.view ≡ true
+  pub led : leads s g ≡ true
+
 -- From one moment to the next, in one view and in a group that the node does not lead: the list starts where it did, or where the
 -- event tells it, whichever is greater.
 pub record StartGoesOn (s : Core) (e : NodeEvent) (t : Core) (g : List ℕ) : Type 0 where
@@ -97,16 +108,36 @@ pub record StartGoesOn (s : Core) (e : NodeEvent) (t : Core) (g : List ℕ) : Ty
   pub told : (k : ℕ) → Tells s e g k → k ≤ start_of t g
   pub one : (start_of t g ≡ start_of s g) ⊎ Tells s e g (start_of t g)
 
--- the node entered its view in the event, and the list starts at 0
-pub record StartsAnew (t : Core) (g : List ℕ) : Type 0 where
+-- the node entered its view in the event
+pub record EntersView (t : Core) : Type 0 where
   pub members : List Member
   pub enters : Has (happened.In t.views.me t.views.view members) t.records
-  pub start : start_of t g ≡ 0
 
 -- whatever starts, stops and steps: at each node that takes a step, of each group that it does not lead after it
 abbrev pub StepsForget : Type 0
 StepsForget =
-    (c : Config) (w : Scene) → Reached c w → (n : ℕ) (f : Answering) (s : Core) (e : NodeEvent) → w.cores n ≡ Some s → Arises w e → (g : List ℕ) → leads (stepped f s e) g ≡ false → StartGoesOn s e (stepped f s e) g ⊎ StartsAnew (stepped f s e) g
+    (c : Config) (w : Scene) → Reached c w → (n : ℕ) (f : Answering) (s : Core) (e : NodeEvent) → w.cores n ≡ Some s → Arises w e → (g : List ℕ) → leads (stepped f s e) g ≡ false → StartGoesOn s e (stepped f s e) g ⊎ (EntersView (stepped f s e) × (start_of (stepped f s e) g ≡ 0))
+
+-- how many entries of the group a member acknowledged to the node, as it keeps that
+abbrev pub acked_of : Core → List ℕ → ℕ → ℕ
+acked_of s g m = acked_from m (led_of s g).acked
+
+-- from one moment to the next, in one view: the node keeps what it kept, or what the event tells it, whichever is greater
+pub record AckGoesOn (s : Core) (e : NodeEvent) (t : Core) (g : List ℕ) (m : ℕ) : Type 0 where
+  pub view : t.views.view ≡ s.views.view
+  pub old : acked_of s g m ≤ acked_of t g m
+  pub told : (k : ℕ) → Acknowledges s e g m k → k ≤ acked_of t g m
+  pub one : (acked_of t g m ≡ acked_of s g m) ⊎ Acknowledges s e g m (acked_of t g m)
+
+-- whatever starts, stops and steps: at each node that takes a step, of each group and member
+abbrev pub StepsKeepAcks : Type 0
+StepsKeepAcks =
+    (c : Config) (w : Scene) → Reached c w → (n : ℕ) (f : Answering) (s : Core) (e : NodeEvent) → w.cores n ≡ Some s → Arises w e → (g : List ℕ) (m : ℕ) → AckGoesOn s e (stepped f s e) g m ⊎ (EntersView (stepped f s e) × (acked_of (stepped f s e) g m ≡ 0))
+
+-- a list of a group that the node leads starts at the least length that a member of its view holds, as the node knows it
+abbrev pub LeadersForget : Type 0
+LeadersForget =
+    (c : Config) (w : Scene) → Reached c w → (n : ℕ) (s : Core) → w.cores n ≡ Some s → (g : List ℕ) → leads s g ≡ true → start_of s g ≡ least_acked s g
 
 -- ---- the records of one node
 
