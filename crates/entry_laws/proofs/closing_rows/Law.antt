@@ -34,7 +34,7 @@ use Rattle.step_refinement.specs.Runs.{Reached}
 use Rattle.step_refinement.proofs.Begins.{begin_tied}
 use Rattle.step_refinement.proofs.RowWorks.{keeps_of}
 use Rattle.step_refinement.proofs.RunLaw.{reached_rests}
-use Rattle.entry_laws.specs.closing_rows.Rows.{RowsAreAlwaysVoters, TallyFits, TalliesAreOfVoters, start_in, start_of, Tells, Acknowledges, StartGoesOn, EntersView, StepsForget, acked_of, AckGoesOn, StepsKeepAcks, LeadersForget}
+use Rattle.entry_laws.specs.closing_rows.Rows.{RowsAreAlwaysVoters, TallyFits, TalliesAreOfVoters, start_in, start_of, Tells, Acknowledges, GoesOn, EntersView, StepsForget, acked_of, StepsKeepAcks, LeadersForget}
 use Rattle.entry_laws.proofs.closing_rows.Told.{Told, told_of, within_told, within_all}
 use Rattle.entry_laws.proofs.closing_rows.Lists.{puts_all, fresh_before, state_rest}
 use Rattle.run_induction.proofs.Invariants.{Among, Sends, Holds, Done, Invariant, reached_holds, node_holds}
@@ -231,14 +231,13 @@ steps_forget c w k n f s e up arises g away = by (step_reaches w n f s e up (λ 
     t : Core
     t = stepped f s e
 
-    by : Reaches (frame_of w (at_work s)) (at_work s) e t → StartGoesOn s e t g ⊎ (EntersView t × (start_of t g ≡ 0))
+    by : Reaches (frame_of w (at_work s)) (at_work s) e t → ((leads_row s (found s g) ≡ false) × GoesOn (λ c. start_of c g) (λ c e k. Tells c e g k) s e t) ⊎ (EntersView t × (start_of t g ≡ 0))
     by (inl a) = inr (record { members = a.came.0; enters = a.came.1 }, (a.rows.starts g).told away)
     by (inr (y, go, a)) =
         let begun = a.rows.starts g in
         let is : start_in (found t g).list ≡ y.starts g = begun.told away in
-        inl (record {
+        inl (was (leads_row s (found s g)) refl (λ q. begun.goes (go.led g ∙ q)), record {
           view = a.came;
-          led = was (leads_row s (found s g)) refl (λ q. begun.goes (go.led g ∙ q));
           old = subst (λ i. start_in (found s g).list ≤ i) (sym is) (go.old g);
           told = λ j z. subst (λ i. j ≤ i) (sym is) (go.told g j (ends_told s e g j z));
           one = one is (go.one g);
@@ -269,7 +268,7 @@ steps_keep_acks c w k n f s e up arises g m = by (step_reaches w n f s e up (λ 
     t : Core
     t = stepped f s e
 
-    by : Reaches (frame_of w (at_work s)) (at_work s) e t → AckGoesOn s e t g m ⊎ (EntersView t × (acked_of t g m ≡ 0))
+    by : Reaches (frame_of w (at_work s)) (at_work s) e t → GoesOn (λ c. acked_of c g m) (λ c e k. Acknowledges c e g m k) s e t ⊎ (EntersView t × (acked_of t g m ≡ 0))
     by (inl a) = inr (record { members = a.came.0; enters = a.came.1 }, (a.rows.starts g).acked m)
     by (inr (y, go, a)) =
         let is : acked_from m (found t g).led.acked ≡ y.acks g m = (a.rows.starts g).acked m in

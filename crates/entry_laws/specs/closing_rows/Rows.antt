@@ -99,40 +99,32 @@ pub record Acknowledges (s : Core) (e : NodeEvent) (g : List ℕ) (m k : ℕ) : 
   pub used : is_used s packet s.views.view ≡ true
   pub led : leads s g ≡ true
 
--- From one moment to the next, in one view and in a group that the node does not lead: the list starts where it did, or where the
--- event tells it, whichever is greater.
-pub record StartGoesOn (s : Core) (e : NodeEvent) (t : Core) (g : List ℕ) : Type 0 where
+-- From one moment to the next, in one view: a number stays what it was, or becomes what the event says, whichever is greater.
+pub record GoesOn (value : Core → ℕ) (Says : Core → NodeEvent → ℕ → Type 0) (s : Core) (e : NodeEvent) (t : Core) : Type 0 where
   pub view : t.views.view ≡ s.views.view
-  pub led : leads s g ≡ false
-  pub old : start_of s g ≤ start_of t g
-  pub told : (k : ℕ) → Tells s e g k → k ≤ start_of t g
-  pub one : (start_of t g ≡ start_of s g) ⊎ Tells s e g (start_of t g)
+  pub old : value s ≤ value t
+  pub told : (k : ℕ) → Says s e k → k ≤ value t
+  pub one : (value t ≡ value s) ⊎ Says s e (value t)
 
 -- the node entered its view in the event
 pub record EntersView (t : Core) : Type 0 where
   pub members : List Member
   pub enters : Has (happened.In t.views.me t.views.view members) t.records
 
--- whatever starts, stops and steps: at each node that takes a step, of each group that it does not lead after it
+-- Whatever starts, stops and steps: at each node that takes a step, of each group that it does not lead after it, the start of the
+-- list goes on to what the event tells. In a view that the node enters it is 0.
 abbrev pub StepsForget : Type 0
 StepsForget =
-    (c : Config) (w : Scene) → Reached c w → (n : ℕ) (f : Answering) (s : Core) (e : NodeEvent) → w.cores n ≡ Some s → Arises w e → (g : List ℕ) → leads (stepped f s e) g ≡ false → StartGoesOn s e (stepped f s e) g ⊎ (EntersView (stepped f s e) × (start_of (stepped f s e) g ≡ 0))
+    (c : Config) (w : Scene) → Reached c w → (n : ℕ) (f : Answering) (s : Core) (e : NodeEvent) → w.cores n ≡ Some s → Arises w e → (g : List ℕ) → leads (stepped f s e) g ≡ false → ((leads s g ≡ false) × GoesOn (λ c. start_of c g) (λ c e k. Tells c e g k) s e (stepped f s e)) ⊎ (EntersView (stepped f s e) × (start_of (stepped f s e) g ≡ 0))
 
 -- how many entries of the group a member acknowledged to the node, as it keeps that
 abbrev pub acked_of : Core → List ℕ → ℕ → ℕ
 acked_of s g m = acked_from m (led_of s g).acked
 
--- from one moment to the next, in one view: the node keeps what it kept, or what the event tells it, whichever is greater
-pub record AckGoesOn (s : Core) (e : NodeEvent) (t : Core) (g : List ℕ) (m : ℕ) : Type 0 where
-  pub view : t.views.view ≡ s.views.view
-  pub old : acked_of s g m ≤ acked_of t g m
-  pub told : (k : ℕ) → Acknowledges s e g m k → k ≤ acked_of t g m
-  pub one : (acked_of t g m ≡ acked_of s g m) ⊎ Acknowledges s e g m (acked_of t g m)
-
--- whatever starts, stops and steps: at each node that takes a step, of each group and member
+-- so does that number, of each group and member
 abbrev pub StepsKeepAcks : Type 0
 StepsKeepAcks =
-    (c : Config) (w : Scene) → Reached c w → (n : ℕ) (f : Answering) (s : Core) (e : NodeEvent) → w.cores n ≡ Some s → Arises w e → (g : List ℕ) (m : ℕ) → AckGoesOn s e (stepped f s e) g m ⊎ (EntersView (stepped f s e) × (acked_of (stepped f s e) g m ≡ 0))
+    (c : Config) (w : Scene) → Reached c w → (n : ℕ) (f : Answering) (s : Core) (e : NodeEvent) → w.cores n ≡ Some s → Arises w e → (g : List ℕ) (m : ℕ) → GoesOn (λ c. acked_of c g m) (λ c e k. Acknowledges c e g m k) s e (stepped f s e) ⊎ (EntersView (stepped f s e) × (acked_of (stepped f s e) g m ≡ 0))
 
 -- a list of a group that the node leads starts at the least length that a member of its view holds, as the node knows it
 abbrev pub LeadersForget : Type 0
