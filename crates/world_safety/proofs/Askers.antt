@@ -150,7 +150,7 @@ node_same : (n j m i : ℕ) → Some (member n j) ≡ Some (member m i) → n �
 node_same n j m i e = let z : member n j ≡ member m i = cc in ap (λ (y : Member). y.node) z
 
 module _ (c : Config) where
-  sent_further : (q : Packet) (rest done : List Answered) → AllMayHappen c (events_in (done ++ rest)) → Has q (answered_after c done).sent → Has q (answered_after c (done ++ rest)).sent
+  pub sent_further : (q : Packet) (rest done : List Answered) → AllMayHappen c (events_in (done ++ rest)) → Has q (answered_after c done).sent → Has q (answered_after c (done ++ rest)).sent
   sent_further q = goes_further c (λ es. Has q (answered_after c es).sent) (λ done e may h. subst (λ (w : World). Has q w.sent) (sym (answered_last c done e)) (happens_keeps q e.answers (answered_after c done) e.event h))
 
   trace_grows : (r : Happened) (done : List Answered) (e : Answered) → AllMayHappen c (events_in (done ++ e ∷ [])) → Has r (answered_after c done).trace → Has r (answered_after c (done ++ e ∷ [])).trace

@@ -21,7 +21,7 @@ use Rattle.entry_laws.specs.source_order.Sources.{PutBefore}
 use Rattle.world_laws.specs.world_answers.Answers.{Answered, goes_on, answered_after, worded, worded_from, all_worded}
 use Rattle.world_safety.specs.Mirrors.{core_at}
 use Rattle.world_safety.specs.Askers.{LooksUp, FirstAsks, RecordLed}
-use Rattle.world_safety.specs.Samples.{history_after, db, two, two_view, lookup_of, until_asked, asks_first, after_asked, two_ask, two_asked}
+use Rattle.world_safety.specs.Samples.{history_after, core_after, db, two, two_view, lookup_of, until_asked, asks_first, after_asked, two_ask, two_asked}
 use Rattle.world_safety.specs.Opens.{all_opens}
 
 pub two_asked_is : history_after two two_ask ≡ two_asked 2 1
@@ -78,13 +78,9 @@ nobody_asked =
     (start_given _ _ _ 1, (start_given _ _ _ 2, (ask_given _ _ _ 1 _, (other_given _ two_view db 1 2 1 refl, (other_given _ two_view db 2 1 1 refl, (other_given _ two_view db 1 2 2 refl, (call_given _ _ _ 2 _, (call_given _ _ _ 2 _, tt))))))))
 
 -- an event among others, with what the clients answer
-worded_at : (w : World) (xs ys : List Event) (e : Event) → worded_from w (xs ++ e ∷ ys) ≡ worded_from w xs ++ worded (fold happens w xs) e ∷ worded_from (happens (fold happens w xs) e) ys
+pub worded_at : (w : World) (xs ys : List Event) (e : Event) → worded_from w (xs ++ e ∷ ys) ≡ worded_from w xs ++ worded (fold happens w xs) e ∷ worded_from (happens (fold happens w xs) e) ys
 worded_at w [] ys e = refl
 worded_at w (x ∷ xs) ys e = ap (λ l. worded w x ∷ l) (worded_at (happens w x) xs ys e)
-
-abbrev core_or : Option Core → Core
-core_or None = started two 1 1
-core_or (Some s) = s
 
 pub second_node_asks_first : FirstAsks two (all_worded two two_ask) two_view db 2
 unfolding all_opens
@@ -94,7 +90,7 @@ second_node_asks_first =
       event = worded (fold happens (world_new two) until_asked) asks_first;
       rest = worded_from (happens (fold happens (world_new two) until_asked) asks_first) after_asked;
       at = worded_at (world_new two) until_asked after_asked asks_first;
-      asks = record { coordinator = core_or (core_at (answered_after two (all_worded two until_asked)).nodes 1); up = refl; coordinates_it = refl; sender = 2; number = 3; happens = refl; packet = lookup_of 2; given = refl; to = refl; from = refl; looks_up = refl; used = refl };
+      asks = record { coordinator = core_after two until_asked 1; up = refl; coordinates_it = refl; sender = 2; number = 3; happens = refl; packet = lookup_of 2; given = refl; to = refl; from = refl; looks_up = refl; used = refl };
       first = λ k. none_asks two_view db (all_worded two until_asked) k.before k.rest (world_new two) k.event k.asker nobody_asked k.at k.asks;
     }
 
