@@ -160,7 +160,7 @@ step_begins w n s up rests c =
     record {
       came = refl;
       rows =
-        record { order = (subst (NodeIsIf w.config (rests []).ghost [] n (w.incs n)) up ((rests []).nodes n)).0.order; starts = λ g. (c g).1; tallies = λ g t. (c g).0; led = λ g z. absurd z };
+          record { order = (subst (NodeIsIf w.config (rests []).ghost [] n (w.incs n)) up ((rests []).nodes n)).0.order; starts = λ g. (c g).1; tallies = λ g t. (c g).0; led = λ g z. absurd z };
       facts = tt;
       states = λ fresh. states_rest w rests n s up;
     }
@@ -236,12 +236,15 @@ steps_forget c w k n f s e up arises g away = by (step_reaches w n f s e up (λ 
     by (inr (y, go, a)) =
         let begun = a.rows.starts g in
         let is : start_in (found t g).list ≡ y.starts g = begun.told away in
-        inl (was (leads_row s (found s g)) refl (λ q. begun.goes (go.led g ∙ q)), record {
-          view = a.came;
-          old = subst (λ i. start_in (found s g).list ≤ i) (sym is) (go.old g);
-          told = λ j z. subst (λ i. j ≤ i) (sym is) (go.told g j (ends_told s e g j z));
-          one = one is (go.one g);
-        })
+        inl (
+          was (leads_row s (found s g)) refl (λ q. begun.goes (go.led g ∙ q)),
+          record {
+            view = a.came;
+            old = subst (λ i. start_in (found s g).list ≤ i) (sym is) (go.old g);
+            told = λ j z. subst (λ i. j ≤ i) (sym is) (go.told g j (ends_told s e g j z));
+            one = one is (go.one g);
+          },
+        )
       where
         was : (b : Bool) → leads_row s (found s g) ≡ b → (b ≡ true → leads_row t (found t g) ≡ true) → leads_row s (found s g) ≡ false
         was false q on = q

@@ -35,7 +35,7 @@ use Rattle.node_state.specs.HandOn.{Answering, hand_on}
 use Rattle.node_state.specs.Leading.{put, put_and_hand, forget_least, with_waiting, wait_if, new_members_wait, appended, append_if_fits, tally_for, tally_set, tally_opened, closing_entry, is_phase, closes_from, closes, begin_many, begins}
 use Rattle.node_state.proofs.NameOrder.{cases_text, text_self, text_other}
 use Rattle.entry_laws.specs.closing_rows.Rows.{start_in, HasRows, TallyFits}
-use Rattle.entry_laws.proofs.closing_rows.At.{found, leads_row, Seat, seat, leader_at, leads_by, holds_at, least_at, least_is, least_below, least_more, Floors, RowStarts, row_same, loosened, loose_here, loosen_here, loosen_beside, settle_beside, RowIs, Frame, PutFact, At, at_put_for, at_fold, at_calm, at_row, at_row_for, put_fact}
+use Rattle.entry_laws.proofs.closing_rows.At.{found, leads_row, Seat, seat, leader_at, leads_by, holds_at, least_at, least_is, least_below, least_more, Floors, RowStarts, row_same, loosened, loose_here, loosen_here, settle_beside, RowIs, Frame, PutFact, At, at_put_for, at_fold, at_calm, at_row, at_row_for, put_fact}
 use Rattle.entry_laws.proofs.closing_rows.Calms.{calm_all, at_handed}
 use Rattle.entry_laws.proofs.closing_rows.Tallies.{opened_fits, idle_voters, closing_rows}
 

@@ -1,6 +1,5 @@
 -- The rows of an entry that closes a phase: one for each voter.
 use Rattle.std.specs.Prelude.{ℕ, ◌≡◌, ◌≤◌, ◌⊎◌, true, false, List, map, Option, Some, None}
-use Rattle.rsct_packet.specs.declared.ids.ViewId.{ViewId}
 use Rattle.rsct_packet.specs.declared.ids.Member.{Member}
 use Rattle.rsct_packet.specs.Search.{Has}
 use Rattle.proposal_core.specs.declared.entry.Row.{Row}
