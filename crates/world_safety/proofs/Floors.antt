@@ -7,6 +7,7 @@ use Rattle.rsct_packet.specs.declared.ids.Member.{Member}
 use Rattle.rsct_packet.specs.Ids.{last_u32}
 use Rattle.rsct_packet.specs.Search.{Has, insert_before}
 use Rattle.rsct_packet.specs.Mask.{nodes_of}
+use Rattle.view_state.specs.Views.{views_new}
 use Rattle.rsct_packet.proofs.HasLaws.{append_has_right}
 use Rattle.node_state.specs.declared.config.Config.{Config}
 use Rattle.node_state.specs.declared.config.Mode.{Mode}
@@ -17,6 +18,7 @@ use Rattle.node_state.specs.declared.happened.Happened.TheVariants as happened
 use Rattle.node_state.specs.declared.packet.Packet.{Packet}
 use Rattle.node_state.specs.declared.state.Core.{Core}
 use Rattle.node_state.specs.HandOn.{Answering}
+use Rattle.node_state.specs.Applying.{level_set}
 use Rattle.node_state.specs.State.{row_of, led_of, list_of, len_of, acked_from, acked_by, least_acked, leads, with_sessions}
 use Rattle.node_state.specs.Step.{NodeEvent, Given, first_view, first_members, own_rings, ring_record, started, stepped}
 use Rattle.world_model.specs.declared.event.Event.{Event}
@@ -31,7 +33,6 @@ use Rattle.step_refinement.specs.Runs.{Reached, Steps}
 use Rattle.step_refinement.proofs.Acks.{fold_least, member_self}
 use Rattle.step_refinement.proofs.Changed.{set_here}
 use Rattle.step_refinement.proofs.RunLaw.{reached_rests}
-use Rattle.step_refinement.proofs.Turns.{has_turned}
 use Rattle.entry_laws.specs.closing_rows.Rows.{start_of, acked_of, Tells, Acknowledges, GoesOn, EntersView}
 use Rattle.entry_laws.proofs.closing_rows.Law.{puts_grow, entered_anew, told_held, acked_held, steps_forget, steps_keep_acks, leaders_forget}
 use Rattle.world_laws.specs.world_answers.Answers.{Answered, goes_on, events_in, answered_after, happens_by, delivers_by_if, step_by}
@@ -42,7 +43,7 @@ use Rattle.world_safety.proofs.Finding.{with_here, put_here, put_there}
 use Rattle.world_safety.proofs.Following.{IsNamed, StartOf, StepOf, CameTo}
 use Rattle.world_safety.proofs.Posting.{posted_nodes, kth_is}
 use Rattle.world_safety.proofs.Runs.{every_run_is_reached}
-use Rattle.world_safety.proofs.HeardStates.{answered_last}
+use Rattle.world_safety.proofs.HeardStates.{answered_last, has_turned}
 use Rattle.world_safety.proofs.Turned.{onto_is}
 use Rattle.world_safety.proofs.Further.{goes_further, Turned, turned_at}
 
@@ -93,18 +94,22 @@ bare_acked : (c : Config) (n j : ℕ) (g : List ℕ) (m : ℕ) → acked_of (sta
 unfolding started with_sessions led_of row_of acked_from
 bare_acked c n j g m = refl
 
+start_me : (c : Config) (n j : ℕ) → (started c n j).views.me ≡ n
+unfolding started with_sessions level_set views_new
+start_me c n j = refl
+
 -- and it records that it enters its view
 start_enters : (c : Config) (n j : ℕ) → (ms : List Member) × Has (happened.In (started c n j).views.me (started c n j).views.view ms) (started c n j).records
-unfolding started with_sessions
+unfolding started with_sessions level_set views_new
 start_enters c n j =
-    (first_members c c.mode n j, inr (append_has_right (happened.In n (first_view c c.mode n j) (first_members c c.mode n j)) (happened.In n (first_view c c.mode n j) (first_members c c.mode n j) ∷ []) (inl refl)))
+    (first_members c c.mode n j, inr (append_has_right (happened.In n (first_view c c.mode n j) (first_members c c.mode n j)) (map (ring_record n) (own_rings c c.mode n j)) (happened.In n (first_view c c.mode n j) (first_members c c.mode n j) ∷ []) (inl refl)))
 
 -- each node is as it started
 abbrev AllBegun : World → Type 0
 AllBegun w = (n : ℕ) (s : Core) → core_at w.nodes n ≡ Some s → (c : Config) × (m j : ℕ) × (s ≡ started c m j)
 
 all_begin : (w : World) (n : ℕ) → AllBegun w → AllBegun (node_starts w n)
-unfolding node_starts node_at starts_if started_at traced is_node started with_sessions
+unfolding node_starts node_at starts_if started_at traced is_node
 all_begin w n old = by (find (is_node n) w.nodes) refl
   where
     last : ℕ
@@ -117,7 +122,7 @@ all_begin w n old = by (find (is_node n) w.nodes) refl
     test y = nat_lt n y.core.views.me
 
     same : (m : ℕ) → is_node m x ≡ true → m ≡ n
-    same m e = sym (eqb-true n m e)
+    same m e = sym (eqb-true x.core.views.me m e) ∙ start_me w.config n (last + 1)
 
     begun : find (is_node n) w.nodes ≡ None → (m : ℕ) (b : Bool) → is_node m x ≡ b → (s : Core) → core_at (insert_before test x w.nodes) m ≡ Some s → (c : Config) × (k j : ℕ) × (s ≡ started c k j)
     begun down m true e s up =
@@ -127,12 +132,12 @@ all_begin w n old = by (find (is_node n) w.nodes) refl
     begun down m false e s up = old m s (sym (ap core_in (put_there x test m e w.nodes)) ∙ up)
 
     by : (o : Option Node) → find (is_node n) w.nodes ≡ o → AllBegun (starts_if w n last o)
-    by (Some y) at m s up = old m s up
+    by (Some y) at = old
     by None at = by_last (last == last_u32)
       where
         by_last : (b : Bool) → AllBegun (elim b [ true ↦ w | false ↦ started_at w n (last + 1) ])
         by_last true = old
-        by_last false m s up = begun at m (is_node m x) refl s up
+        by_last false = λ m s up. begun at m (is_node m x) refl s up
 
 all_begun : (ns : List ℕ) (w : World) → AllBegun w → AllBegun (fold node_starts w ns)
 all_begun [] w old = old
@@ -142,8 +147,8 @@ all_begun (n ∷ ns) w old = all_begun ns (node_starts w n) (all_begin w n old)
 first_begun : (c : Config) (mode : Mode) → AllBegun (world_of c mode)
 unfolding world_of
 first_begun c Fixed = all_begun (nodes_of c.nodes) (empty_world c) (λ n s up. absurd (cc))
-first_begun c Asked n s up = absurd (cc)
-first_begun c Rings n s up = absurd (cc)
+first_begun c Asked = λ n s up. absurd (cc)
+first_begun c Rings = λ n s up. absurd (cc)
 
 -- the node that is given a packet takes that step
 deliver_steps : (f : Answering) (w : World) (a b i : ℕ) (core : Core) (p : Packet) → core_at w.nodes b ≡ Some core → kth_between w a b i ≡ Some p → (stepped f core (Given p)).views.me ≡ b → core_at (happens_by f w (event.Deliver a b i)).nodes b ≡ Some (stepped f core (Given p))
@@ -248,8 +253,8 @@ module _ (c : Config) where
           more = grown n v
 
           by : Said done n v k ⊎ Says_now w e.event n v k → k ≤ length (puts_of n v g (answered_after c (done ++ e ∷ [])).trace)
-          by (inl z) = let le : k ≤ length (puts_of n v g w.trace) = old n v k z in omega arith
-          by (inr z) = let le : k ≤ length (puts_of n v g w.trace) = held_now n v k z in omega arith
+          by (inl z) = let le : k ≤ length (puts_of n v g w.trace) = old n v k z in let up = more in omega arith
+          by (inr z) = let le : k ≤ length (puts_of n v g w.trace) = held_now n v k z in let up = more in omega arith
 
       -- a node that enters a view put nothing there before
       stepped_anew : (n : ℕ) (f : Answering) (s : Core) (what : NodeEvent) (up : t.scene.cores n ≡ Some s) (arises : Arises t.scene what) → EntersView (stepped f s what) → length (puts_of n (stepped f s what).views.view g w.trace) ≤ 0
@@ -345,7 +350,7 @@ module _ (c : Config) where
                 now = ap value (sym x.is)
 
                 less : (k : ℕ) → k ≤ value x.core → k ≤ value s
-                less k le = let up : value x.core ≤ value y = z.1.old in omega arith
+                less k le = let up : value x.core ≤ value y = z.1.old in let is = now in omega arith
 
                 before : value s ≡ value x.core → (value x.core ≡ 0) ⊎ Said done n x.core.views.view (value x.core) → (value s ≡ 0) ⊎ Said (done ++ e ∷ []) n s.views.view (value s)
                 before same (inl q) = inl (same ∙ q)
@@ -387,7 +392,7 @@ module _ (c : Config) where
   -- ---- what a leader forgets
 
   module _ (es : List Answered) (may : AllMayHappen c (events_in es)) (n : ℕ) (s : Core) (up : core_at (answered_after c es).nodes n ≡ Some s) (g : List ℕ) where
-    scene : Scene
+    abbrev scene : Scene
     scene = (every_run_is_reached c es may).0
 
     reached : Reached c scene
@@ -408,7 +413,7 @@ module _ (c : Config) where
 
     -- what it knows of each
     knows : (m : Member) → KnowsHeld c es s g m.node (acked_by s (row_of s g) m.node)
-    unfolding acked_by len_of list_of
+    unfolding acked_by len_of list_of row_of led_of
     knows m = by (m.node == s.views.me) refl
       where
         said : IsGreatest (HasAcknowledged c es s.views.me s.views.view g m.node) (acked_of s g m.node)
