@@ -12,6 +12,7 @@ use Rattle.node_state.specs.declared.packet.Body.{Body}
 use Rattle.node_state.specs.declared.packet.Body.TheVariants.{Entry}
 use Rattle.node_state.specs.declared.packet.Packet.{Packet}
 use Rattle.node_state.specs.declared.state.Core.{Core}
+use Rattle.node_state.specs.State.{len_of}
 use Rattle.node_state.specs.Step.{NodeEvent, Given}
 use Rattle.world_model.specs.declared.event.Event.TheVariants as event
 use Rattle.world_model.specs.World.{happens, world_new}
@@ -19,9 +20,9 @@ use Rattle.run_safety.proofs.Tests.{has_any}
 use Rattle.world_laws.specs.world_answers.Answers.{Answered, events_in, answered_after, worded, worded_from, all_worded}
 use Rattle.world_safety.specs.Events.{AllMayHappen}
 use Rattle.world_safety.specs.Floors.{WasGiven, ToldToForget, HasAcknowledged, KnowsHeld, IsGreatest, IsLeastHeld}
-use Rattle.world_safety.specs.Samples.{db, hello, one_view, pair, until_acked, until_told, acks, tells, two_entries, first_ack, second_entry, sent_after, core_after, start_after}
+use Rattle.world_safety.specs.Samples.{db, hello, one_view, two_members, pair, until_acked, until_told, acks, tells, two_entries, first_ack, second_entry, sent_after, core_after, start_after}
 use Rattle.world_safety.specs.Opens.{all_opens}
-use Rattle.world_safety.proofs.Asking.{worded_at}
+use Rattle.world_safety.proofs.Asking.{worded_at, there}
 use Rattle.world_safety.proofs.Askers.{sent_further}
 use Rattle.world_safety.proofs.Moments.{front_may}
 use Rattle.world_safety.proofs.Posting.{kth_is}
@@ -54,7 +55,7 @@ member_was_told =
       event = worded (fold happens (world_new pair) (until_acked ++ until_told)) tells;
       rest = worded_from (happens (fold happens (world_new pair) (until_acked ++ until_told)) tells) [];
       at = worded_at (world_new pair) (until_acked ++ until_told) [] tells;
-      gives = record { core = core_after pair (until_acked ++ until_told) 2; up = refl; view = refl; sender = 1; number = 2; happens = refl; packet = second_entry; given = refl; says = record { packet = second_entry; given = refl; to = refl; place = 1; entry = _; says = refl; used = refl; fits = λ e. refl } };
+      gives = record { core = core_after pair (until_acked ++ until_told) 2; up = there pair (until_acked ++ until_told) 2 refl; view = refl; sender = 1; number = 2; happens = refl; packet = second_entry; given = refl; says = record { packet = second_entry; given = refl; to = refl; place = 1; entry = _; says = refl; used = refl; fits = λ e. refl } };
     }
 
 abbrev says_two : Body → Bool
@@ -98,26 +99,35 @@ member_acknowledged =
     record {
       before = all_worded pair until_acked;
       event = worded (fold happens (world_new pair) until_acked) acks;
-      rest = _;
+      rest = worded_from (happens (fold happens (world_new pair) until_acked) acks) (event.Call 1 (call.SendMessage (codes "a") db One hello) ∷ event.Deliver 1 1 2 ∷ tells ∷ []);
       at = worded_at (world_new pair) until_acked (event.Call 1 (call.SendMessage (codes "a") db One hello) ∷ event.Deliver 1 1 2 ∷ tells ∷ []) acks;
-      gives = record { core = core_after pair until_acked 1; up = refl; view = refl; sender = 2; number = 1; happens = refl; packet = first_ack; given = refl; says = record { packet = first_ack; given = refl; to = refl; from = refl; says = refl; used = refl; led = refl } };
+      gives = record { core = core_after pair until_acked 1; up = there pair until_acked 1 refl; view = refl; sender = 2; number = 1; happens = refl; packet = first_ack; given = refl; says = record { packet = first_ack; given = refl; to = refl; from = refl; says = refl; used = refl; led = refl } };
     }
 
--- the leader that never forgets
+-- a leader whose list of two entries lacks nothing, though the member has acknowledged one
+keeps_all : (s : Core) → s.views.members ≡ two_members → s.views.me ≡ 1 → s.views.view ≡ one_view → len_of s db ≡ 2 → IsLeastHeld pair (all_worded pair two_entries) s db 0 → ⊥
+keeps_all s members me view len k = by k.one.0 (subst (Has k.one.0) members k.one.1) k.one.2
+  where
+    apart : (m : ℕ) → m ≡ 1 → m ≡ 2 → ⊥
+    apart m e q = omega arith
+
+    some : (n : ℕ) → n ≡ 2 → 0 ≡ n → ⊥
+    some n e q = omega arith
+
+    own : (m : ℕ) → m ≡ 1 → KnowsHeld pair (all_worded pair two_entries) s db m 0 → ⊥
+    own m e (inl z) = some (len_of s db) len z.1
+    own m e (inr z) = z.0 (e ∙ sym me)
+
+    other : (m : ℕ) → m ≡ 2 → KnowsHeld pair (all_worded pair two_entries) s db m 0 → ⊥
+    other m e (inl z) = apart m (z.0 ∙ me) e
+    other m e (inr z) =
+        let le : 1 ≤ 0 = z.1.all 1 (subst (λ (i : ℕ × ViewId × ℕ). HasAcknowledged pair (all_worded pair two_entries) i.0 i.1 db i.2 1) (λ i. (sym me i, sym view i, sym e i)) member_acknowledged) in omega arith
+
+    by : (m : Member) → Has m two_members → KnowsHeld pair (all_worded pair two_entries) s db m.node 0 → ⊥
+    by m (inl e) z = own m.node (ap (λ (y : Member). y.node) e) z
+    by m (inr (inl e)) z = other m.node (ap (λ (y : Member). y.node) e) z
+    by m (inr (inr h)) z = absurd h
+
 pub leader_that_keeps_is_refused : IsLeastHeld pair (all_worded pair two_entries) (core_after pair two_entries 1) db 0 → ⊥
 unfolding all_opens
-leader_that_keeps_is_refused k = by k.one.0 k.one.1 k.one.2
-  where
-    holds : (m : ℕ) → KnowsHeld pair (all_worded pair two_entries) (core_after pair two_entries 1) db m 0 → m ≡ 2 → ⊥
-    holds m (inl z) e = let own : m ≡ 1 = z.0 in let clash : 1 ≡ 2 = sym own ∙ e in cc
-    holds m (inr z) e =
-        let le : 1 ≤ 0 = z.1.all 1 (subst (λ i. HasAcknowledged pair (all_worded pair two_entries) 1 one_view db i 1) (sym e) member_acknowledged) in omega arith
-
-    own : (m : ℕ) → KnowsHeld pair (all_worded pair two_entries) (core_after pair two_entries 1) db m 0 → m ≡ 1 → ⊥
-    own m (inl z) e = let len : 0 ≡ 2 = z.1 in cc
-    own m (inr z) e = z.0 e
-
-    by : (m : Member) → Has m (core_after pair two_entries 1).views.members → KnowsHeld pair (all_worded pair two_entries) (core_after pair two_entries 1) db m.node 0 → ⊥
-    by m (inl e) z = own m.node z (ap (λ (y : Member). y.node) e)
-    by m (inr (inl e)) z = holds m.node z (ap (λ (y : Member). y.node) e)
-    by m (inr (inr h)) z = absurd h
+leader_that_keeps_is_refused = keeps_all (core_after pair two_entries 1) refl refl refl refl
