@@ -1,6 +1,6 @@
 -- Who asks first for a group leads it, where it has no base: of the coordinator's table at each moment, and of the NAME that answers
 -- the first LOOKUP.
-use Rattle.std.proofs.Common.{◌≡◌, ◌≢◌, ◌⊎◌, ℕ, List, [], ◌∷◌, ◌++◌, Option, Some, None, Bool, true, false, refl, sym, ap, ◌∙◌, subst, inl, inr, ⊎_elim, append_assoc, append-nil, length, ◌+◌}
+use Rattle.std.proofs.Common.{◌≡◌, ◌≢◌, ◌⊎◌, ℕ, List, [], ◌∷◌, ◌++◌, Option, Some, None, Bool, true, false, refl, sym, ap, ◌∙◌, subst, inl, inr, ⊎_elim, append_assoc, length, ◌+◌}
 use Rattle.std.specs.Prelude.{◌==◌, ◌&&◌, not, find, fold, reverse, nat_le, if◌then◌else◌}
 use Rattle.std.specs.Option.{unwrap_or}
 use Rattle.std.specs.Str.{bytes_eq}
@@ -33,7 +33,7 @@ use Rattle.node_state.specs.Step as step
 use Rattle.world_model.specs.declared.event.Event.{Event}
 use Rattle.world_model.specs.declared.event.Event.TheVariants as event
 use Rattle.world_model.specs.World.{Node, Script, Started, World, inc_in, scripts_after, is_node, node_at, kth_between, posted, handled, traced, after_step, started_at, starts_if, node_starts, stops_if, shows_if, world_of, world_new}
-use Rattle.run_safety.specs.Past.{History, EachRecord, Within, earlier, records_of, history_of}
+use Rattle.run_safety.specs.Past.{History, EachRecord, Within, earlier, history_of}
 use Rattle.run_safety.specs.Sight.{lines_with, lines_of}
 use Rattle.run_safety.specs.Group.{member, Line, Kept, Noted, Put, Based, Heard, kept}
 use Rattle.run_safety.specs.Group as group
@@ -50,7 +50,7 @@ use Rattle.entry_laws.specs.source_order.Meant.{DeliveriesAreNoted}
 use Rattle.entry_laws.specs.source_order.Sources.{RecordedBase, PutBefore}
 use Rattle.entry_laws.proofs.source_order.Steps.{looked_at, looked_by}
 use Rattle.entry_laws.proofs.source_order.Law.{names_come, lookup_is_named}
-use Rattle.world_laws.specs.world_answers.Answers.{Answered, goes_on, events_in, answered_after, answered_records, happens_by, delivers_by_if, step_by, step_by_if, calls_by_if}
+use Rattle.world_laws.specs.world_answers.Answers.{Answered, goes_on, events_in, answered_after, happens_by, delivers_by_if, step_by, step_by_if, calls_by_if}
 use Rattle.world_safety.specs.Events.{run_of_events, AllMayHappen}
 use Rattle.world_safety.specs.Mirrors.{core_in, core_at, Mirrors}
 use Rattle.world_safety.specs.Askers.{LooksUp, LookedUp, RecordLed, FirstAskersLead}
@@ -59,10 +59,8 @@ use Rattle.world_safety.proofs.Runs.{every_run_is_reached}
 use Rattle.world_safety.proofs.Posting.{kth_is}
 use Rattle.world_safety.proofs.Moments.{front_may}
 use Rattle.world_safety.proofs.Further.{goes_further, Turned, turned_at, trace_is}
-use Rattle.world_safety.proofs.HeardStates.{answered_last, last_may}
-use Rattle.world_safety.proofs.Turned.{onto_is, back_again}
-use Rattle.world_safety.proofs.Traces.{run_has_the_records}
-use Rattle.world_safety.proofs.SteadyRuns.{history_records}
+use Rattle.world_safety.proofs.HeardStates.{answered_last}
+use Rattle.world_safety.proofs.Turned.{onto_is}
 
 -- ---- what was sent stays sent
 

@@ -12,7 +12,6 @@ use Rattle.rsct_packet.proofs.HasLaws.{append_has_right}
 use Rattle.node_state.specs.declared.config.Config.{Config}
 use Rattle.node_state.specs.declared.config.Mode.{Mode}
 use Rattle.node_state.specs.declared.config.Mode.TheVariants.{Fixed, Asked, Rings}
-use Rattle.node_state.specs.declared.group.GroupRow.{GroupRow}
 use Rattle.node_state.specs.declared.happened.Happened.{Happened}
 use Rattle.node_state.specs.declared.happened.Happened.TheVariants as happened
 use Rattle.node_state.specs.declared.packet.Packet.{Packet}
@@ -23,7 +22,7 @@ use Rattle.node_state.specs.State.{row_of, led_of, list_of, len_of, acked_from, 
 use Rattle.node_state.specs.Step.{NodeEvent, Given, first_view, first_members, own_rings, ring_record, started, stepped}
 use Rattle.world_model.specs.declared.event.Event.{Event}
 use Rattle.world_model.specs.declared.event.Event.TheVariants as event
-use Rattle.world_model.specs.World.{Node, Started, World, is_node, node_at, kth_between, handled, traced, after_step, posted, started_at, starts_if, node_starts, empty_world, world_of, world_new, inc_in}
+use Rattle.world_model.specs.World.{Node, Started, World, is_node, node_at, kth_between, handled, traced, after_step, started_at, starts_if, node_starts, empty_world, world_of, world_new, inc_in}
 use Rattle.proposal_core.specs.Lists.{len_in}
 use Rattle.run_safety.specs.Past.{records_of, puts_of}
 use Rattle.run_safety.specs.Group.{member}
@@ -35,9 +34,9 @@ use Rattle.step_refinement.proofs.Changed.{set_here}
 use Rattle.step_refinement.proofs.RunLaw.{reached_rests}
 use Rattle.entry_laws.specs.closing_rows.Rows.{start_of, acked_of, Tells, Acknowledges, GoesOn, EntersView}
 use Rattle.entry_laws.proofs.closing_rows.Law.{puts_grow, entered_anew, told_held, acked_held, steps_forget, steps_keep_acks, leaders_forget}
-use Rattle.world_laws.specs.world_answers.Answers.{Answered, goes_on, events_in, answered_after, happens_by, delivers_by_if, step_by}
+use Rattle.world_laws.specs.world_answers.Answers.{Answered, events_in, answered_after, happens_by, delivers_by_if, step_by}
 use Rattle.world_safety.specs.Events.{AllMayHappen}
-use Rattle.world_safety.specs.Mirrors.{core_in, core_at, Mirrors}
+use Rattle.world_safety.specs.Mirrors.{core_in, core_at}
 use Rattle.world_safety.specs.Floors.{IsGiven, WasGiven, IsGreatest, ListsStartAsTold, HasAcknowledged, KnowsHeld, IsLeastHeld, LedListsStartAsHeld}
 use Rattle.world_safety.proofs.Finding.{with_here, put_here, put_there}
 use Rattle.world_safety.proofs.Following.{IsNamed, StartOf, StepOf, CameTo}

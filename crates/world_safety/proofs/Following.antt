@@ -4,7 +4,7 @@ use Rattle.std.specs.Prelude.{find, map, reverse}
 use Rattle.rsct_packet.specs.Ids.{last_u32}
 use Rattle.rsct_packet.specs.Lists.{reverse_onto}
 use Rattle.rsct_packet.specs.Search.{Has}
-use Rattle.rsct_packet.proofs.HasLaws.{append_has_left, append_has_right, has_map}
+use Rattle.rsct_packet.proofs.HasLaws.{append_has_right, has_map}
 use Rattle.packet_bodies.specs.declared.body.What.{What}
 use Rattle.session_state.specs.declared.fault.GsFault.TheVariants.{NoInit}
 use Rattle.node_state.specs.declared.call.CallLine.{CallLine}
@@ -24,7 +24,6 @@ use Rattle.world_model.specs.declared.event.Event.{Event}
 use Rattle.world_model.specs.declared.event.Event.TheVariants as event
 use Rattle.world_model.specs.World.{Script, Node, World, is_node, node_at, kth_between, handled, traced, after_step, started_at, starts_if, node_starts, stops_if, shows_if, scripts_after}
 use Rattle.world_laws.proofs.world_runs.Traces.{after_records}
-use Rattle.run_safety.specs.Past.{records_of}
 use Rattle.step_refinement.specs.Tied.{Scene, NodeIsIf, Rests}
 use Rattle.step_refinement.specs.Rules.{over, stopped, start_with, ended, Arises}
 use Rattle.entry_laws.specs.late_rows.Runs.{NotedAs, TicksAreNoted}

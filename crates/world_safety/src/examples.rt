@@ -79,5 +79,6 @@ pub fn leader_forgets_what_was_acknowledged()
 /// A leader whose list lacks nothing, as one that never forgets or that records no ACK, is refused.
 #[tactic(auto, using(crate::proofs::Forgetting::leader_that_keeps_is_refused))]
 pub fn leader_that_keeps_all_is_refused()
-    ensures { IsLeastHeld pair (all_worded pair two_entries) (core_after pair two_entries 1) db 0 → ⊥ }
+    ensures { IsLeastHeld pair (all_worded pair two_entries)
+        (core_after pair two_entries 1) db 0 → ⊥ }
 {}
