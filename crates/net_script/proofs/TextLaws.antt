@@ -69,8 +69,8 @@ pub writes_front : (a b c : Option (List ℕ)) (left rest x y more : List ℕ) �
 writes_front a b c left rest x y more p q =
     front_on a b c p.front (rest ++ y) more (left ++ (x ++ (y ++ more))) (ap (λ t. p.front ++ t) (append_assoc rest y more) ∙ left_on a b left rest x (y ++ more) p) p.grows q
 
-pub whole_block : (a b : Option (List ℕ)) (left : List ℕ) → Appends a b left → Writes a left b [] []
-whole_block a b left h = record { front = left; whole = refl; grows = h }
+pub whole_block : (a b : Option (List ℕ)) (left rest : List ℕ) → rest ≡ [] → Appends a b left → Writes a left b rest []
+whole_block a b left rest e h = record { front = left; whole = ap (λ t. left ++ t) e; grows = h }
 
 pub block_done : (a b : Option (List ℕ)) (left text both rest : List ℕ) → both ≡ left ++ text → Writes a both b rest [] → Writes a left b rest text
 block_done a b left text both rest e p = record { front = p.front; whole = p.whole ∙ (append-nil both ∙ e); grows = p.grows }
