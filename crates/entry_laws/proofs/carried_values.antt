@@ -1,14 +1,6 @@
 pub mod Slots
 pub mod More
 pub mod At
-pub mod Sends
-pub mod Keeps
-pub mod Hands
-pub mod Leading
-pub mod Ending
-pub mod Entering
-pub mod Ticking
-pub mod Following
-pub mod Calling
+pub mod Changes
 pub mod Steps
 pub mod Law

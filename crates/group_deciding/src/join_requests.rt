@@ -2,7 +2,7 @@
 ghost use Rattle.std.specs.Prelude.{◌≡◌, [], IfOk, OnOk};
 ghost use Rattle.batch_rules.specs.Next.{added_as};
 ghost use Rattle.batch_rules.specs.declared.waiting.Added.TheVariants.{Queued};
-ghost use Rattle.proposal_core.specs.Fold.{joins_of, joiners_in, present};
+ghost use Rattle.proposal_core.specs.Fold.{present};
 ghost use Rattle.node_state.specs.State.{InNameOrder, led_of, state_of};
 ghost use Rattle.node_state.specs.Deciding.{is_idle_empty, meant_attrs, join_refusal, wait_join, decide_join};
 ghost use Rattle.node_groups.specs.Keeps.{Keeps};
@@ -15,36 +15,16 @@ use client_callbacks::Why;
 use group_attr::Attrs;
 use node_groups::{keep_decision, open, state_of, waiting_joins};
 use node_state::Core;
-use proposal_core::{GroupState, Proposal, Running};
+use proposal_core::GroupState;
 use rsct_packet::{List, MAX_PROVIDERS, Name, NoMemory, ProviderId};
 use std::alloc::Global;
-
-/// The providers of a join.
-fn joins_of(proposal: &Proposal) -> &[ProviderId]
-    ensures { result.now ≡ joins_of proposal.now }
-{
-    match proposal {
-        Proposal::Join { ps, .. } => ps.as_slice(),
-        _ => &[],
-    }
-}
-
-/// The running joiners.
-fn joiners_in(running: &Option<Running>) -> &[ProviderId]
-    ensures { result.now ≡ joiners_in running.now }
-{
-    match running {
-        None => &[],
-        Some(run) => joins_of(&run.proposal),
-    }
-}
 
 /// The members, then the running joiners.
 fn present(alloc: Global, state: &GroupState) -> Result<List<ProviderId>, NoMemory>
     ensures { IfOk result (λ ps. ps ≡ present state.now) }
 {
     let mut ps = List::of(alloc, state.members.as_slice())?;
-    ps.extend(joiners_in(&state.running))?;
+    ps.extend(state.joiners())?;
     Ok(ps)
 }
 

@@ -7,7 +7,7 @@ ghost use Rattle.group_leading.specs.Working.{AtWork};
 ghost use Rattle.node_state.specs.State.{leads, state_of};
 ghost use Rattle.node_state.specs.Following.{take_vote};
 
-use client_callbacks::{Callbacks, Filled};
+use client_callbacks::Callbacks;
 use group_leading::close;
 use node_groups::{cast_vote, is_running, leads};
 use node_sending::FilledBallot;
@@ -41,19 +41,15 @@ pub fn take_vote<C: Callbacks>(
     if !takes_votes(core, ballot.group.bytes(), ballot.proto, ballot.phase) {
         return Ok(());
     }
-    let Filled {
-        vote,
-        value,
-        message,
-    } = ballot.filled.copy(alloc)?;
+    let filled = ballot.filled.copy(alloc)?;
     cast_vote(
         core,
         alloc,
         ballot.group,
         ballot.provider,
-        vote,
-        value,
-        message,
+        filled.vote,
+        filled.value,
+        filled.message,
     )?;
     close(core, clients, alloc, ballot.group)
 }

@@ -1,16 +1,7 @@
 pub mod More
-pub mod Differing
 pub mod At
-pub mod Sends
-pub mod Keeps
-pub mod Hands
 pub mod Closes
-pub mod Leading
-pub mod Ending
 pub mod Gathers
-pub mod Entering
-pub mod Ticking
-pub mod Following
-pub mod Calling
+pub mod Changes
 pub mod Steps
 pub mod Law

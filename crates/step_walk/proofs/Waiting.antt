@@ -1,14 +1,15 @@
--- In a group at most 64 joins and 64 failures wait, whatever changes.
-use Rattle.std.proofs.Common.{◌≡◌, ◌≤◌, ◌<◌, ℕ, List, [], ◌∷◌, ◌++◌, length, Option, Some, None, Bool, true, false, cond, refl, arith, length-append}
-use Rattle.std.specs.Prelude.{◌&&◌, not, filter, nat_lt, if◌then◌else◌}
+-- In a group at most 64 joins and 64 failures wait, and joins that wait differ, whatever changes.
+use Rattle.std.proofs.Common.{ap, ◌∙◌, ◌≡◌, ◌≤◌, ◌<◌, ℕ, List, [], ◌∷◌, ◌++◌, length, Option, Some, None, Bool, true, false, cond, refl, arith, length-append}
+use Rattle.std.specs.Prelude.{◌||◌, ◌&&◌, not, filter, nat_lt, if◌then◌else◌}
 use Rattle.std.proofs.lemmas.Bool.{ltb-true}
 use Rattle.rsct_packet.specs.declared.ids.ProviderId.{ProviderId}
-use Rattle.rsct_packet.specs.Providers.{without}
+use Rattle.rsct_packet.specs.Providers.{same_provider, among, without, differ}
+use Rattle.std.proofs.lemmas.Bool.{and_parts, or_parts}
 use Rattle.group_attr.specs.declared.attrs.Batch.{Batch}
 use Rattle.proposal_core.specs.declared.proposal.Cause.{Cause}
 use Rattle.proposal_core.specs.declared.entry.Vote.{Vote}
 use Rattle.vote_phases.specs.Tally.{TallyView}
-use Rattle.batch_rules.specs.Waiting.{WaitingView, is_failing, add_failure, drop_join, batches_joins, batches_failures, left_of, failures_left, joins_left}
+use Rattle.batch_rules.specs.Waiting.{WaitingView, is_failing, add_failure, drop_join, batches_joins, batches_failures, left_of, chosen_of, takes_failure, failures_left, joins_left}
 use Rattle.node_state.specs.declared.group.Led.{Led}
 use Rattle.node_state.specs.Following.{vote_cast}
 
@@ -58,3 +59,61 @@ pub cast_few : (l : Led) (p : ProviderId) (v : Vote) (value message : Option (Li
 unfolding vote_cast
 cast_few l p v value message None k = k
 cast_few l p v value message (Some t) k = k
+
+-- ---- joins that wait differ
+
+filter_among : (f : ProviderId → Bool) (xs : List ProviderId) (q : ProviderId) → among xs q ≡ false → among (filter f xs) q ≡ false
+filter_among f [] q e = refl
+filter_among f (x ∷ xs) q e = let k = or_parts (same_provider x q) (among xs q) e in by (f x) k.0 (filter_among f xs q k.1)
+  where
+    by : (b : Bool) → same_provider x q ≡ false → among (filter f xs) q ≡ false → among (if b then x ∷ filter f xs else filter f xs) q ≡ false
+    by true d rest = ap (λ c. c || among (filter f xs) q) d ∙ rest
+    by false d rest = rest
+
+pub filter_differs : (f : ProviderId → Bool) (xs : List ProviderId) → differ xs ≡ true → differ (filter f xs) ≡ true
+filter_differs f [] e = refl
+filter_differs f (x ∷ xs) e = let k = and_parts (not (among xs x)) (differ xs) e in by (f x) (out (among xs x) refl k.0) (filter_differs f xs k.1)
+  where
+    out : (b : Bool) → among xs x ≡ b → not b ≡ true → among xs x ≡ false
+    out true q z = absurd (cc)
+    out false q z = q
+
+    by : (b : Bool) → among xs x ≡ false → differ (filter f xs) ≡ true → differ (if b then x ∷ filter f xs else filter f xs) ≡ true
+    by true d rest = ap (λ c. not c && differ (filter f xs)) (filter_among f xs x d) ∙ rest
+    by false d rest = rest
+
+-- those that are left, and those that are chosen
+pub left_differ : (b : Bool) (xs : List ProviderId) → differ xs ≡ true → differ (left_of b xs) ≡ true
+left_differ true xs e = refl
+left_differ false [] e = e
+left_differ false (x ∷ xs) e = (and_parts (not (among xs x)) (differ xs) e).1
+
+pub chosen_differ : (b : Bool) (xs : List ProviderId) → differ xs ≡ true → differ (chosen_of b xs) ≡ true
+chosen_differ true xs e = e
+chosen_differ false [] e = refl
+chosen_differ false (x ∷ xs) e = refl
+
+abbrev pub Apart : (WaitingView → WaitingView) → Type 0
+Apart f = (w : WaitingView) → differ w.joins ≡ true → differ (f w).joins ≡ true
+
+-- a failure that waits leaves the joins as they are
+pub fails_apart : (q : ProviderId) (c : Cause) → Apart (add_failure q c)
+fails_apart q c w e = ap differ (stay (takes_failure q w)) ∙ e
+  where
+    stay : (b : Bool) → (if b then record w { failures = w.failures ++ record { p = q; cause = c } ∷ [] } else w).joins ≡ w.joins
+    stay true = refl
+    stay false = refl
+
+pub dropped_apart : (q : ProviderId) → Apart (drop_join q)
+dropped_apart q w e = filter_differs (λ p. not (same_provider p q)) w.joins e
+
+pub failures_apart : (b : Batch) → Apart (failures_left b)
+failures_apart b w e = e
+
+pub joins_apart : (b : Batch) → Apart (joins_left b)
+joins_apart b w e = left_differ (batches_joins b) w.joins e
+
+pub cast_apart : (l : Led) (p : ProviderId) (v : Vote) (value message : Option (List ℕ)) (t : Option TallyView) → differ l.waiting.joins ≡ true → differ (vote_cast l p v value message t).waiting.joins ≡ true
+unfolding vote_cast
+cast_apart l p v value message None e = e
+cast_apart l p v value message (Some t) e = e

@@ -78,7 +78,7 @@ fn live(install: &Install, source: &Source, part: &Part) -> usize
     ensures { result ≡ live_count install.now source.now part.now }
 {
     let members = count_live(install, source, part.state.members.as_slice());
-    members + count_live(install, source, joiners(&part.state.running))
+    members + count_live(install, source, part.state.joiners())
 }
 
 /// The best of a source's lists of the group, and of the best so far.

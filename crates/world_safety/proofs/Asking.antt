@@ -1,8 +1,9 @@
 -- Who asks first in the sample run, and who leads it.
 use Rattle.std.proofs.Common.{◌≡◌, ◌⊎◌, ℕ, Bool, List, [], ◌∷◌, ◌++◌, Option, Some, None, true, false, refl, sym, ap, ◌∙◌, subst, inl, inr}
-use Rattle.std.specs.Prelude.{fold, drop}
+use Rattle.std.specs.Prelude.{fold, drop, is_some}
 use Rattle.std.specs.List.{list_any}
 use Rattle.rsct_packet.specs.declared.ids.ViewId.{ViewId}
+use Rattle.node_state.specs.declared.config.Config.{Config}
 use Rattle.node_state.specs.declared.happened.Happened.{Happened}
 use Rattle.node_state.specs.declared.happened.Happened.TheVariants.{Put}
 use Rattle.node_state.specs.declared.call.CallLine.{CallLine}
@@ -21,12 +22,12 @@ use Rattle.entry_laws.specs.source_order.Sources.{PutBefore}
 use Rattle.world_laws.specs.world_answers.Answers.{Answered, goes_on, answered_after, worded, worded_from, all_worded}
 use Rattle.world_safety.specs.Mirrors.{core_at}
 use Rattle.world_safety.specs.Askers.{LooksUp, FirstAsks, RecordLed}
-use Rattle.world_safety.specs.Samples.{history_after, db, two, two_view, lookup_of, until_asked, asks_first, after_asked, two_ask, two_asked}
+use Rattle.world_safety.specs.Samples.{history_after, core_or, core_after, db, two, two_view, lookup_of, until_asked, asks_first, second_leads, first_leads, two_ask, second_led, first_led}
 use Rattle.world_safety.specs.Opens.{all_opens}
 
-pub two_asked_is : history_after two two_ask ≡ two_asked 2 1
+pub second_led_is : history_after two (two_ask second_leads) ≡ second_led
 unfolding all_opens
-two_asked_is = refl
+second_led_is = refl
 
 -- ---- who asks first
 
@@ -78,29 +79,40 @@ nobody_asked =
     (start_given _ _ _ 1, (start_given _ _ _ 2, (ask_given _ _ _ 1 _, (other_given _ two_view db 1 2 1 refl, (other_given _ two_view db 2 1 1 refl, (other_given _ two_view db 1 2 2 refl, (call_given _ _ _ 2 _, (call_given _ _ _ 2 _, tt))))))))
 
 -- an event among others, with what the clients answer
-worded_at : (w : World) (xs ys : List Event) (e : Event) → worded_from w (xs ++ e ∷ ys) ≡ worded_from w xs ++ worded (fold happens w xs) e ∷ worded_from (happens (fold happens w xs) e) ys
+pub worded_at : (w : World) (xs ys : List Event) (e : Event) → worded_from w (xs ++ e ∷ ys) ≡ worded_from w xs ++ worded (fold happens w xs) e ∷ worded_from (happens (fold happens w xs) e) ys
 worded_at w [] ys e = refl
 worded_at w (x ∷ xs) ys e = ap (λ l. worded w x ∷ l) (worded_at (happens w x) xs ys e)
 
-abbrev core_or : Option Core → Core
-core_or None = started two 1 1
-core_or (Some s) = s
+-- a node that is up then
+pub there : (c : Config) (es : List Event) (n : ℕ) → is_some (core_at (answered_after c (all_worded c es)).nodes n) ≡ true → core_at (answered_after c (all_worded c es)).nodes n ≡ Some (core_after c es n)
+unfolding core_after
+there c es n e = by (core_at (answered_after c (all_worded c es)).nodes n) e
+  where
+    by : (o : Option Core) → is_some o ≡ true → o ≡ Some (core_or (started c n 1) o)
+    by None q = absurd (cc)
+    by (Some s) q = refl
 
-pub second_node_asks_first : FirstAsks two (all_worded two two_ask) two_view db 2
+second_node_asks_first : (then : List Event) → FirstAsks two (all_worded two (two_ask then)) two_view db 2
 unfolding all_opens
-second_node_asks_first =
+second_node_asks_first then =
     record {
       before = all_worded two until_asked;
       event = worded (fold happens (world_new two) until_asked) asks_first;
-      rest = worded_from (happens (fold happens (world_new two) until_asked) asks_first) after_asked;
-      at = worded_at (world_new two) until_asked after_asked asks_first;
-      asks = record { coordinator = core_or (core_at (answered_after two (all_worded two until_asked)).nodes 1); up = refl; coordinates_it = refl; sender = 2; number = 3; happens = refl; packet = lookup_of 2; given = refl; to = refl; from = refl; looks_up = refl; used = refl };
+      rest = worded_from (happens (fold happens (world_new two) until_asked) asks_first) then;
+      at = worded_at (world_new two) until_asked then asks_first;
+      asks = record { coordinator = core_after two until_asked 1; up = there two until_asked 1 refl; coordinates_it = refl; sender = 2; number = 3; happens = refl; packet = lookup_of 2; given = refl; to = refl; from = refl; looks_up = refl; used = refl };
       first = λ k. none_asks two_view db (all_worded two until_asked) k.before k.rest (world_new two) k.event k.asker nobody_asked k.at k.asks;
     }
 
+pub second_asks_and_leads : FirstAsks two (all_worded two (two_ask second_leads)) two_view db 2
+second_asks_and_leads = second_node_asks_first second_leads
+
+pub second_asks_and_first_leads : FirstAsks two (all_worded two (two_ask first_leads)) two_view db 2
+second_asks_and_first_leads = second_node_asks_first first_leads
+
 -- ---- who leads
 
-pub second_node_leads : EachRecord (RecordLed 2 two_view db) (two_asked 2 1)
+pub second_node_leads : EachRecord (RecordLed 2 two_view db) second_led
 unfolding all_opens
 second_node_leads =
     (((λ u h. inr (2, _, inr (inl refl))), tt), ((tt, ((λ u h. inl refl), tt)), (tt, (tt, ((tt, tt), (tt, (tt, ((tt, tt), (tt, ((tt, tt), ((tt, tt), (tt, (tt, ((tt, (tt, tt)), ((tt, (tt, tt)), tt)))))))))))))))
@@ -109,12 +121,12 @@ abbrev is_put : Happened → Bool
 is_put (Put m v g i e) = true
 is_put _ = false
 
-pub first_node_leads : EachRecord (RecordLed 2 two_view db) (two_asked 1 2) → ⊥
+pub first_node_leads : EachRecord (RecordLed 2 two_view db) first_led → ⊥
 unfolding all_opens
-first_node_leads k = by (k.1.0.1.0 refl refl)
+first_node_leads k = by (k.1.0.0 refl refl)
   where
     rs : List Happened
-    rs = records_of (drop 2 (two_asked 1 2))
+    rs = records_of (drop 2 first_led)
 
     by : (◌≡◌ {A = ℕ} 1 2) ⊎ PutBefore rs two_view db 0 → ⊥
     by (inl e) = absurd (cc)

@@ -95,6 +95,23 @@ second_has_other_attributes k =
     asked p idle a (inr (inr (inr (inr (inr (inr (inl d))))))) = absurd d.given
     asked p idle a (inr (inr (inr (inr (inr (inr (inr z))))))) = absurd z
 
+-- what was asked for in an empty idle group has a limit
+not_limited : (idle : Bool) (asked own : Attrs) → (idle ≡ true) × (asked ≡ limited) → empty_attrs ≡ meant idle asked own → ⊥
+not_limited true asked own k e = let u : ◌≡◌ {A = ℕ} 0 5 = ap (λ (a : Attrs). a.limit) (e ∙ k.1) in absurd (cc)
+not_limited false asked own k e = let u : false ≡ true = k.0 in absurd (cc)
+
+pub first_has_no_attributes : FirstsFollowSources (two_joined empty_attrs empty_attrs) → ⊥
+unfolding all_opens
+first_has_no_attributes k =
+    let b = k.1.1.1.0.1.0 (no_put one_view 0 (records_of (drop 4 (two_joined empty_attrs empty_attrs))) refl) in not_limited b.idle b.asked _ (asked b.first b.idle b.asked b.decided) b.attrs
+  where
+    asked : (p : ProviderId) (idle : Bool) (a : Attrs) → Decided (drop 3 (two_joined empty_attrs empty_attrs)) 1 one_view db p idle a → (idle ≡ true) × (a ≡ limited)
+    asked p idle a (inl d) = (sym d.state, asked_with limited (records_of (drop 4 (two_joined empty_attrs empty_attrs))) p d.joiners a d.len ((λ e. refl), (tt, (tt, tt))) d.asked)
+    asked p idle a (inr (inl d)) = absurd d.given
+    asked p idle a (inr (inr (inl d))) = absurd d.given
+    asked p idle a (inr (inr (inr (inl d)))) = absurd d.given
+    asked p idle a (inr (inr (inr (inr z)))) = absurd z
+
 -- what was asked for in an empty idle group has a source
 not_sourced : (idle : Bool) (asked own : Attrs) → (idle ≡ true) × (asked ≡ sourced) → empty_attrs ≡ meant idle asked own → ⊥
 not_sourced true asked own k e = let u : None ≡ Some src = ap (λ (a : Attrs). a.source) (e ∙ k.1) in absurd (cc)

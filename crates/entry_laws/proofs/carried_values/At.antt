@@ -1,6 +1,6 @@
 -- In the middle of a step: the ballots that the node keeps, sends and has counted were recorded, and what it put carries them.
-use Rattle.std.proofs.Common.{◌≡◌, ◌⊎◌, ℕ, List, [], ◌∷◌, ◌++◌, Option, Some, None, Bool, true, refl, sym, ap, ◌∙◌, subst, inl, inr, ⊎_elim, append_assoc, append-nil}
-use Rattle.std.specs.Prelude.{fold, reverse}
+use Rattle.std.proofs.Common.{◌≡◌, ◌⊎◌, ℕ, List, [], ◌∷◌, ◌++◌, Option, Some, None, Bool, true, sym, subst, inl, inr, ⊎_elim}
+use Rattle.std.specs.Prelude.{reverse}
 use Rattle.std.proofs.lemmas.List.{reverse-append}
 use Rattle.rsct_packet.specs.declared.ids.ViewId.{ViewId}
 use Rattle.rsct_packet.specs.declared.ids.ProviderId.{ProviderId}
@@ -20,8 +20,8 @@ use Rattle.node_state.specs.declared.packet.Body.{Body}
 use Rattle.node_state.specs.declared.packet.Body.TheVariants as body
 use Rattle.node_state.specs.declared.packet.Packet.{Packet}
 use Rattle.node_state.specs.declared.state.Core.{Core}
-use Rattle.node_state.specs.State.{InNameOrder, with_row, row_of, is_this, leader_by, recorded, recorded_all, with_sessions}
-use Rattle.node_state.specs.Sending.{packet_on, send_on, sent, network_to}
+use Rattle.node_state.specs.State.{InNameOrder, with_row, row_of, is_this, leader_by, recorded, with_sessions}
+use Rattle.node_state.specs.Sending.{packet_on, send_on}
 use Rattle.run_safety.specs.Past.{History, records_of, earlier}
 use Rattle.node_state.proofs.NameOrder.{KeepsName, cases_text, row_here, row_there, rows_ordered}
 use Rattle.entry_laws.proofs.closing_rows.Entered.{Since}
@@ -50,14 +50,13 @@ pub record Course : Type 0 where
   pub before : History
   pub counts : Bool
 
--- T: the groups whose tally is of the phase that runs; G: those that the node leads
-pub record At (h : Course) (T G : List ℕ → Type 0) (s : Core) : Type 0 where
+-- T: the groups whose tally is of the phase that runs
+pub record At (h : Course) (T : List ℕ → Type 0) (s : Core) : Type 0 where
   pub sends : (p : Packet) → Has p s.sends → BodyTold (s.records ++ records_of h.before) p.body
   pub kept : (k : KeptBallot) → Has k s.sessions.kept → KeptTold (s.records ++ records_of h.before) k
   pub facts : h.counts ≡ true → Facts h.before (reverse s.records)
   pub order : InNameOrder s.groups
   pub tallies : (g : List ℕ) → T g → RowIs (s.records ++ records_of h.before) (leads_row s (found s g)) (found s g)
-  pub led : (g : List ℕ) → G g → leads_row s (found s g) ≡ true
 
 -- ---- more is recorded
 
@@ -80,36 +79,27 @@ silent_fact h now (happened.In n v ms) z k = absurd z
 silent_fact h now _ z k = (tt, k)
 
 module _ (h : Course) where
-  -- other groups
-  pub at_for : (T G U V : List ℕ → Type 0) (s : Core) → ((g : List ℕ) → U g → T g) → ((g : List ℕ) → V g → leads_row s (found s g) ≡ true) → At h T G s → At h U V s
-  at_for T G U V s less led a =
-      record { sends = a.sends; kept = a.kept; facts = a.facts; order = a.order; tallies = λ g t. a.tallies g (less g t); led = led }
+  -- of fewer groups
+  pub at_fewer : (T U : List ℕ → Type 0) (s : Core) → ((g : List ℕ) → U g → T g) → At h T s → At h U s
+  at_fewer T U s less a = record { sends = a.sends; kept = a.kept; facts = a.facts; order = a.order; tallies = λ g t. a.tallies g (less g t) }
 
-  module _ (T G : List ℕ → Type 0) where
-    pub at_fold : {A : Type 0} (f : Core → A → Core) (xs : List A) → ((s : Core) (x : A) → Has x xs → At h T G s → At h T G (f s x)) → (s : Core) → At h T G s → At h T G (fold f s xs)
-    at_fold f [] step s a = a
-    at_fold f (x ∷ xs) step s a = at_fold f xs (λ t y i k. step t y (inr i) k) (f s x) (step s x (inl refl) a)
-
-    pub at_sent_on : (s : Core) (network to : ℕ) (b : Body) → BodyTold (s.records ++ records_of h.before) b → At h T G s → At h T G (send_on s network to b)
+  module _ (T : List ℕ → Type 0) where
+    pub at_sent_on : (s : Core) (network to : ℕ) (b : Body) → BodyTold (s.records ++ records_of h.before) b → At h T s → At h T (send_on s network to b)
     unfolding send_on packet_on
     at_sent_on s network to b ok a =
-        record { sends = λ p i. by p (has_append p s.sends (packet_on s network to b ∷ []) i); kept = a.kept; facts = a.facts; order = a.order; tallies = a.tallies; led = a.led }
+        record { sends = λ p i. by p (has_append p s.sends (packet_on s network to b ∷ []) i); kept = a.kept; facts = a.facts; order = a.order; tallies = a.tallies }
       where
         by : (p : Packet) → Has p s.sends ⊎ Has p (packet_on s network to b ∷ []) → BodyTold (s.records ++ records_of h.before) p.body
         by p (inl i) = a.sends p i
         by p (inr (inl e)) = subst (λ (q : Packet). BodyTold (s.records ++ records_of h.before) q.body) (sym e) ok
         by p (inr (inr z)) = absurd z
 
-    pub at_sent : (s : Core) (to : ℕ) (b : Body) → BodyTold (s.records ++ records_of h.before) b → At h T G s → At h T G (sent s to b)
-    unfolding sent
-    at_sent s to b ok a = at_sent_on s (network_to s to) to b ok a
-
     pub more_pushed : (rs : List Happened) (r x : Happened) → Has x (rs ++ records_of h.before) → Has x ((rs ++ r ∷ []) ++ records_of h.before)
     more_pushed rs r x i =
         ⊎_elim (λ (j : Has x rs). append_has_left x (rs ++ r ∷ []) (records_of h.before) (append_has_left x rs (r ∷ []) j)) (λ (j : Has x (records_of h.before)). append_has_right x (rs ++ r ∷ []) (records_of h.before) j) (has_append x rs (records_of h.before) i)
 
     -- with what follows from the record
-    pub at_pushed : (s : Core) (r : Happened) → (h.counts ≡ true → Facts h.before (reverse s.records) → Facts h.before (r ∷ reverse s.records)) → At h T G s → At h T G (recorded s r)
+    pub at_pushed : (s : Core) (r : Happened) → (h.counts ≡ true → Facts h.before (reverse s.records) → Facts h.before (r ∷ reverse s.records)) → At h T s → At h T (recorded s r)
     unfolding recorded
     at_pushed s r fact a =
         let more : (x : Happened) → Has x (s.records ++ records_of h.before) → Has x ((s.records ++ r ∷ []) ++ records_of h.before) = λ x i. more_pushed s.records r x i in
@@ -121,23 +111,16 @@ module _ (h : Course) where
           facts = λ c. subst (Facts h.before) (sym (reverse-append s.records (r ∷ []))) (fact c (a.facts c));
           order = a.order;
           tallies = λ g t. row_is_on rs ts more (leads_row s (found s g)) (found s g) (a.tallies g t);
-          led = a.led;
         }
 
-    pub at_recorded : (s : Core) (r : Happened) → Silent r → At h T G s → At h T G (recorded s r)
+    pub at_recorded : (s : Core) (r : Happened) → Silent r → At h T s → At h T (recorded s r)
     at_recorded s r silent a = at_pushed s r (λ c k. silent_fact h.before (reverse s.records) r silent k) a
 
-    pub at_recorded_all : (rs : List Happened) (s : Core) → ((r : Happened) → Has r rs → Silent r) → At h T G s → At h T G (recorded_all s rs)
-    unfolding recorded_all recorded
-    at_recorded_all [] s none a = subst (λ l. At h T G (record s { records = l })) (sym (append-nil s.records)) a
-    at_recorded_all (r ∷ rs) s none a =
-        subst (λ l. At h T G (record s { records = l })) (append_assoc s.records (r ∷ []) rs) (at_recorded_all rs (recorded s r) (λ x i. none x (inr i)) (at_recorded s r (none r (inl refl)) a))
-
-    pub at_sessions : (s : Core) (t : SessionState) → ((k : KeptBallot) → Has k t.kept → KeptTold (s.records ++ records_of h.before) k) → At h T G s → At h T G (with_sessions s t)
+    pub at_sessions : (s : Core) (t : SessionState) → ((k : KeptBallot) → Has k t.kept → KeptTold (s.records ++ records_of h.before) k) → At h T s → At h T (with_sessions s t)
     unfolding with_sessions
-    at_sessions s t ok a = record { sends = a.sends; kept = ok; facts = a.facts; order = a.order; tallies = a.tallies; led = a.led }
+    at_sessions s t ok a = record { sends = a.sends; kept = ok; facts = a.facts; order = a.order; tallies = a.tallies }
 
-    pub at_views : (s : Core) (v : Views) → v.me ≡ s.views.me → v.view ≡ s.views.view → At h T G s → At h T G (record s { views = v })
+    pub at_views : (s : Core) (v : Views) → v.me ≡ s.views.me → v.view ≡ s.views.view → At h T s → At h T (record s { views = v })
     at_views s v me at a =
         record {
           sends = a.sends;
@@ -145,43 +128,29 @@ module _ (h : Course) where
           facts = a.facts;
           order = a.order;
           tallies = λ g t. subst (λ b. RowIs (s.records ++ records_of h.before) b (found s g)) (same g) (a.tallies g t);
-          led = λ g t. sym (same g) ∙ a.led g t;
         }
       where
         same : (g : List ℕ) → leads_row s (found s g) ≡ leads_row (record s { views = v }) (found s g)
         same g = λ i. is_this (sym me i) (leader_by s.config.mode (sym at i).coord (found s g).leader)
 
-    -- a row changes
-    module _ (U : List ℕ → Type 0) where
-      pub at_row_for : (s : Core) (g : List ℕ) (f : GroupRow → GroupRow) → KeepsName f → ((x : GroupRow) → (f x).leader ≡ x.leader) → ((k : List ℕ) → U k → (g ≡ k → ⊥) → T k) → (U g → RowIs (s.records ++ records_of h.before) (leads_row s (found s g)) (f (found s g))) → At h T G s → At h U G (with_row s g f)
-      unfolding with_row row_of
-      at_row_for s g f keeps leader others own a =
-          record {
-            sends = a.sends;
-            kept = a.kept;
-            facts = a.facts;
-            order = rows_ordered g f keeps s a.order;
-            tallies = λ k u. tally k u (cases_text g k);
-            led = λ k i. leads k i (cases_text g k);
-          }
-        where
-          here : found (with_row s g f) g ≡ f (found s g)
-          here = row_here g f keeps s a.order
+  -- a row changes
+  pub at_row_for : (T U : List ℕ → Type 0) (s : Core) (g : List ℕ) (f : GroupRow → GroupRow) → KeepsName f → ((k : List ℕ) → U k → (g ≡ k → ⊥) → T k) → (U g → RowIs (s.records ++ records_of h.before) (leads_row s (f (found s g))) (f (found s g))) → At h T s → At h U (with_row s g f)
+  unfolding with_row row_of
+  at_row_for T U s g f keeps others own a =
+      record {
+        sends = a.sends;
+        kept = a.kept;
+        facts = a.facts;
+        order = rows_ordered g f keeps s a.order;
+        tallies = λ k u. tally k u (cases_text g k);
+      }
+    where
+      Is : GroupRow → Type 0
+      Is row = RowIs (s.records ++ records_of h.before) (leads_row s row) row
 
-          there : (k : List ℕ) → (g ≡ k → ⊥) → found (with_row s g f) k ≡ found s k
-          there k ne = row_there g f keeps s k ne
+      tally : (k : List ℕ) → U k → (g ≡ k) ⊎ (g ≡ k → ⊥) → Is (found (with_row s g f) k)
+      tally k u (inl e) = subst (λ z. Is (found (with_row s g f) z)) e (subst Is (sym (row_here g f keeps s a.order)) (own (subst U (sym e) u)))
+      tally k u (inr ne) = subst Is (sym (row_there g f keeps s k ne)) (a.tallies k (others k u ne))
 
-          lead : leads_row s (f (found s g)) ≡ leads_row s (found s g)
-          lead = ap (λ o. is_this s.views.me (leader_by s.config.mode s.views.view.coord o)) (leader (found s g))
-
-          tally : (k : List ℕ) → U k → (g ≡ k) ⊎ (g ≡ k → ⊥) → RowIs (s.records ++ records_of h.before) (leads_row s (found (with_row s g f) k)) (found (with_row s g f) k)
-          tally k u (inl e) =
-              subst (λ z. RowIs (s.records ++ records_of h.before) (leads_row s (found (with_row s g f) z)) (found (with_row s g f) z)) e (subst (λ z. RowIs (s.records ++ records_of h.before) (leads_row s z) z) (sym here) (subst (λ b. RowIs (s.records ++ records_of h.before) b (f (found s g))) (sym lead) (own (subst U (sym e) u))))
-          tally k u (inr ne) = subst (λ z. RowIs (s.records ++ records_of h.before) (leads_row s z) z) (sym (there k ne)) (a.tallies k (others k u ne))
-
-          leads : (k : List ℕ) → G k → (g ≡ k) ⊎ (g ≡ k → ⊥) → leads_row s (found (with_row s g f) k) ≡ true
-          leads k i (inl e) = subst (λ z. leads_row s (found (with_row s g f) z) ≡ true) e (ap (leads_row s) here ∙ lead ∙ a.led g (subst G (sym e) i))
-          leads k i (inr ne) = ap (leads_row s) (there k ne) ∙ a.led k i
-
-    pub at_row : (s : Core) (g : List ℕ) (f : GroupRow → GroupRow) → KeepsName f → ((x : GroupRow) → (f x).leader ≡ x.leader) → (T g → RowIs (s.records ++ records_of h.before) (leads_row s (found s g)) (f (found s g))) → At h T G s → At h T G (with_row s g f)
-    at_row s g f keeps leader own a = at_row_for T s g f keeps leader (λ k t ne. t) own a
+  pub at_row : (T : List ℕ → Type 0) (s : Core) (g : List ℕ) (f : GroupRow → GroupRow) → KeepsName f → (T g → RowIs (s.records ++ records_of h.before) (leads_row s (f (found s g))) (f (found s g))) → At h T s → At h T (with_row s g f)
+  at_row T s g f keeps own a = at_row_for T T s g f keeps (λ k t ne. t) own a

@@ -31,7 +31,7 @@ use Rattle.entry_laws.proofs.closing_rows.Law.{bases_in, logs_in, told_in}
 use Rattle.entry_laws.specs.carried_values.Carried.{EntryCarries, BodyTold, KeptTold, RecordCarries, FirstBallotsCarry, FirstBallotsAlwaysCarry, SentBallotsAreTold, KeptBallotsAreTold}
 use Rattle.entry_laws.proofs.carried_values.More.{entry_on}
 use Rattle.entry_laws.proofs.carried_values.At.{RowIs, PutFact, RecordFact, Facts, At, ballot_on, body_on, row_is_on}
-use Rattle.entry_laws.proofs.carried_values.Ending.{Every, NoGroup}
+use Rattle.entry_laws.proofs.carried_values.Changes.{Every}
 use Rattle.entry_laws.proofs.carried_values.Steps.{course, at_stepped}
 
 -- ---- the records
@@ -124,14 +124,14 @@ Sent rs p = BodyTold rs p.body
 step_done : (w : Scene) (n : ℕ) (f : Answering) (s : Core) (e : NodeEvent) (v : Event) → w.cores n ≡ Some s → ((g : List ℕ) → Rests g w) → ((g : List ℕ) → Rests g (ended w n v (stepped f s e))) → Arises w e → Holds Sent Node Evident w → CoreTold (records_of w.before) s → Done Sent Node Evident w (stepped f s e)
 step_done w n f s e v up rests after arises k c =
     let now : Scene = ended w n v (stepped f s e) in
-    let a : At (course w) Every NoGroup (stepped f s e) = at_stepped w n f s e k.sent (λ h. begin_tied h w n s up (rests h)) arises begin in
+    let a : At (course w) Every (stepped f s e) = at_stepped w n s k.sent (λ h. begin_tied h w n s up (rests h)) f e arises begin in
     record {
       sends = a.sends;
       node = record { kept = a.kept; tallies = λ g. a.tallies g tt };
       lines = facts_evident (bases_in now after) (logs_in now after) w.before (reverse (stepped f s e).records) (λ g. told_in now after g) (a.facts refl);
     }
   where
-    begin : At (course w) Every NoGroup (at_work s)
+    begin : At (course w) Every (at_work s)
     begin =
         record {
           sends = λ p i. absurd i;
@@ -139,7 +139,6 @@ step_done w n f s e v up rests after arises k c =
           facts = λ z. tt;
           order = (subst (NodeIsIf w.config (rests []).ghost [] n (w.incs n)) up ((rests []).nodes n)).0.order;
           tallies = λ g t. c.tallies g;
-          led = λ g z. absurd z;
         }
 
 carried : Invariant Sent Node Evident

@@ -1,16 +1,12 @@
 -- Each scene that events lead to, whose ticks are noted.
-use Rattle.std.proofs.Common.{◌≡◌, ◌≢◌, ◌≤◌, ◌⊎◌, ℕ, ◌+◌, List, [], ◌∷◌, ◌++◌, Option, Some, None, Bool, true, false, refl, sym, ap, ◌∙◌, subst, inl, inr, ⊎_elim, arith, append_assoc, append-nil}
-use Rattle.std.specs.Prelude.{◌==◌, ◌&&◌, ◌||◌, fold, map, reverse, if◌then◌else◌}
+use Rattle.std.proofs.Common.{◌≡◌, ◌≢◌, ◌≤◌, ℕ, ◌+◌, List, [], ◌∷◌, ◌++◌, Option, Some, None, Bool, false, refl, sym, ap, ◌∙◌, subst, inl, inr, arith, append-nil}
+use Rattle.std.specs.Prelude.{◌&&◌, ◌||◌, map, reverse, if◌then◌else◌}
 use Rattle.std.specs.List.{list_any}
 use Rattle.std.specs.Str.{bytes_eq}
-use Rattle.std.proofs.lemmas.List.{reverse-append}
-use Rattle.std.proofs.lemmas.Bool.{eqb-true, eq-eqb}
+use Rattle.std.proofs.lemmas.Bool.{eq-eqb}
 use Rattle.rsct_packet.specs.declared.ids.Member.{Member}
 use Rattle.rsct_packet.specs.Search.{Has}
-use Rattle.rsct_packet.specs.Mask.{nodes_of}
-use Rattle.rsct_packet.proofs.HasLaws.{has_append, append_has_left, has_map}
-use Rattle.adapter_ring.specs.declared.ring.Ring.{Ring}
-use Rattle.proposal_core.specs.Fold.{empty_state}
+use Rattle.rsct_packet.proofs.HasLaws.{append_has_left}
 use Rattle.view_state.specs.Views.{views_new}
 use Rattle.node_state.specs.declared.config.Config.{Config}
 use Rattle.node_state.specs.declared.group.GroupRow.{GroupRow}
@@ -21,12 +17,11 @@ use Rattle.node_state.specs.Settings.{view_level}
 use Rattle.node_state.specs.State.{InNameOrder, with_sessions}
 use Rattle.node_state.specs.HandOn.{Answering}
 use Rattle.node_state.specs.Applying.{level_set}
-use Rattle.node_state.specs.Step.{NodeEvent, Ticks, Asks, Given, Calls, Garbage, at_work, started, stepped, first_view, first_members, own_rings, ring_record}
+use Rattle.node_state.specs.Step.{NodeEvent, Ticks, Asks, Given, Calls, Garbage, at_work, started, stepped, first_members, own_rings, ring_record}
 use Rattle.world_model.specs.declared.event.Event.{Event}
 use Rattle.world_model.specs.Run.{Happening}
-use Rattle.run_safety.specs.Past.{History, records_of, Within}
+use Rattle.run_safety.specs.Past.{History, records_of}
 use Rattle.run_safety.specs.Stays.{Stay, stays_after, stays}
-use Rattle.run_safety.specs.Stays as stay
 use Rattle.run_safety.specs.SafeHeard.{enters}
 use Rattle.step_refinement.specs.Tied.{Scene, Tied}
 use Rattle.step_refinement.specs.Rules.{over, Arises}
@@ -41,7 +36,7 @@ use Rattle.run_induction.proofs.Laws.{UpClaim, UpDone, UpLaw, ups_hold}
 use Rattle.entry_laws.specs.late_rows.Late.{tick_of, opens, opens_phase, ticks_with, ticks_of, RecordLate, LateHadTime}
 use Rattle.entry_laws.specs.late_rows.Announced.{members_after, members_now, RecordTold, LateWereAnnounced}
 use Rattle.entry_laws.specs.late_rows.Runs.{NotedAs, TicksAreNoted, WhoIsLateHadTime, WhoIsLateWasAnnounced}
-use Rattle.entry_laws.proofs.late_rows.At.{Turn, RowIs, Folds, Mine, Plain, found, leads_row, At}
+use Rattle.entry_laws.proofs.late_rows.At.{Turn, RowIs, Folds, Mine, found, leads_row, At}
 use Rattle.entry_laws.proofs.late_rows.Ending.{Every, NoGroup}
 use Rattle.entry_laws.proofs.late_rows.Steps.{Begins, TicksIn, at_stepped}
 

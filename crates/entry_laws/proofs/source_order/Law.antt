@@ -1,14 +1,10 @@
 -- Each scene that events lead to.
-use Rattle.std.proofs.Common.{◌≡◌, ◌⊎◌, ℕ, ◌+◌, List, [], ◌∷◌, Option, Some, None, Bool, take, true, false, refl, sym, ap, ◌∙◌, subst, inl, inr}
-use Rattle.std.specs.Prelude.{fold, reverse, slice_get}
+use Rattle.std.proofs.Common.{◌≡◌, ◌⊎◌, ℕ, ◌+◌, List, [], ◌∷◌, Option, Some, take, true, false, refl, sym, ap, ◌∙◌, subst, inl, inr}
+use Rattle.std.specs.Prelude.{reverse, slice_get}
 use Rattle.std.specs.Option.{unwrap_or}
 use Rattle.std.proofs.lemmas.Bool.{eq-eqb}
 use Rattle.rsct_packet.specs.declared.ids.ViewId.{ViewId}
-use Rattle.rsct_packet.specs.declared.ids.ProviderId.{ProviderId}
-use Rattle.rsct_packet.specs.declared.ids.Member.{Member}
 use Rattle.rsct_packet.specs.Search.{Has}
-use Rattle.rsct_packet.specs.Mask.{nodes_of}
-use Rattle.group_attr.specs.declared.attrs.Attrs.{Attrs}
 use Rattle.proposal_core.specs.declared.entry.Entry.{Entry}
 use Rattle.node_state.specs.declared.group.GroupRow.{GroupRow}
 use Rattle.node_state.specs.declared.config.Config.{Config}
@@ -27,15 +23,14 @@ use Rattle.node_state.specs.Step.{NodeEvent, Given, is_used, used_if, take_body,
 use Rattle.world_model.specs.declared.event.Event.{Event}
 use Rattle.world_model.specs.Run.{Happening}
 use Rattle.proposal_core.specs.Fold.{fits}
-use Rattle.run_safety.specs.Past.{records_of, History, earlier, Within}
-use Rattle.run_safety.specs.Sight.{lines_with, lines_of}
+use Rattle.run_safety.specs.Past.{records_of, History, Within}
+use Rattle.run_safety.specs.Sight.{lines_of}
 use Rattle.run_safety.specs.Bases.{Bases, state_of_list}
 use Rattle.run_safety.specs.Group.{Put, kept}
 use Rattle.run_safety.proofs.Lives.{whole}
 use Rattle.step_refinement.specs.Tied.{Scene, NodeIsIf, opening_of, Rests}
-use Rattle.step_refinement.specs.Rules.{acted, over, ended, start_with, stopped, nothing_yet, with_records, starts_too, Arises}
+use Rattle.step_refinement.specs.Rules.{acted, over, ended, Arises}
 use Rattle.step_refinement.specs.Runs.{Reached, Nothing, AllStart, Starts, Stops, Steps, Notes}
-use Rattle.step_refinement.proofs.Changed.{each_set}
 use Rattle.step_refinement.proofs.RunLaw.{reached_rests}
 use Rattle.entry_laws.proofs.closing_rows.Evident.{ToldNow, told_less, AgainIn, again_each, put_back}
 use Rattle.entry_laws.proofs.closing_rows.Law.{bases_in, logs_in, told_in}
@@ -45,7 +40,7 @@ use Rattle.run_induction.proofs.Ran.{Telling, Ran, ran_reached}
 use Rattle.run_induction.proofs.Renoted.{Renoted, with_history, renoted, records_same, each_same}
 use Rattle.run_induction.proofs.Laws.{UpClaim, UpDone, UpLaw, ups_hold, up_holds}
 use Rattle.entry_laws.proofs.closing_rows.Entered.{Since, since_within}
-use Rattle.entry_laws.specs.source_order.Meant.{Decided, DeliveryNoted, DeliveriesAreNoted}
+use Rattle.entry_laws.specs.source_order.Meant.{DeliveryNoted, DeliveriesAreNoted}
 use Rattle.entry_laws.specs.source_order.Sources.{ReflectionsRise, ReflectionsClimb, JoinsCarryLengths, JoinsOverSources, RecordedBase, RecordRises, RecordCarries, RecordClimbs, OverSource, ReflectionsAlwaysRise, ReflectionsAlwaysClimb, OfBegun, Rises, JoinsAlwaysCarryLengths, FirstsAlwaysFollowSources, JoinsAlwaysOverSources}
 use Rattle.entry_laws.proofs.source_order.Holding as held
 use Rattle.entry_laws.proofs.source_order.Holding.{so_far, Apart, RowHolds, row_on}

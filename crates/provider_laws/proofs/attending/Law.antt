@@ -1,19 +1,14 @@
 -- In each scene that events lead to, each place is heard once.
-use Rattle.std.proofs.Common.{◌≡◌, ℕ, ◌+◌, List, [], ◌∷◌, ◌++◌, Option, Some, None, refl, sym, ap, ◌∙◌, subst, inl, inr, append-nil, arith}
-use Rattle.std.specs.Prelude.{reverse, fold}
-use Rattle.std.proofs.lemmas.List.{reverse-append}
-use Rattle.rsct_packet.specs.Search.{Has}
-use Rattle.rsct_packet.specs.Mask.{nodes_of}
+use Rattle.std.proofs.Common.{◌≡◌, ℕ, [], Some, refl}
 use Rattle.rsct_packet.proofs.HasLaws.{append_has_left}
 use Rattle.node_state.specs.declared.config.Config.{Config}
-use Rattle.node_state.specs.declared.happened.Happened.{Happened}
 use Rattle.node_state.specs.declared.happened.Happened.TheVariants as happened
 use Rattle.node_state.specs.declared.state.Core.{Core}
 use Rattle.node_state.specs.State.{list_of, state_of, len_of, row_of}
 use Rattle.node_state.specs.HandOn.{Answering}
-use Rattle.node_state.specs.Step.{NodeEvent, at_work, started, stepped}
+use Rattle.node_state.specs.Step.{NodeEvent, at_work, stepped}
 use Rattle.world_model.specs.declared.event.Event.{Event}
-use Rattle.run_safety.specs.Past.{History, Within, records_of, inc_now}
+use Rattle.run_safety.specs.Past.{records_of, inc_now}
 use Rattle.step_refinement.specs.Tied.{Scene}
 use Rattle.step_refinement.specs.Rules.{ended, Arises}
 use Rattle.step_refinement.specs.Runs.{Reached, Steps}

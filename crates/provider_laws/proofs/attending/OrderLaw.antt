@@ -1,27 +1,21 @@
 -- In each scene that events lead to, providers hear in order.
-use Rattle.std.proofs.Common.{◌≡◌, ◌≢◌, ℕ, ◌+◌, List, [], ◌∷◌, ◌++◌, Option, Some, None, Bool, true, false, refl, sym, ap, ◌∙◌, subst, inl, inr, append-nil, append_assoc, arith}
-use Rattle.std.specs.Prelude.{◌==◌, reverse, map, fold, if◌then◌else◌}
-use Rattle.std.proofs.lemmas.Bool.{eqb-true, eq-eqb}
-use Rattle.std.proofs.lemmas.List.{reverse-append}
+use Rattle.std.proofs.Common.{◌≡◌, ℕ, ◌+◌, List, [], ◌∷◌, ◌++◌, Some, None, refl, sym, ◌∙◌, subst, inl, inr, arith}
 use Rattle.rsct_packet.specs.declared.ids.ViewId.{ViewId}
 use Rattle.rsct_packet.specs.declared.ids.ProviderId.{ProviderId}
 use Rattle.rsct_packet.specs.Search.{Has}
-use Rattle.rsct_packet.specs.Mask.{nodes_of}
-use Rattle.rsct_packet.proofs.HasLaws.{has_map}
 use Rattle.proposal_core.specs.Fold.{empty_state}
 use Rattle.session_state.specs.declared.state.Provider.{Provider}
 use Rattle.session_state.specs.State.{provider_of}
 use Rattle.node_state.specs.declared.config.Config.{Config}
 use Rattle.node_state.specs.declared.happened.Happened.{Happened}
-use Rattle.node_state.specs.declared.happened.Happened.TheVariants as happened
 use Rattle.node_state.specs.declared.state.Core.{Core}
 use Rattle.node_state.specs.State.{list_of, state_of, len_of, row_of, with_sessions}
 use Rattle.node_state.specs.HandOn.{Answering}
 use Rattle.node_state.specs.Applying.{level_set}
-use Rattle.node_state.specs.Step.{NodeEvent, at_work, started, stepped, first_view, first_members, own_rings, ring_record}
+use Rattle.node_state.specs.Step.{NodeEvent, at_work, started, stepped, first_view}
 use Rattle.view_state.specs.Views.{views_new}
 use Rattle.world_model.specs.declared.event.Event.{Event}
-use Rattle.run_safety.specs.Past.{History, EachRecord, Within, records_of}
+use Rattle.run_safety.specs.Past.{EachRecord, records_of}
 use Rattle.run_safety.specs.SafeHeard.{heard_count}
 use Rattle.run_safety.specs.Stays.{Stay, stays, part}
 use Rattle.step_refinement.specs.Tied.{Scene}
@@ -35,7 +29,7 @@ use Rattle.row_laws.proofs.hearing.Listening.{idle_aside, steps_change}
 use Rattle.provider_laws.specs.attending.Order.{HeardInOrder}
 use Rattle.provider_laws.proofs.attending.Law.{begin_strict, step_fine}
 use Rattle.row_laws.proofs.hearing.Incarnations.{incs_of}
-use Rattle.provider_laws.proofs.attending.Staying.{InStay, Takes, Place, inner_stays, aside_count}
+use Rattle.provider_laws.proofs.attending.Staying.{InStay, Takes, Place, aside_count}
 use Rattle.provider_laws.proofs.attending.Handed.{Order}
 use Rattle.provider_laws.proofs.attending.Ordering.{Ordered, aside_order, ordered_does}
 use Rattle.provider_laws.proofs.attending.Entering.{new_stay}

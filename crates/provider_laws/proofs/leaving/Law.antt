@@ -1,11 +1,10 @@
 -- In each scene whose history names calls, and calls alone, as calls: who was let go hears nothing.
-use Rattle.std.proofs.Common.{◌≡◌, ◌≢◌, ◌<◌, ◌⊎◌, ℕ, ◌+◌, List, [], ◌∷◌, ◌++◌, Option, Some, None, Bool, true, false, refl, sym, ap, ◌∙◌, subst, inl, inr, arith}
+use Rattle.std.proofs.Common.{◌≡◌, ◌<◌, ◌⊎◌, ℕ, ◌+◌, List, [], ◌∷◌, Option, Some, None, Bool, true, false, refl, sym, ap, ◌∙◌, subst, inl, inr, arith}
 use Rattle.std.specs.Prelude.{◌==◌, ◌&&◌}
 use Rattle.std.proofs.lemmas.Bool.{eqb-true}
 use Rattle.rsct_packet.specs.declared.ids.ProviderId.{ProviderId}
 use Rattle.rsct_packet.specs.Search.{Has}
 use Rattle.session_state.specs.declared.state.Provider.{Provider}
-use Rattle.node_state.specs.declared.call.CallLine.{CallLine}
 use Rattle.node_state.specs.declared.call.CallLine.TheVariants as call
 use Rattle.node_state.specs.declared.config.Config.{Config}
 use Rattle.node_state.specs.declared.happened.Happened.{Happened}
@@ -15,12 +14,11 @@ use Rattle.node_state.specs.State.{with_sessions}
 use Rattle.node_state.specs.Applying.{level_set}
 use Rattle.node_state.specs.Step.{started, stepped}
 use Rattle.world_model.specs.declared.event.Event.{Event}
-use Rattle.world_model.specs.declared.event.Event.TheVariants as event
 use Rattle.world_model.specs.Run.{Happening}
 use Rattle.run_safety.specs.Past.{History, EachRecord, records_of, inc_now}
 use Rattle.run_safety.specs.SafeHeard.{NotLetGo}
 use Rattle.run_safety.specs.Stays.{client_of, is_named, ends, was_let_go}
-use Rattle.step_refinement.specs.Tied.{Scene, NodeIsIf, Rests}
+use Rattle.step_refinement.specs.Tied.{Scene, NodeIsIf}
 use Rattle.step_refinement.specs.Rules.{at_node, over, ended}
 use Rattle.step_refinement.specs.Runs.{Reached}
 use Rattle.step_refinement.proofs.Changed.{set_here, set_there}
@@ -28,12 +26,12 @@ use Rattle.step_refinement.proofs.RunLaw.{reached_rests}
 use Rattle.run_induction.proofs.Idle.{Idle, Elsewhere, AllElsewhere, other_node, within_idle}
 use Rattle.run_induction.proofs.Ran as runs
 use Rattle.run_induction.proofs.Ran.{Telling, Ran, ran_reached, Outer}
-use Rattle.run_induction.proofs.Laws.{IfUp, if_up_on, Claim, Holds, Done, Law, ran_holds}
+use Rattle.run_induction.proofs.Laws.{if_up_on, Claim, Holds, Done, Law, ran_holds}
 use Rattle.row_laws.proofs.hearing.Incarnations.{incs_of}
 use Rattle.row_laws.specs.failed_rows.Scenes.{Names}
 use Rattle.row_laws.proofs.failed_rows.Facts.{unasked_join}
 use Rattle.row_laws.proofs.failed_rows.Starting.{idle_asks}
-use Rattle.provider_laws.specs.leaving.Scenes.{IsCall, NoCall, IsDown, Recounted, Nothing, AllStart, Starts, Stops, Steps, Notes}
+use Rattle.provider_laws.specs.leaving.Scenes.{IsCall, IsDown, Recounted, Nothing, AllStart, Starts, Stops, Steps, Notes}
 use Rattle.provider_laws.specs.leaving.LetGo.{WhoIsLetGoHearsNothing, ProvidersWereNotLetGo}
 use Rattle.provider_laws.proofs.leaving.Events.{any_none, idle_ends, spared_in}
 use Rattle.provider_laws.proofs.leaving.Keeping.{Late, Unused, Kept, KeptIf, Clean, kept_on, unused_client}

@@ -1,6 +1,6 @@
 -- In every scene: between events each node that is up and not frozen rests, so the event of a goodbye puts nothing.
-use Rattle.std.proofs.Common.{◌≡◌, ℕ, ◌+◌, List, [], ◌∷◌, ◌++◌, Option, Some, None, false, refl, sym, ap, ◌∙◌, subst}
-use Rattle.std.specs.Prelude.{fold, find, reverse}
+use Rattle.std.proofs.Common.{◌≡◌, ℕ, ◌+◌, List, Some, false, refl, sym, ap, ◌∙◌, subst}
+use Rattle.std.specs.Prelude.{find}
 use Rattle.rsct_packet.specs.Search.{Has}
 use Rattle.view_state.specs.Views.{is_frozen}
 use Rattle.node_state.specs.declared.call.CallLine.TheVariants.{Goodbye}

@@ -1,9 +1,7 @@
 -- In every scene that events lead to, providers cast when a ballot is due.
-use Rattle.std.proofs.Common.{◌≡◌, ◌≢◌, ℕ, ◌+◌, List, [], ◌∷◌, ◌++◌, Option, Some, None, true, refl, sym, ap, ◌∙◌, subst, inl, inr, ◌⊎◌, ⊎_elim, append_assoc}
-use Rattle.std.specs.Prelude.{reverse, fold, find}
-use Rattle.std.proofs.lemmas.List.{append-nil}
+use Rattle.std.proofs.Common.{◌≡◌, ℕ, ◌+◌, List, [], ◌∷◌, ◌++◌, Some, None, true, refl, sym, ◌∙◌, subst, inl, inr, ⊎_elim}
+use Rattle.std.specs.Prelude.{reverse, find}
 use Rattle.rsct_packet.specs.declared.ids.ProviderId.{ProviderId}
-use Rattle.rsct_packet.specs.Mask.{nodes_of}
 use Rattle.rsct_packet.specs.Search.{Has}
 use Rattle.rsct_packet.proofs.HasLaws.{append_has_right}
 use Rattle.session_state.specs.State.{is_provider, provider_of}
@@ -17,10 +15,10 @@ use Rattle.node_state.specs.declared.state.Core.{Core}
 use Rattle.node_state.specs.State.{row_of, list_of, len_of, state_of, with_sessions}
 use Rattle.node_state.specs.HandOn.{Answering}
 use Rattle.node_state.specs.Applying.{level_set}
-use Rattle.node_state.specs.Step.{NodeEvent, at_work, stepped, started, ring_record}
+use Rattle.node_state.specs.Step.{NodeEvent, at_work, stepped, started}
 use Rattle.world_model.specs.declared.event.Event.{Event}
 use Rattle.world_model.specs.Run.{Happening}
-use Rattle.run_safety.specs.Past.{History, Within, records_of}
+use Rattle.run_safety.specs.Past.{History, records_of}
 use Rattle.step_refinement.specs.Tied.{Scene}
 use Rattle.step_refinement.specs.Rules.{over, ended}
 use Rattle.step_refinement.specs.Runs.{Reached}

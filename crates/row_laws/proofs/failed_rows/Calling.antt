@@ -23,7 +23,7 @@ use Rattle.node_state.specs.declared.state.Core.{Core}
 use Rattle.node_state.specs.State.{holds, frozen, leader_of, with_sessions}
 use Rattle.node_state.specs.Calls.{caller, subscriber, refuse_call, changed, ask_last, proposed, record_ballot, ballot_sent_if, cast_last, give_ballot, send_gone, send_all_gone, goodbye_said, take_call}
 use Rattle.run_safety.specs.Past.{History, records_of}
-use Rattle.row_laws.proofs.honest_votes.Ending.{Every, NoGroup}
+use Rattle.row_laws.proofs.honest_votes.Changes.{Every, NoGroup}
 use Rattle.row_laws.proofs.hearing.Sessions.{fewer_ended}
 use Rattle.row_laws.proofs.failed_rows.Living.{IsLive, NoLoss, NewAsks, joined_lives, left_lives, expelled_lives, state_lives, message_lives, attributes_lives, left_same, expelled_same, state_same, message_same, attributes_same, inited_lives, voted_lives, subscribe_lives, unsubscribe_lives, NoTaker, same_taker, joined_taker, inited_same, voted_same, subscribe_same, unsubscribe_same}
 use Rattle.row_laws.proofs.failed_rows.Facts.{Lives, OwnFor}

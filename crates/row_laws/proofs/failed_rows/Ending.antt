@@ -41,7 +41,7 @@ use Rattle.run_safety.specs.Past.{History}
 use Rattle.node_state.proofs.NameOrder.{row_here, rows_ordered}
 use Rattle.step_refinement.proofs.LedGroups.{led_are_led}
 use Rattle.row_laws.proofs.honest_votes.At.{found, leads_row, leads_is}
-use Rattle.row_laws.proofs.honest_votes.Ending.{Every, NoGroup}
+use Rattle.row_laws.proofs.honest_votes.Changes.{Every, NoGroup}
 use Rattle.row_laws.specs.failed_rows.Failures.{GoneCause, CauseHolds, LeavesFail}
 use Rattle.row_laws.proofs.failed_rows.Queues.{stays_failed}
 use Rattle.row_laws.proofs.failed_rows.Waiting.{chosen_has, left_has, left_fewer, none_left}

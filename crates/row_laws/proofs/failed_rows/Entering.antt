@@ -50,7 +50,7 @@ use Rattle.step_refinement.proofs.BaseOrder.{bases_ordered, row_of_base, base_no
 use Rattle.row_laws.proofs.hearing.Handing.{among_is, has_among}
 use Rattle.run_induction.proofs.Idle.{reverse_has}
 use Rattle.row_laws.proofs.honest_votes.At.{found}
-use Rattle.row_laws.proofs.honest_votes.Ending.{Every, NoGroup}
+use Rattle.row_laws.proofs.honest_votes.Changes.{Every, NoGroup}
 use Rattle.row_laws.specs.failed_rows.Failures.{FromElsewhere, IsCut, EachPut}
 use Rattle.row_laws.proofs.failed_rows.Queues.{Stays, failed_stays}
 use Rattle.row_laws.proofs.failed_rows.Bases.{bases_put, bases_track, base_is, new_stay, bases_entered, found_self}

@@ -50,8 +50,8 @@ use Rattle.step_refinement.proofs.SessionLaws.{provider_same}
 use Rattle.step_refinement.proofs.Appending.{handed_rows}
 use Rattle.row_laws.proofs.hearing.Rules.{closes_on}
 use Rattle.row_laws.proofs.honest_votes.At.{found, leads_row, leads_is}
-use Rattle.row_laws.proofs.honest_votes.Hands.{handed_longer}
-use Rattle.row_laws.proofs.honest_votes.Ending.{Every, NoGroup}
+use Rattle.step_walk.proofs.Asides.{handed_longer}
+use Rattle.row_laws.proofs.honest_votes.Changes.{Every, NoGroup}
 use Rattle.row_laws.specs.failed_rows.Failures.{IsRefused, GoneCause}
 use Rattle.row_laws.proofs.failed_rows.Queues.{among_both}
 use Rattle.row_laws.proofs.failed_rows.Facts.{NotDissolved, Whys, TallyFails, TallyIs, QueueIs, BasesFit, Track}

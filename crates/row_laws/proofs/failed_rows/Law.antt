@@ -32,7 +32,7 @@ use Rattle.step_refinement.proofs.Begins.{begin_tied}
 use Rattle.step_refinement.proofs.RunLaw.{reached_rests}
 use Rattle.step_refinement.proofs.Turns.{has_turned}
 use Rattle.row_laws.proofs.honest_votes.At.{found, leads_row}
-use Rattle.row_laws.proofs.honest_votes.Ending.{Every, NoGroup}
+use Rattle.row_laws.proofs.honest_votes.Changes.{Every, NoGroup}
 use Rattle.row_laws.proofs.hearing.Incarnations.{incs_of}
 use Rattle.run_induction.proofs.Idle.{reverse_has}
 use Rattle.run_induction.proofs.Ran as runs

@@ -55,7 +55,7 @@ use Rattle.step_refinement.proofs.Acks.{used_is}
 use Rattle.step_refinement.proofs.Leads.{leader_inc, leads_known}
 use Rattle.step_refinement.proofs.RowWorks.{len_is}
 use Rattle.row_laws.proofs.honest_votes.At.{found}
-use Rattle.row_laws.proofs.honest_votes.Ending.{Every, NoGroup}
+use Rattle.row_laws.proofs.honest_votes.Changes.{Every, NoGroup}
 use Rattle.row_laws.specs.failed_rows.Failures.{IsRefused, GoneCause}
 use Rattle.row_laws.proofs.failed_rows.Fitting.{put_recorded, put_back}
 use Rattle.row_laws.proofs.failed_rows.Asked.{join_carried, lost_asked}

@@ -44,7 +44,7 @@ use Rattle.run_safety.specs.Stays.{stays, asks_join}
 use Rattle.step_refinement.proofs.SessionLaws.{provider_self}
 use Rattle.row_laws.proofs.hearing.Handing.{has_among}
 use Rattle.row_laws.proofs.honest_votes.At.{found, leads_row}
-use Rattle.row_laws.proofs.honest_votes.Ending.{Every, NoGroup}
+use Rattle.row_laws.proofs.honest_votes.Changes.{Every, NoGroup}
 use Rattle.row_laws.specs.failed_rows.Failures.{GoneCause, StoodThere, IsOver}
 use Rattle.row_laws.proofs.failed_rows.Bases.{found_self}
 use Rattle.row_laws.proofs.failed_rows.InView.{stay_ticks, stay_reminds}

@@ -1,6 +1,6 @@
 -- In the middle of a step: all votes that the node has, sends and records were cast.
-use Rattle.std.proofs.Common.{◌≡◌, ◌⊎◌, ℕ, List, [], ◌∷◌, ◌++◌, None, Bool, true, false, refl, sym, ap, ◌∙◌, subst, inl, inr, ⊎_elim, append_assoc, append-nil}
-use Rattle.std.specs.Prelude.{fold, find, reverse}
+use Rattle.std.proofs.Common.{◌≡◌, ◌⊎◌, ℕ, List, [], ◌∷◌, ◌++◌, None, Bool, true, false, refl, sym, subst, inl, inr, ⊎_elim}
+use Rattle.std.specs.Prelude.{find, reverse}
 use Rattle.std.specs.Str.{bytes_eq}
 use Rattle.std.proofs.lemmas.List.{reverse-append}
 use Rattle.rsct_packet.specs.Providers.{differ}
@@ -16,8 +16,8 @@ use Rattle.node_state.specs.declared.happened.Happened.{Happened}
 use Rattle.node_state.specs.declared.packet.Body.{Body}
 use Rattle.node_state.specs.declared.packet.Packet.{Packet}
 use Rattle.node_state.specs.declared.state.Core.{Core}
-use Rattle.node_state.specs.State.{InNameOrder, new_row, row_found, row_of, rows_with, with_row, is_this, leader_by, leader_in, leads_in, leads, recorded, recorded_all, with_sessions, has_name}
-use Rattle.node_state.specs.Sending.{packet_on, send_on, sent, network_to}
+use Rattle.node_state.specs.State.{InNameOrder, new_row, row_found, row_of, rows_with, with_row, is_this, leader_by, leader_in, leads_in, leads, recorded, with_sessions, has_name}
+use Rattle.node_state.specs.Sending.{packet_on, send_on}
 use Rattle.run_safety.specs.Past.{History, records_of, Within}
 use Rattle.node_state.proofs.NameOrder.{KeepsName, cases_text, row_here, row_there, rows_ordered}
 use Rattle.row_laws.specs.honest_votes.Casts.{RecordCast, ListCast, BodyCast, KeptCast, ViewsCast, TallyCast}
@@ -42,8 +42,8 @@ RowIs rs led row = (row.led.tally ≡ None) ⊎ ((led ≡ true) × TallyCast rs 
 abbrev pub RowApart : GroupRow → Type 0
 RowApart row = differ row.led.waiting.joins ≡ true
 
--- T: the groups whose tally is of the phase that runs; G: those that the node leads
-pub record At (h : History) (T G : List ℕ → Type 0) (s : Core) : Type 0 where
+-- T: the groups whose tally is of the phase that runs
+pub record At (h : History) (T : List ℕ → Type 0) (s : Core) : Type 0 where
   pub sends : (p : Packet) → Has p s.sends → BodyCast (s.records ++ records_of h) p.body
   pub kept : (k : KeptBallot) → Has k s.sessions.kept → KeptCast (s.records ++ records_of h) k
   pub lists : (row : GroupRow) → Has row s.groups → ListCast (s.records ++ records_of h) row.list
@@ -51,7 +51,6 @@ pub record At (h : History) (T G : List ℕ → Type 0) (s : Core) : Type 0 wher
   pub puts : Within RecordCast (reverse s.records) h
   pub order : InNameOrder s.groups
   pub tallies : (g : List ℕ) → T g → RowIs (s.records ++ records_of h) (leads_row s (found s g)) (found s g)
-  pub led : (g : List ℕ) → G g → leads_row s (found s g) ≡ true
   pub apart : (g : List ℕ) → RowApart (found s g)
 
 pub row_is_on : (rs ts : List Happened) → ((r : Happened) → Has r rs → Has r ts) → (b : Bool) (row : GroupRow) → RowIs rs b row → RowIs ts b row
@@ -80,35 +79,27 @@ module _ (h : History) where
   abbrev all_of : Core → List Happened
   all_of s = s.records ++ records_of h
 
-  -- other groups
-  pub at_for : (T G U V : List ℕ → Type 0) (s : Core) → ((g : List ℕ) → U g → T g) → ((g : List ℕ) → V g → leads_row s (found s g) ≡ true) → At h T G s → At h U V s
-  at_for T G U V s less led a =
-      record { sends = a.sends; kept = a.kept; lists = a.lists; views = a.views; puts = a.puts; order = a.order; tallies = λ g t. a.tallies g (less g t); led = led; apart = a.apart }
+  -- of fewer groups
+  pub at_fewer : (T U : List ℕ → Type 0) (s : Core) → ((g : List ℕ) → U g → T g) → At h T s → At h U s
+  at_fewer T U s less a =
+      record { sends = a.sends; kept = a.kept; lists = a.lists; views = a.views; puts = a.puts; order = a.order; tallies = λ g t. a.tallies g (less g t); apart = a.apart }
 
-  module _ (T G : List ℕ → Type 0) where
-    pub at_fold : {A : Type 0} (f : Core → A → Core) (xs : List A) → ((s : Core) (x : A) → Has x xs → At h T G s → At h T G (f s x)) → (s : Core) → At h T G s → At h T G (fold f s xs)
-    at_fold f [] step s a = a
-    at_fold f (x ∷ xs) step s a = at_fold f xs (λ t y i k. step t y (inr i) k) (f s x) (step s x (inl refl) a)
-
-    pub at_sent_on : (s : Core) (network to : ℕ) (b : Body) → BodyCast (s.records ++ records_of h) b → At h T G s → At h T G (send_on s network to b)
+  module _ (T : List ℕ → Type 0) where
+    pub at_sent_on : (s : Core) (network to : ℕ) (b : Body) → BodyCast (s.records ++ records_of h) b → At h T s → At h T (send_on s network to b)
     unfolding send_on packet_on
     at_sent_on s network to b ok a =
-        record { sends = λ p i. by p (has_append p s.sends (packet_on s network to b ∷ []) i); kept = a.kept; lists = a.lists; views = a.views; puts = a.puts; order = a.order; tallies = a.tallies; led = a.led; apart = a.apart }
+        record { sends = λ p i. by p (has_append p s.sends (packet_on s network to b ∷ []) i); kept = a.kept; lists = a.lists; views = a.views; puts = a.puts; order = a.order; tallies = a.tallies; apart = a.apart }
       where
         by : (p : Packet) → Has p s.sends ⊎ Has p (packet_on s network to b ∷ []) → BodyCast (s.records ++ records_of h) p.body
         by p (inl i) = a.sends p i
         by p (inr (inl e)) = subst (λ (q : Packet). BodyCast (s.records ++ records_of h) q.body) (sym e) ok
         by p (inr (inr z)) = absurd z
 
-    pub at_sent : (s : Core) (to : ℕ) (b : Body) → BodyCast (s.records ++ records_of h) b → At h T G s → At h T G (sent s to b)
-    unfolding sent
-    at_sent s to b ok a = at_sent_on s (network_to s to) to b ok a
-
     pub more_pushed : (rs : List Happened) (r x : Happened) → Has x (rs ++ records_of h) → Has x ((rs ++ r ∷ []) ++ records_of h)
     more_pushed rs r x i =
         ⊎_elim (λ (j : Has x rs). append_has_left x (rs ++ r ∷ []) (records_of h) (append_has_left x rs (r ∷ []) j)) (λ (j : Has x (records_of h)). append_has_right x (rs ++ r ∷ []) (records_of h) j) (has_append x rs (records_of h) i)
 
-    pub at_recorded : (s : Core) (r : Happened) → RecordCast (reverse s.records) h r → At h T G s → At h T G (recorded s r)
+    pub at_recorded : (s : Core) (r : Happened) → RecordCast (reverse s.records) h r → At h T s → At h T (recorded s r)
     unfolding recorded
     at_recorded s r ok a =
         let more : (x : Happened) → Has x (s.records ++ records_of h) → Has x ((s.records ++ r ∷ []) ++ records_of h) = λ x i. more_pushed s.records r x i in
@@ -122,26 +113,15 @@ module _ (h : History) where
           puts = subst (λ l. Within RecordCast l h) (sym (reverse-append s.records (r ∷ []))) (ok, a.puts);
           order = a.order;
           tallies = λ g t. row_is_on rs ts more (leads_row s (found s g)) (found s g) (a.tallies g t);
-          led = a.led;
           apart = a.apart;
         }
 
-    -- records that put nothing
-    abbrev pub PutsNone : Happened → Type 0
-    PutsNone r = (now : List Happened) → RecordCast now h r
-
-    pub at_recorded_all : (rs : List Happened) (s : Core) → ((r : Happened) → Has r rs → PutsNone r) → At h T G s → At h T G (recorded_all s rs)
-    unfolding recorded_all recorded
-    at_recorded_all [] s none a = subst (λ l. At h T G (record s { records = l })) (sym (append-nil s.records)) a
-    at_recorded_all (r ∷ rs) s none a =
-        subst (λ l. At h T G (record s { records = l })) (append_assoc s.records (r ∷ []) rs) (at_recorded_all rs (recorded s r) (λ x i. none x (inr i)) (at_recorded s r (none r (inl refl) (reverse s.records)) a))
-
-    pub at_sessions : (s : Core) (t : SessionState) → ((k : KeptBallot) → Has k t.kept → KeptCast (s.records ++ records_of h) k) → At h T G s → At h T G (with_sessions s t)
+    pub at_sessions : (s : Core) (t : SessionState) → ((k : KeptBallot) → Has k t.kept → KeptCast (s.records ++ records_of h) k) → At h T s → At h T (with_sessions s t)
     unfolding with_sessions
     at_sessions s t ok a =
-        record { sends = a.sends; kept = ok; lists = a.lists; views = a.views; puts = a.puts; order = a.order; tallies = a.tallies; led = a.led; apart = a.apart }
+        record { sends = a.sends; kept = ok; lists = a.lists; views = a.views; puts = a.puts; order = a.order; tallies = a.tallies; apart = a.apart }
 
-    pub at_views : (s : Core) (v : Views) → ViewsCast (s.records ++ records_of h) v → v.me ≡ s.views.me → v.view ≡ s.views.view → At h T G s → At h T G (record s { views = v })
+    pub at_views : (s : Core) (v : Views) → ViewsCast (s.records ++ records_of h) v → v.me ≡ s.views.me → v.view ≡ s.views.view → At h T s → At h T (record s { views = v })
     at_views s v ok me at a =
         record {
           sends = a.sends;
@@ -151,59 +131,45 @@ module _ (h : History) where
           puts = a.puts;
           order = a.order;
           tallies = λ g t. subst (λ b. RowIs (s.records ++ records_of h) b (found s g)) (same g) (a.tallies g t);
-          led = λ g t. sym (same g) ∙ a.led g t;
           apart = a.apart;
         }
       where
         same : (g : List ℕ) → leads_row s (found s g) ≡ leads_row (record s { views = v }) (found s g)
         same g = λ i. is_this (sym me i) (leader_by s.config.mode (sym at i).coord (found s g).leader)
 
-    -- a row changes
-    module _ (U : List ℕ → Type 0) where
-      pub at_row_for : (s : Core) (g : List ℕ) (f : GroupRow → GroupRow) → KeepsName f → ((x : GroupRow) → (f x).leader ≡ x.leader) → ((x : GroupRow) → ListCast (s.records ++ records_of h) x.list → ListCast (s.records ++ records_of h) (f x).list) → (RowApart (found s g) → RowApart (f (found s g))) → ((k : List ℕ) → U k → (g ≡ k → ⊥) → T k) → (U g → RowIs (s.records ++ records_of h) (leads_row s (found s g)) (f (found s g))) → At h T G s → At h U G (with_row s g f)
-      unfolding with_row row_of
-      at_row_for s g f keeps leader lists waits others own a =
-          record {
-            sends = a.sends;
-            kept = a.kept;
-            lists = λ row i. by row (rows_has g f s.groups row i);
-            views = a.views;
-            puts = a.puts;
-            order = rows_ordered g f keeps s a.order;
-            tallies = λ k u. tally k u (cases_text g k);
-            led = λ k i. leads k i (cases_text g k);
-            apart = λ k. still k (cases_text g k);
-          }
-        where
-          by : (row : GroupRow) → Has row s.groups ⊎ ((x : GroupRow) × (Has x s.groups ⊎ (x ≡ new_row g)) × (row ≡ f x)) → ListCast (s.records ++ records_of h) row.list
-          by row (inl i) = a.lists row i
-          by row (inr k) = subst (λ (z : GroupRow). ListCast (s.records ++ records_of h) z.list) (sym k.2) (lists k.0 (old k.1))
-            where
-              old : Has k.0 s.groups ⊎ (k.0 ≡ new_row g) → ListCast (s.records ++ records_of h) (k.0).list
-              old (inl i) = a.lists k.0 i
-              old (inr e) = subst (λ (z : GroupRow). ListCast (s.records ++ records_of h) z.list) (sym e) (λ e i. absurd i)
+  -- a row changes
+  pub at_row_for : (T U : List ℕ → Type 0) (s : Core) (g : List ℕ) (f : GroupRow → GroupRow) → KeepsName f → ((x : GroupRow) → ListCast (s.records ++ records_of h) x.list → ListCast (s.records ++ records_of h) (f x).list) → (RowApart (found s g) → RowApart (f (found s g))) → ((k : List ℕ) → U k → (g ≡ k → ⊥) → T k) → (U g → RowIs (s.records ++ records_of h) (leads_row s (f (found s g))) (f (found s g))) → At h T s → At h U (with_row s g f)
+  unfolding with_row row_of
+  at_row_for T U s g f keeps lists waits others own a =
+      record {
+        sends = a.sends;
+        kept = a.kept;
+        lists = λ row i. by row (rows_has g f s.groups row i);
+        views = a.views;
+        puts = a.puts;
+        order = rows_ordered g f keeps s a.order;
+        tallies = λ k u. tally k u (cases_text g k);
+        apart = λ k. still k (cases_text g k);
+      }
+    where
+      Is : GroupRow → Type 0
+      Is row = RowIs (s.records ++ records_of h) (leads_row s row) row
 
-          here : found (with_row s g f) g ≡ f (found s g)
-          here = row_here g f keeps s a.order
+      old : (x : GroupRow) → Has x s.groups ⊎ (x ≡ new_row g) → ListCast (s.records ++ records_of h) x.list
+      old x (inl i) = a.lists x i
+      old x (inr e) = subst (λ (z : GroupRow). ListCast (s.records ++ records_of h) z.list) (sym e) (λ e i. absurd i)
 
-          there : (k : List ℕ) → (g ≡ k → ⊥) → found (with_row s g f) k ≡ found s k
-          there k ne = row_there g f keeps s k ne
+      by : (row : GroupRow) → Has row s.groups ⊎ ((x : GroupRow) × (Has x s.groups ⊎ (x ≡ new_row g)) × (row ≡ f x)) → ListCast (s.records ++ records_of h) row.list
+      by row (inl i) = a.lists row i
+      by row (inr k) = subst (λ (z : GroupRow). ListCast (s.records ++ records_of h) z.list) (sym k.2) (lists k.0 (old k.0 k.1))
 
-          lead : leads_row s (f (found s g)) ≡ leads_row s (found s g)
-          lead = ap (λ o. is_this s.views.me (leader_by s.config.mode s.views.view.coord o)) (leader (found s g))
+      tally : (k : List ℕ) → U k → (g ≡ k) ⊎ (g ≡ k → ⊥) → Is (found (with_row s g f) k)
+      tally k u (inl e) = subst (λ z. Is (found (with_row s g f) z)) e (subst Is (sym (row_here g f keeps s a.order)) (own (subst U (sym e) u)))
+      tally k u (inr ne) = subst Is (sym (row_there g f keeps s k ne)) (a.tallies k (others k u ne))
 
-          tally : (k : List ℕ) → U k → (g ≡ k) ⊎ (g ≡ k → ⊥) → RowIs (s.records ++ records_of h) (leads_row s (found (with_row s g f) k)) (found (with_row s g f) k)
-          tally k u (inl e) =
-              subst (λ z. RowIs (s.records ++ records_of h) (leads_row s (found (with_row s g f) z)) (found (with_row s g f) z)) e (subst (λ z. RowIs (s.records ++ records_of h) (leads_row s z) z) (sym here) (subst (λ b. RowIs (s.records ++ records_of h) b (f (found s g))) (sym lead) (own (subst U (sym e) u))))
-          tally k u (inr ne) = subst (λ z. RowIs (s.records ++ records_of h) (leads_row s z) z) (sym (there k ne)) (a.tallies k (others k u ne))
+      still : (k : List ℕ) → (g ≡ k) ⊎ (g ≡ k → ⊥) → RowApart (found (with_row s g f) k)
+      still k (inl e) = subst (λ z. RowApart (found (with_row s g f) z)) e (subst RowApart (sym (row_here g f keeps s a.order)) (waits (a.apart g)))
+      still k (inr ne) = subst RowApart (sym (row_there g f keeps s k ne)) (a.apart k)
 
-          leads : (k : List ℕ) → G k → (g ≡ k) ⊎ (g ≡ k → ⊥) → leads_row s (found (with_row s g f) k) ≡ true
-          leads k i (inl e) = subst (λ z. leads_row s (found (with_row s g f) z) ≡ true) e (ap (leads_row s) here ∙ lead ∙ a.led g (subst G (sym e) i))
-          leads k i (inr ne) = ap (leads_row s) (there k ne) ∙ a.led k i
-
-          still : (k : List ℕ) → (g ≡ k) ⊎ (g ≡ k → ⊥) → RowApart (found (with_row s g f) k)
-          still k (inl e) = subst (λ z. RowApart (found (with_row s g f) z)) e (subst RowApart (sym here) (waits (a.apart g)))
-          still k (inr ne) = subst RowApart (sym (there k ne)) (a.apart k)
-
-    pub at_row : (s : Core) (g : List ℕ) (f : GroupRow → GroupRow) → KeepsName f → ((x : GroupRow) → (f x).leader ≡ x.leader) → ((x : GroupRow) → ListCast (s.records ++ records_of h) x.list → ListCast (s.records ++ records_of h) (f x).list) → (RowApart (found s g) → RowApart (f (found s g))) → (T g → RowIs (s.records ++ records_of h) (leads_row s (found s g)) (f (found s g))) → At h T G s → At h T G (with_row s g f)
-    at_row s g f keeps leader lists waits own a = at_row_for T s g f keeps leader lists waits (λ k t ne. t) own a
+  pub at_row : (T : List ℕ → Type 0) (s : Core) (g : List ℕ) (f : GroupRow → GroupRow) → KeepsName f → ((x : GroupRow) → ListCast (s.records ++ records_of h) x.list → ListCast (s.records ++ records_of h) (f x).list) → (RowApart (found s g) → RowApart (f (found s g))) → (T g → RowIs (s.records ++ records_of h) (leads_row s (f (found s g))) (f (found s g))) → At h T s → At h T (with_row s g f)
+  at_row T s g f keeps lists waits own a = at_row_for T T s g f keeps lists waits (λ k t ne. t) own a

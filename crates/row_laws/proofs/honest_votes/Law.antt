@@ -26,7 +26,7 @@ use Rattle.row_laws.specs.honest_votes.Casts.{RecordCast, BodyCast, KeptCast, Li
 use Rattle.row_laws.specs.honest_votes.Scenes.{RecordedVotesAreCast, SentVotesAreCast, KeptVotesAreCast, ListedVotesAreCast, CountedVotesAreCast, GatheredVotesAreCast}
 use Rattle.row_laws.proofs.honest_votes.More.{body_on, ballot_on, entries_on, views_on}
 use Rattle.row_laws.proofs.honest_votes.At.{found, leads_row, RowIs, RowApart, row_is_on, At}
-use Rattle.row_laws.proofs.honest_votes.Ending.{Every, NoGroup}
+use Rattle.row_laws.proofs.honest_votes.Changes.{Every}
 use Rattle.row_laws.proofs.honest_votes.Steps.{at_stepped}
 
 -- what a node has was cast
@@ -69,14 +69,14 @@ Sent rs p = BodyCast rs p.body
 
 step_done : (w : Scene) (n : ℕ) (f : Answering) (s : Core) (e : NodeEvent) (v : Event) → w.cores n ≡ Some s → ((g : List ℕ) → Rests g w) → Arises w e → Holds Sent Node RecordCast w → CoreCast (records_of w.before) s → Done Sent Node RecordCast w (stepped f s e)
 step_done w n f s e v up rests arises k c =
-    let a : At w.before Every NoGroup (stepped f s e) = at_stepped w n f s e k.sent (λ h. begin_tied h w n s up (rests h)) arises begin in
+    let a : At w.before Every (stepped f s e) = at_stepped w n s k.sent (λ h. begin_tied h w n s up (rests h)) f e arises begin in
     record {
       sends = a.sends;
       node = record { kept = a.kept; lists = a.lists; views = a.views; order = a.order; tallies = λ g. a.tallies g tt; apart = a.apart };
       lines = a.puts;
     }
   where
-    begin : At w.before Every NoGroup (at_work s)
+    begin : At w.before Every (at_work s)
     begin =
         record {
           sends = λ p i. absurd i;
@@ -86,7 +86,6 @@ step_done w n f s e v up rests arises k c =
           puts = tt;
           order = c.order;
           tallies = λ g t. c.tallies g;
-          led = λ g z. absurd z;
           apart = c.apart;
         }
 

@@ -4,32 +4,21 @@ use Rattle.std.specs.Prelude.{◌==◌, slice_get}
 use Rattle.std.proofs.lemmas.Bool.{eqb-true, eq-eqb}
 use Rattle.rsct_packet.specs.declared.ids.ViewId.{ViewId}
 use Rattle.rsct_packet.specs.declared.ids.ProviderId.{ProviderId}
-use Rattle.rsct_packet.specs.declared.mask.Mask.{Mask}
 use Rattle.rsct_packet.specs.Search.{Has}
 use Rattle.rsct_packet.proofs.HasLaws.{append_has_right}
 use Rattle.group_attr.specs.declared.attrs.Phases.{Phases}
 use Rattle.proposal_core.specs.declared.entry.Entry.{Entry}
 use Rattle.proposal_core.specs.declared.proposal.Proposal.{Proposal}
-use Rattle.view_state.specs.declared.packet.ViewPacket.{ViewPacket}
-use Rattle.view_state.specs.declared.packet.ViewPacket.TheVariants as view
-use Rattle.view_state.specs.declared.views.ViewWork.{ViewWork}
-use Rattle.view_state.specs.Views.{views_at_work, ask_rule, prepare_rule, answer_rule, refuse_rule, install_rule, taken_rule}
 use Rattle.node_state.specs.declared.config.Mode.{Mode}
 use Rattle.node_state.specs.declared.config.Mode.TheVariants.{Fixed, Asked, Rings}
 use Rattle.node_state.specs.declared.group.GroupRow.{GroupRow}
-use Rattle.node_state.specs.declared.packet.Body.{Body}
 use Rattle.node_state.specs.declared.packet.Body.TheVariants as body
 use Rattle.node_state.specs.declared.packet.Packet.{Packet}
 use Rattle.node_state.specs.declared.state.Core.{Core}
 use Rattle.node_state.specs.Settings.{is_fixed}
 use Rattle.node_state.specs.State.{row_of, with_row, len_of, is_this, leader_by, leader_in, leads_in, leads, set_leader}
 use Rattle.node_state.specs.HandOn.{Answering}
-use Rattle.node_state.specs.Following.{take_lookup, take_name, take_request, take_tell, take_entry, take_ack, take_vote, take_gone}
-use Rattle.node_state.specs.Applying.{own_parts, views_taken}
-use Rattle.node_state.specs.Status.{status_text}
-use Rattle.node_state.specs.Ticks.{tick_rings, tick_views, tick_owed, tick_rule}
-use Rattle.node_state.specs.Ending.{end_step}
-use Rattle.node_state.specs.Step.{NodeEvent, Ticks, Asks, Given, Calls, Garbage, is_used, used_if, take_order, view_rule, take_body, packet_rule, event_rule, stepped, at_work}
+use Rattle.node_state.specs.Step.{NodeEvent, Ticks, Asks, Given, Calls, Garbage, is_used, stepped, at_work}
 use Rattle.run_safety.specs.Past.{records_of}
 use Rattle.run_safety.specs.Group.{member}
 use Rattle.run_safety.specs.Group as group
@@ -38,19 +27,18 @@ use Rattle.run_safety.proofs.Lives.{whole}
 use Rattle.run_safety.proofs.Parts.{member_parts}
 use Rattle.node_state.proofs.NameOrder.{row_here}
 use Rattle.step_refinement.specs.Tied.{ShowsBody, ShowsEntry, ShowsLeader, ShowsRequest, Scene, opening_of, Tied}
-use Rattle.step_refinement.specs.Rules.{acted, Arises}
+use Rattle.step_refinement.specs.Rules.{Arises}
 use Rattle.step_refinement.proofs.Acks.{used_is}
 use Rattle.step_refinement.proofs.Leads.{leader_inc, leads_known}
 use Rattle.step_refinement.proofs.RowWorks.{len_is}
-use Rattle.row_laws.specs.honest_votes.Casts.{BodyCast}
+use Rattle.row_laws.specs.honest_votes.Casts.{NamesOnce, BodyCast}
+use Rattle.step_walk.proofs.Called.{at_call}
+use Rattle.step_walk.proofs.Rings.{by_rings}
+use Rattle.step_walk.proofs.Stepping.{called, GivenTo}
+use Rattle.step_walk.proofs.Stepping as stepping
 use Rattle.row_laws.proofs.honest_votes.More.{body_on}
-use Rattle.row_laws.proofs.honest_votes.At.{At, at_sent_on}
-use Rattle.row_laws.proofs.honest_votes.Ending.{Every, NoGroup, at_step_ended}
-use Rattle.row_laws.proofs.honest_votes.Gathers.{WorkIs, begun_work, ask_work, prepare_work, answer_work, refuse_work, install_work, taken_work}
-use Rattle.row_laws.proofs.honest_votes.Entering.{at_views_taken, own_parts_cast}
-use Rattle.row_laws.proofs.honest_votes.Ticking.{at_ring_rule, at_report, at_rings_part, at_views_part, at_owed_part, at_led_part}
-use Rattle.row_laws.proofs.honest_votes.Following.{at_lookup, at_name, at_request, at_tell, at_entry, at_ack, at_vote, at_gone}
-use Rattle.row_laws.proofs.honest_votes.Calling.{at_call}
+use Rattle.row_laws.proofs.honest_votes.At.{At}
+use Rattle.row_laws.proofs.honest_votes.Changes.{Every, But, Known, Works, Leaving, beside, packets, calling, entering, ring}
 
 past_end : (xs : List Entry) (e : Entry) → slice_get xs (length xs) ≡ Some e → ⊥
 past_end [] e q = absurd (cc)
@@ -96,78 +84,34 @@ request_leads v g q r phases x w n s p is to delivered t used = by s.config.mode
     by Asked led = ap (is_this s.views.me) row ∙ eq-eqb s.views.me s.views.me refl
     by Rings led = ap (is_this s.views.me) row ∙ eq-eqb s.views.me s.views.me refl
 
-module _ (w : Scene) (n : ℕ) (f : Answering) (s : Core) (were : (p : Packet) → Has p w.sent → BodyCast (records_of w.before) p.body) (all : (h : List ℕ) → Tied h w n s) (a : At w.before Every NoGroup s) where
-  abbrev Full : Core → Type 0
-  Full c = At w.before Every NoGroup c
+-- what is known of a step of a node as it begins
+module _ (w : Scene) (n : ℕ) (s : Core) (were : (p : Packet) → Has p w.sent → BodyCast (records_of w.before) p.body) (all : (h : List ℕ) → Tied h w n (at_work s)) where
+  unled : (b : Bool) → (b ≡ true → ⊥) → b ≡ false
+  unled true no_it = absurd (no_it refl)
+  unled false no_it = refl
 
-  used : (t : Core) (b : Bool) → (b ≡ true → Full t) → Full (used_if s t b)
-  unfolding used_if
-  used t true k = k refl
-  used t false k = a
+  known : (p : Packet) → Has p w.sent → Known w.before (at_work s) p
+  known p sent =
+      record {
+        cast = body_on (records_of w.before) ((at_work s).records ++ records_of w.before) (λ r i. append_has_right r (at_work s).records (records_of w.before) i) p.body (were p sent);
+        entry = λ v g place stable e is used at. unled (leads (at_work s) g) (λ led. entry_follows v g place stable e w n (at_work s) p is sent (all g) used at led);
+        request = λ v g q r phases x is to used. request_leads v g q r phases x w n (at_work s) p is (to ∙ (all []).own.0.stands.me) sent (all g) used;
+      }
 
-  taken : (x : ViewWork) → WorkIs (s.records ++ records_of w.before) s.views x → Full (views_taken f s x)
-  taken x k = at_views_taken w.before f s x k a
+  given : (e : NodeEvent) → Arises w e → GivenTo (Known w.before) (at_work s) e
+  given Ticks arises = tt
+  given (Asks mask) arises = tt
+  given (Given p) arises = known p arises
+  given (Calls c) arises = tt
+  given Garbage arises = tt
 
-  begun : WorkIs (s.records ++ records_of w.before) s.views (views_at_work s.views)
-  begun = begun_work (s.records ++ records_of w.before) s.views a.views
+  after_call : (e : NodeEvent) → At w.before Every (at_work s) → At w.before Every (called (at_work s) e)
+  after_call (Calls c) a = at_call (At w.before Every) (beside w.before Every) (calling w.before) (at_work s) c a
+  after_call Ticks a = a
+  after_call (Asks mask) a = a
+  after_call (Given p) a = a
+  after_call Garbage a = a
 
-  view_at : (from inc : ℕ) (y : ViewPacket) → BodyCast (s.records ++ records_of w.before) (body.View y) → Full (view_rule f s from inc y)
-  unfolding view_rule
-  view_at from inc (view.Prepare v mask) ok = taken (prepare_rule (views_at_work s.views) from inc v mask (own_parts s)) (prepare_work (s.records ++ records_of w.before) s.views (views_at_work s.views) from inc v mask (own_parts s) (own_parts_cast w.before s a) begun)
-  view_at from inc (view.Answer v old parts) ok = taken (answer_rule (views_at_work s.views) v (record { node = from; inc = inc; view = old; parts = parts })) (answer_work (s.records ++ records_of w.before) s.views (views_at_work s.views) v (record { node = from; inc = inc; view = old; parts = parts }) ok begun)
-  view_at from inc (view.Refuse v k) ok = taken (refuse_rule (views_at_work s.views) v k) (refuse_work (s.records ++ records_of w.before) s.views (views_at_work s.views) v k begun)
-  view_at from inc (view.Install i) ok = taken (install_rule (views_at_work s.views) i) (install_work (s.records ++ records_of w.before) s.views (views_at_work s.views) i ok begun)
-  view_at from inc (view.Taken v) ok = taken (taken_rule (views_at_work s.views) from v) (taken_work (s.records ++ records_of w.before) s.views (views_at_work s.views) from v begun)
-
-  body_at : (p : Packet) (b : Body) → p.body ≡ b → p.to ≡ n → Has p w.sent → BodyCast (s.records ++ records_of w.before) b → Full (take_body f s p b)
-  unfolding take_body
-  body_at p (body.Ring x) is to sent ok = at_ring_rule w.before s p.network p.from p.inc x a
-  body_at p (body.Report rows) is to sent ok = at_report w.before s rows a
-  body_at p (body.View y) is to sent ok = view_at p.from p.inc y ok
-  body_at p (body.Lookup v g) is to sent ok = used (take_lookup s p.from g) (is_used s p v) (λ u. at_lookup w.before s p.from g a)
-  body_at p (body.Name v g k) is to sent ok = used (take_name s g k) (is_used s p v) (λ u. at_name w.before s g k a)
-  body_at p (body.Request v g q r phases x) is to sent ok =
-      used (take_request f s p.from g q r phases x) (is_used s p v) (λ u. at_request w.before f s g (request_leads v g q r phases x w n s p is to sent (all g) u) p.from q r phases x a)
-  body_at p (body.Tell v g q r why) is to sent ok = used (take_tell s q r why) (is_used s p v) (λ u. at_tell w.before s q r why a)
-  body_at p (body.Entry v g i k e) is to sent ok =
-      used (take_entry f s p.from g i k e) (is_used s p v) (λ u. at_entry w.before f s p.from g k e ok i (λ at led. entry_follows v g i k e w n s p is sent (all g) u at led) a)
-  body_at p (body.Ack v g k) is to sent ok = used (take_ack s p.from g k) (is_used s p v) (λ u. at_ack w.before s p.from g k a)
-  body_at p (body.Vote v g proto phase q ballot value message) is to sent ok =
-      used (take_vote f s g proto phase q ballot value message) (is_used s p v) (λ u. at_vote w.before f s g proto phase q ballot value message ok a)
-  body_at p (body.Gone v g q) is to sent ok = used (take_gone f s g q) (is_used s p v) (λ u. at_gone w.before f s g q a)
-  body_at p (body.Query question what) is to sent ok = at_sent_on w.before Every NoGroup s p.network p.from (body.Reply question (status_text s what)) tt a
-  body_at p (body.Reply question text) is to sent ok = a
-
-  order_at : (mask : Mask) → Full (take_order f s mask)
-  unfolding take_order
-  order_at mask = by (is_fixed s.config.mode)
-    where
-      by : (b : Bool) → Full (elim b as (λ _. Core) [ true ↦ s | false ↦ views_taken f s (ask_rule (views_at_work s.views) mask (own_parts s)) ])
-      by true = a
-      by false = taken (ask_rule (views_at_work s.views) mask (own_parts s)) (ask_work (s.records ++ records_of w.before) s.views (views_at_work s.views) mask (own_parts s) (own_parts_cast w.before s a) begun)
-
-  acted_at : (e : NodeEvent) → Arises w e → Full (acted f s e)
-  unfolding packet_rule
-  acted_at Ticks arises =
-      at_led_part w.before f (tick_owed (tick_views f (tick_rings s))) (at_owed_part w.before (tick_views f (tick_rings s)) (at_views_part w.before f (tick_rings s) (at_rings_part w.before s a)))
-  acted_at (Asks mask) arises = order_at mask
-  acted_at (Calls c) arises = at_call w.before s c a
-  acted_at Garbage arises = a
-  acted_at (Given p) arises = by (p.to == s.views.me) refl
-    where
-      by : (b : Bool) → (p.to == s.views.me) ≡ b → Full (elim b as (λ _. Core) [ true ↦ take_body f s p p.body | false ↦ s ])
-      by false e = a
-      by true e =
-          body_at p p.body refl (eqb-true p.to s.views.me e ∙ (all []).own.0.stands.me) arises (body_on (records_of w.before) (s.records ++ records_of w.before) (λ r i. append_has_right r s.records (records_of w.before) i) p.body (were p arises))
-
-stepped_is : (f : Answering) (s : Core) (e : NodeEvent) → stepped f s e ≡ end_step f (acted f (at_work s) e)
-unfolding stepped event_rule tick_rule
-stepped_is f s Ticks = refl
-stepped_is f s (Asks mask) = refl
-stepped_is f s (Given p) = refl
-stepped_is f s (Calls c) = refl
-stepped_is f s Garbage = refl
-
-pub at_stepped : (w : Scene) (n : ℕ) (f : Answering) (s : Core) (e : NodeEvent) → ((p : Packet) → Has p w.sent → BodyCast (records_of w.before) p.body) → ((h : List ℕ) → Tied h w n (at_work s)) → Arises w e → At w.before Every NoGroup (at_work s) → At w.before Every NoGroup (stepped f s e)
-at_stepped w n f s e were all arises a =
-    subst (At w.before Every NoGroup) (sym (stepped_is f s e)) (at_step_ended w.before f (acted f (at_work s) e) (acted_at w n f (at_work s) were all a e arises))
+  pub at_stepped : (f : Answering) (e : NodeEvent) → Arises w e → At w.before Every (at_work s) → At w.before Every (stepped f s e)
+  at_stepped f e arises a =
+      stepping.at_stepped (At w.before Every) (λ g. At w.before (But g)) NamesOnce ⊥ (Known w.before) (Works w.before) (Leaving w.before) (packets w.before) (by_rings (At w.before Every) (Known w.before) (beside w.before Every) (packets w.before).reach (ring w.before)) (entering w.before) f s e (given e arises) (after_call e a)

@@ -1,12 +1,10 @@
 -- What holds of each record of a run, where it holds of all that are of no base.
-use Rattle.std.proofs.Common.{◌≡◌, ◌⊎◌, ℕ, ◌+◌, List, [], ◌∷◌, ◌++◌, Option, Some, None, refl, sym, subst, inl, inr, append-nil}
-use Rattle.std.specs.Prelude.{reverse, map, flat_map, fold}
+use Rattle.std.proofs.Common.{◌≡◌, ◌⊎◌, ℕ, List, [], ◌∷◌, ◌++◌, Option, Some, None, refl, sym, subst, inl, inr}
+use Rattle.std.specs.Prelude.{reverse, flat_map}
 use Rattle.std.proofs.lemmas.List.{reverse-append}
 use Rattle.rsct_packet.specs.declared.ids.ProtoId.{ProtoId}
 use Rattle.rsct_packet.specs.Search.{Has}
-use Rattle.rsct_packet.specs.Mask.{nodes_of}
-use Rattle.rsct_packet.proofs.HasLaws.{has_append, has_map}
-use Rattle.adapter_ring.specs.declared.ring.Ring.{Ring}
+use Rattle.rsct_packet.proofs.HasLaws.{has_append}
 use Rattle.proposal_core.specs.declared.entry.Entry.{Entry}
 use Rattle.proposal_core.specs.declared.group_state.GroupState.{GroupState}
 use Rattle.client_callbacks.specs.declared.ballot.Filled.{Filled}
@@ -20,7 +18,7 @@ use Rattle.node_state.specs.declared.state.Core.{Core}
 use Rattle.node_state.specs.State.{with_row, state_of, len_of, recorded, recorded_all, with_sessions}
 use Rattle.node_state.specs.HandOn.{Answering, heard, cast_record, cast_records}
 use Rattle.node_state.specs.Leading.{put}
-use Rattle.node_state.specs.Step.{NodeEvent, started, stepped, first_view, first_members, own_rings, ring_record}
+use Rattle.node_state.specs.Step.{NodeEvent, stepped}
 use Rattle.world_model.specs.declared.event.Event.{Event}
 use Rattle.run_safety.specs.Past.{History, EachRecord, Within}
 use Rattle.step_refinement.specs.Tied.{Scene}

@@ -1,5 +1,5 @@
 -- In each scene whose history names calls, and calls alone, as calls: each put is heard by whoever takes part.
-use Rattle.std.proofs.Common.{◌≡◌, ◌⊎◌, ℕ, ◌+◌, List, [], ◌∷◌, ◌++◌, Some, None, false, refl, sym, ◌∙◌, subst, inl, inr, append_assoc}
+use Rattle.std.proofs.Common.{◌≡◌, ◌⊎◌, ℕ, List, [], ◌∷◌, ◌++◌, Some, false, refl, sym, ◌∙◌, subst, inl, inr, append_assoc}
 use Rattle.std.specs.Prelude.{reverse, IsTrue}
 use Rattle.rsct_packet.specs.declared.ids.ProviderId.{ProviderId}
 use Rattle.rsct_packet.specs.Search.{Has}

@@ -1,10 +1,9 @@
 -- In each scene whose history names calls, and calls alone, as calls: just who is left behind is told DISSOLVED.
-use Rattle.std.proofs.Common.{◌≡◌, ◌⊎◌, ℕ, ◌+◌, List, [], ◌∷◌, Option, Some, true, false, refl, sym, ap, ◌∙◌, subst, inl, inr}
+use Rattle.std.proofs.Common.{◌≡◌, ◌⊎◌, ℕ, ◌+◌, List, [], ◌∷◌, Option, Some, true, false, sym, ap, ◌∙◌, subst, inl}
 use Rattle.std.specs.List.{list_any}
 use Rattle.rsct_packet.specs.declared.ids.ProviderId.{ProviderId}
 use Rattle.node_state.specs.declared.config.Config.{Config}
 use Rattle.node_state.specs.declared.happened.Happened.{Happened}
-use Rattle.node_state.specs.declared.happened.Happened.TheVariants as happened
 use Rattle.node_state.specs.declared.state.Core.{Core}
 use Rattle.node_state.specs.State.{row_of, list_of, state_of, len_of}
 use Rattle.node_state.specs.HandOn.{Answering}
@@ -12,7 +11,7 @@ use Rattle.node_state.specs.HandOn.{Answering}
 use Rattle.node_state.specs.Step.{NodeEvent, at_work, stepped}
 use Rattle.world_model.specs.declared.event.Event.{Event}
 use Rattle.world_model.specs.Run.{Happening}
-use Rattle.run_safety.specs.Past.{History, EachEvent, earlier, records_of}
+use Rattle.run_safety.specs.Past.{History, EachEvent, records_of}
 use Rattle.run_safety.specs.SafeHeard.{Dissolves, is_left_behind, enters}
 use Rattle.run_safety.specs.Stays.{stays, was_let_go}
 use Rattle.run_safety.proofs.Tests.{any_has}

@@ -1,11 +1,9 @@
 -- In each scene whose history names calls, and calls alone, as calls: who is told DISSOLVED was left behind.
-use Rattle.std.proofs.Common.{◌≡◌, ◌⊎◌, ℕ, ◌+◌, List, [], ◌∷◌, ◌++◌, Option, Some, None, true, false, refl, sym, ap, ◌∙◌, subst, inl, inr, ⊎_elim}
-use Rattle.std.specs.Prelude.{IsTrue, fold, reverse}
+use Rattle.std.proofs.Common.{◌≡◌, ◌⊎◌, ℕ, [], Some, true, false, refl, sym, ◌∙◌, subst, inl, inr}
+use Rattle.std.specs.Prelude.{IsTrue, reverse}
 use Rattle.std.specs.List.{list_any}
 use Rattle.rsct_packet.specs.declared.ids.ProviderId.{ProviderId}
-use Rattle.rsct_packet.specs.Mask.{nodes_of}
 use Rattle.rsct_packet.specs.Search.{Has}
-use Rattle.rsct_packet.proofs.HasLaws.{has_append}
 use Rattle.client_callbacks.specs.declared.told.Why.TheVariants.{Dissolved}
 use Rattle.session_state.specs.declared.state.Request.{Request}
 use Rattle.node_state.specs.declared.config.Config.{Config}
@@ -13,7 +11,7 @@ use Rattle.node_state.specs.declared.happened.Happened.{Happened}
 use Rattle.node_state.specs.declared.happened.Happened.TheVariants as happened
 use Rattle.node_state.specs.declared.state.Core.{Core}
 use Rattle.node_state.specs.HandOn.{Answering}
-use Rattle.node_state.specs.Step.{NodeEvent, Ticks, Asks, Given, Calls, Garbage, at_work, ring_record, started, stepped}
+use Rattle.node_state.specs.Step.{NodeEvent, Ticks, Asks, Given, Calls, Garbage, at_work, stepped}
 use Rattle.world_model.specs.declared.event.Event.{Event}
 use Rattle.world_model.specs.Run.{Happening}
 use Rattle.run_safety.specs.Past.{History, EachEvent, earlier}

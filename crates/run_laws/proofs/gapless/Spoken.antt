@@ -1,5 +1,5 @@
 -- In each scene that events lead to: no refusal that was sent, or that a leader keeps, is that a group was dissolved.
-use Rattle.std.proofs.Common.{◌≡◌, ℕ, ◌+◌, List, [], ◌∷◌, Option, Some, None, subst, ⊎_elim}
+use Rattle.std.proofs.Common.{◌≡◌, ℕ, ◌+◌, Some, subst}
 use Rattle.rsct_packet.specs.Search.{Has}
 use Rattle.node_state.specs.declared.config.Config.{Config}
 use Rattle.node_state.specs.declared.group.Decision.{Decision}

@@ -1,15 +1,14 @@
 -- In each scene whose history names calls, and calls alone, as calls: whoever takes part hears each put.
-use Rattle.std.proofs.Common.{◌≡◌, ◌≢◌, ◌⊎◌, ℕ, ◌+◌, List, [], ◌∷◌, ◌++◌, Option, Some, None, Bool, true, false, refl, sym, ap, ◌∙◌, subst, inl, inr}
+use Rattle.std.proofs.Common.{◌≡◌, ◌⊎◌, ℕ, ◌+◌, List, [], ◌∷◌, ◌++◌, Option, Some, None, true, false, refl, sym, ap, ◌∙◌, subst, inl, inr}
 use Rattle.std.specs.Prelude.{◌==◌, ◌&&◌, ◌||◌, not}
 use Rattle.std.proofs.lemmas.Bool.{eq-eqb}
 use Rattle.rsct_packet.specs.declared.ids.ProviderId.{ProviderId}
 use Rattle.rsct_packet.specs.Search.{Has}
-use Rattle.rsct_packet.proofs.HasLaws.{has_append, find_has}
+use Rattle.rsct_packet.proofs.HasLaws.{find_has}
 use Rattle.proposal_core.specs.Fold.{empty_state}
 use Rattle.session_state.specs.declared.state.Provider.{Provider}
 use Rattle.session_state.specs.State.{provider_of, is_provider}
 use Rattle.node_state.specs.declared.config.Config.{Config}
-use Rattle.node_state.specs.declared.group.GroupRow.{GroupRow}
 use Rattle.node_state.specs.declared.happened.Happened.{Happened}
 use Rattle.node_state.specs.declared.happened.Happened.TheVariants as happened
 use Rattle.node_state.specs.declared.state.Core.{Core}
@@ -18,14 +17,14 @@ use Rattle.node_state.specs.Applying.{level_set}
 use Rattle.node_state.specs.Step.{started, stepped}
 use Rattle.world_model.specs.declared.event.Event.{Event}
 use Rattle.world_model.specs.Run.{Happening}
-use Rattle.run_safety.specs.Past.{History, Within, records_of, inc_now}
+use Rattle.run_safety.specs.Past.{History, records_of, inc_now}
 use Rattle.run_safety.specs.Stays.{stays, client_of, goodbye_of, lets_go, was_let_go}
 use Rattle.step_refinement.specs.Tied.{Scene, NodeIsIf}
 use Rattle.step_refinement.specs.Rules.{at_node, over, ended}
 use Rattle.step_refinement.specs.Runs.{Reached}
 use Rattle.step_refinement.proofs.Changed.{set_here, set_there}
 use Rattle.step_refinement.proofs.RunLaw.{reached_rests}
-use Rattle.step_refinement.proofs.SessionLaws.{provider_self, provider_same}
+use Rattle.step_refinement.proofs.SessionLaws.{provider_same}
 use Rattle.run_induction.proofs.Idle.{Idle, AllElsewhere, within_idle, stays_elsewhere, Came}
 use Rattle.run_induction.proofs.Ran.{Ran, Outer}
 use Rattle.run_induction.proofs.Laws.{Claim, Holds, Done, Law, ran_holds}

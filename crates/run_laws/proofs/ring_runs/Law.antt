@@ -1,8 +1,7 @@
 -- In every scene that events lead to, the ring records of each network agree.
-use Rattle.std.proofs.Common.{◌≡◌, ◌≤◌, ◌⊎◌, ℕ, ◌+◌, List, [], ◌∷◌, ◌++◌, length, Option, Some, None, Bool, true, false, refl, sym, ap, ◌∙◌, subst, inl, inr, ⊎_elim}
-use Rattle.std.specs.Prelude.{◌==◌, fold, reverse, if◌then◌else◌}
+use Rattle.std.proofs.Common.{◌≡◌, ◌≤◌, ◌⊎◌, ℕ, ◌+◌, List, [], ◌∷◌, ◌++◌, length, Some, None, Bool, true, false, refl, sym, ap, ◌∙◌, subst, inl, inr, ⊎_elim}
+use Rattle.std.specs.Prelude.{◌==◌, reverse, if◌then◌else◌}
 use Rattle.std.proofs.lemmas.Bool.{eqb-true}
-use Rattle.std.proofs.lemmas.List.{reverse-append}
 use Rattle.rsct_packet.specs.Mask.{nodes_of}
 use Rattle.rsct_packet.specs.Search.{Has}
 use Rattle.rsct_packet.proofs.HasLaws.{has_append, append_has_left, append_has_right}
@@ -24,7 +23,7 @@ use Rattle.node_state.specs.Step.{NodeEvent, started, stepped, at_work}
 use Rattle.world_model.specs.declared.event.Event.{Event}
 use Rattle.run_safety.specs.Past.{History, records_of}
 use Rattle.step_refinement.specs.Tied.{Scene}
-use Rattle.step_refinement.specs.Rules.{at_node, ended, stopped, nothing_yet, all_started, with_records, starts_too, Arises}
+use Rattle.step_refinement.specs.Rules.{at_node, ended, stopped, all_started, with_records, starts_too, Arises}
 use Rattle.step_refinement.specs.Runs.{IsNote, Reached, Nothing, AllStart, Starts, Stops, Steps, Notes}
 use Rattle.step_refinement.proofs.Changed.{each_set}
 use Rattle.run_induction.proofs.Idle.{reverse_has}

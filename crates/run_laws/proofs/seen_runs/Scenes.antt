@@ -1,8 +1,7 @@
 -- In every scene that events lead to, each node starts later each time, and is in its view as a member.
-use Rattle.std.proofs.Common.{refl, ◌≡◌, ℕ, ◌+◌, ◌<◌, ◌≤◌, ◌⊎◌, ⊎_elim, inl, inr, sym, ◌∙◌, ap, subst, true, false, Bool, List, [], ◌∷◌, ◌++◌, Option, Some, None, arith, append_assoc}
-use Rattle.std.specs.Prelude.{◌==◌, ◌&&◌, ◌≢◌, reverse, map, fold}
+use Rattle.std.proofs.Common.{refl, ◌≡◌, ℕ, ◌+◌, ◌<◌, ◌≤◌, ◌⊎◌, ⊎_elim, inl, inr, sym, ◌∙◌, ap, subst, true, false, List, [], ◌∷◌, ◌++◌, Option, Some, None, arith}
+use Rattle.std.specs.Prelude.{◌==◌, ◌&&◌, reverse, map}
 use Rattle.std.proofs.lemmas.List.{append-nil}
-use Rattle.std.proofs.lemmas.Bool.{cases_eq}
 use Rattle.std.proofs.lemmas.Bool.Decides.{nat_tests}
 use Rattle.rsct_packet.specs.declared.ids.Member.{Member}
 use Rattle.rsct_packet.specs.declared.ids.ViewId.{ViewId}
@@ -20,24 +19,24 @@ use Rattle.node_state.specs.Settings.{is_fixed}
 use Rattle.node_state.specs.HandOn.{Answering}
 use Rattle.node_state.specs.Step.{NodeEvent, stepped, started, first_view, first_members, own_rings, ring_record}
 use Rattle.world_model.specs.declared.event.Event.{Event}
-use Rattle.run_safety.specs.Group.{member, Standing, In, kept}
-use Rattle.run_safety.specs.Past.{History, records_of, inc_now, inc_after, view_now}
-use Rattle.run_safety.specs.Sight.{inc_in, lines_of}
+use Rattle.run_safety.specs.Group.{member, In, kept}
+use Rattle.run_safety.specs.Past.{History, records_of, inc_now}
+use Rattle.run_safety.specs.Sight.{inc_in}
 use Rattle.run_safety.specs.SafeLists.{Each}
 use Rattle.run_safety.proofs.Tests.{has_any}
 use Rattle.run_safety.proofs.Lives.{whole}
 use Rattle.step_refinement.specs.Tied.{Scene, NodeIs, NodeIsIf}
-use Rattle.step_refinement.specs.Rules.{at_node, over, ended, starts_too, with_records, nothing_yet, all_started, Arises}
+use Rattle.step_refinement.specs.Rules.{at_node, over, ended, with_records, all_started, Arises}
 use Rattle.step_refinement.specs.Runs.{IsNote, Reached, Nothing, AllStart, Starts, Stops, Steps, Notes}
-use Rattle.step_refinement.proofs.Changed.{set_here, set_there, each_set}
+use Rattle.step_refinement.proofs.Changed.{set_here, each_set}
 use Rattle.step_refinement.proofs.RunLaw.{reached_rests}
 use Rattle.run_induction.proofs.Idle.{reverse_has}
 use Rattle.run_induction.proofs.Ran.{Opened, opened_inc, all_start_holds}
 use Rattle.row_laws.proofs.hearing.Listening.{steps_change}
 use Rattle.row_laws.proofs.hearing.Incarnations.{incs_of}
-use Rattle.run_laws.proofs.seen_runs.LineRules.{bare, Entered, last_in, LinesSeen}
+use Rattle.run_laws.proofs.seen_runs.LineRules.{bare, last_in, LinesSeen}
 use Rattle.run_laws.proofs.seen_runs.LineLaws.{lines_seen}
-use Rattle.run_laws.proofs.seen_runs.LastViews.{entered_by, at_last}
+use Rattle.run_laws.proofs.seen_runs.LastViews.{at_last}
 use Rattle.run_laws.proofs.seen_runs.Froms.{in_kept}
 use Rattle.run_laws.proofs.seen_runs.Shown.{AllShow}
 use Rattle.run_laws.proofs.seen_runs.Steps.{Mine, step_mine}

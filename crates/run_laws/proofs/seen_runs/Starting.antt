@@ -1,7 +1,7 @@
 -- A node that starts, alone or with others in one event.
-use Rattle.std.proofs.Common.{refl, ◌≡◌, ℕ, ◌+◌, ◌<◌, ◌≤◌, ◌⊎◌, ⊎_elim, inl, inr, sym, ◌∙◌, ap, subst, true, false, Bool, List, [], ◌∷◌, ◌++◌, Option, Some, None, arith, append_assoc}
-use Rattle.std.specs.Prelude.{◌==◌, ◌&&◌, ◌≢◌, reverse, map, IsTrue, if◌then◌else◌}
-use Rattle.std.proofs.lemmas.List.{append-nil, reverse-append}
+use Rattle.std.proofs.Common.{refl, ◌≡◌, ℕ, ◌<◌, ◌⊎◌, ⊎_elim, inl, inr, sym, ◌∙◌, ap, subst, true, List, [], ◌∷◌, ◌++◌, None, arith, append_assoc}
+use Rattle.std.specs.Prelude.{reverse, map, IsTrue}
+use Rattle.std.proofs.lemmas.List.{reverse-append}
 use Rattle.std.proofs.lemmas.Bool.Decides.{nat_tests}
 use Rattle.rsct_packet.specs.declared.ids.Member.{Member}
 use Rattle.rsct_packet.specs.declared.ids.ViewId.{ViewId}
@@ -12,7 +12,6 @@ use Rattle.adapter_ring.specs.declared.ring.Ring.{Ring}
 use Rattle.node_state.specs.declared.config.Config.{Config}
 use Rattle.node_state.specs.declared.happened.Happened.{Happened}
 use Rattle.node_state.specs.declared.happened.Happened.TheVariants as happened
-use Rattle.node_state.specs.declared.state.Core.{Core}
 use Rattle.node_state.specs.State.{with_sessions}
 use Rattle.node_state.specs.Step.{started, ring_record, own_rings, first_view, first_members}
 use Rattle.run_safety.specs.Past.{History, records_of, Within, view_now, inc_now}

@@ -16,5 +16,5 @@ pub returns-clause-does : goal.returns-clause-does
 returns-clause-does g c =
     on_ok_weaker c.close.result
     (vote_does _ _ c.args.core.now c.cast_vote.new.core c.close.new.core c.args.ballot.now.group.now c.args.ballot.now.proto c.args.ballot.now.phase c.args.ballot.now.provider c.args.ballot.now.filled.now.vote _ _ (sym (rw c.bytes.ensures.value at c.if-not-takes_votes.ensures))
-    (rw c.in_ok-copy.ensures at c.in_ok-cast_vote.ensures.rule))
+    (rw c.in_ok-filled.ensures at c.in_ok-cast_vote.ensures.rule))
     c.close.ensures.does
