@@ -45,6 +45,12 @@ trace_same w v e rs h s = ap (λ (z : World). z.trace) (same_goes w v e h) ∙ (
 abbrev answered : Event → Answering → Answered
 answered e a = record { event = e; answers = a }
 
+-- an event did not happen, for want of memory or since what was left could not be written
+event_broken : {C : Type 0} (said : Items → Option Items) (k : Kinds) (a b : Option (List ℕ)) (s : Stage C) (p : AnsweredPlay) (v : World) (e : Event) → GrowsByFront a b s.text.items → (q : AnsweredPlay) × PlaysEvent said p e q × Broke k a b s p q v
+event_broken said k a b s p v e w =
+    let q = event_goes said p e in
+    (q.0, q.1, broke_at k a b s p q.0 v (event_adds p e q.0 q.1).events (event_adds p e q.0 q.1).grew w)
+
 module _ {C : Type 0} {script : C → Option Items} {said : Items → Option Items} where
   holds_same : (s : Stage C) (p : AnsweredPlay) (v u : World) → At script said s p v → SameRun p.world u → Holds script said s.world u
   holds_same s p v u h same = subst (Holds script said s.world) (sym same) (record { nodes = h.stands.nodes; pairs = h.stands.packets.0 })
@@ -53,22 +59,17 @@ module _ {C : Type 0} {script : C → Option Items} {said : Items → Option Ite
   pub event_played : {P : World → World → Type 0} (s : Stage C) (p : AnsweredPlay) (v : World) (e : Event) → At script said s p v → (g : Comes script said s.world P (λ f w. happens_by f w e) (λ w. happens w e)) → PlaysEvent said p e (with_answers p e g.answers)
   event_played s p v e h g = record { answers = g.answers; made = refl; worded = λ all u same. g.worded all u (holds_same s p v u h same) }
 
-  event_broken : (k : Kinds) (a b : Option (List ℕ)) (s : Stage C) (p : AnsweredPlay) (v : World) (e : Event) → GrowsByFront a b s.text.items → (q : AnsweredPlay) × PlaysEvent said p e q × Broke k a b s p q v
-  event_broken k a b s p v e w =
-      let q = event_goes said p e in
-      (q.0, q.1, broke_at k a b s p q.0 v (event_adds p e q.0 q.1).events (event_adds p e q.0 q.1).grew w)
-
   -- an event did not happen
   pub event_stops : (r : PlayFault) (f : WorldFault) (k : Kinds) (a b : Option (List ℕ)) (s : Stage C) (p : AnsweredPlay) (v : World) (e : Event) → At script said s p v
       → ((n : ℕ) → f ≡ world_fault.TooMuchKept n → Comes script said s.world (Passes n s.world) (λ f w. happens_by f w e) (λ w. happens w e))
       → EndsBy r f a b s.text.items → (q : AnsweredPlay) × PlaysEvent said p e q × Stopped r k a b s p q v
   unfolding kinds_text
-  event_stops play_fault.NoMemory f k a b s p v e h g w = event_broken k a b s p v e w
-  event_stops play_fault.WriteFault f k a b s p v e h g w = event_broken k a b s p v e w
+  event_stops play_fault.NoMemory f k a b s p v e h g w = event_broken said k a b s p v e w
+  event_stops play_fault.WriteFault f k a b s p v e h g w = event_broken said k a b s p v e w
   event_stops (play_fault.Kept n) f k a b s p v e h g w =
       let comes : Comes script said s.world (Passes n s.world) (λ f w. happens_by f w e) (λ w. happens w e) = g n w.0 in
       let x : Answered = answered e comes.answers in
-      let b : Passes n s.world p.world (goes_on p.world x) = comes.comes p.world h.stands in (
+      let past : Passes n s.world p.world (goes_on p.world x) = comes.comes p.world h.stands in (
         with_answers p e comes.answers,
         event_played s p v e h comes,
         record {
@@ -76,7 +77,7 @@ module _ {C : Type 0} {script : C → Option Items} {said : Items → Option Ite
           records = [];
           world = v;
           happens = refl;
-          ends = one_ends s.world.limit s.world.kept n v x b.sent (sent_same p.world v x b.sent h.same b.sends) b.passed;
+          ends = one_ends s.world.limit s.world.kept n v x past.sent (sent_same p.world v x past.sent h.same past.sends) past.passed;
           recorded = refl;
           written = subst (Appends a b) (sym (append-nil s.text.items)) w.1;
         },
