@@ -18,7 +18,7 @@ use transcript::Kinds;
 /// How many bytes the packets of one run may have, and those of one load.
 pub const MOST_KEPT: u64 = 536_870_912;
 
-/// Reads a script to its end, plays it, and writes its records of these kinds as they come.
+/// Reads a script to its end, plays it, and writes its records of these kinds, in blocks.
 #[tactic(auto, using(crate::proofs::RunLaws::plays_all, crate::proofs::RunLaws::plays_past, crate::proofs::RunLaws::plays_front, crate::proofs::RunLaws::has_bad_line, crate::proofs::RunLaws::may_have_played, crate::proofs::RunLaws::nothing_played, crate::proofs::RunLaws::at_end))]
 pub fn run<S: Source, K: Sink>(alloc: Global, kinds: Kinds, input: &mut S, out: &mut K) -> Ending
     ensures done { result ≡ Ending.Done → IfSome (S.left input.old)

@@ -98,7 +98,7 @@ module _ {C : Type 0} {script : C → Option Items} {said : Items → Option Ite
       record {
         play = to;
         made = takes_lost said p y ys _ _ lost;
-        outcome = went_still k a s t p to v (moved_still s t p to v refl (ap (λ (z : Stage C). z.world.limit) left) (ap (λ (z : Stage C). z.world.kept) left) (ap (λ (z : Stage C). z.world.nodes) left) (ap (λ (z : Stage C). z.counts) left) (lost_stands s t p v y ys h q left));
+        outcome = went_still k a s t p to v (ap (λ (z : Stage C). z.text.items) left) (moved_still s t p to v refl (ap (λ (z : Stage C). z.world.limit) left) (ap (λ (z : Stage C). z.world.kept) left) (ap (λ (z : Stage C). z.world.nodes) left) (ap (λ (z : Stage C). z.counts) left) (lost_stands s t p v y ys h q left));
       }
 
   -- ---- again and again

@@ -55,9 +55,9 @@ module _ {C : Type 0} {script : C → Option Items} {said : Items → Option Ite
       → (p : AnsweredPlay) → (v : World) → At script said s p v → Went script said R k o o s t p (in_that_world p (drops p.world a b)) v
   dropped k o s t a b same p v h =
       let q : AnsweredPlay = in_that_world p (drops p.world a b) in
-      went_still k o s t p q v (moved_still s t p q v refl (ap (λ (z : Stage C). z.world.limit) same) (ap (λ (z : Stage C). z.world.kept) same) (ap (λ (z : Stage C). z.world.nodes) same) (ap (λ (z : Stage C). z.counts) same) (dropped_at s t p v a b h same))
+      went_still k o s t p q v (ap (λ (z : Stage C). z.text.items) same) (moved_still s t p q v refl (ap (λ (z : Stage C). z.world.limit) same) (ap (λ (z : Stage C). z.world.kept) same) (ap (λ (z : Stage C). z.world.nodes) same) (ap (λ (z : Stage C). z.counts) same) (dropped_at s t p v a b h same))
 
   pub recut : (k : Kinds) (o : Option (List ℕ)) (s t : Stage C) (cuts : List Cut) → t ≡ record s { cuts = cuts } → (p : AnsweredPlay) → (v : World) → At script said s p v → Went script said R k o o s t p (record p { cuts = cuts }) v
   recut k o s t cuts same p v h =
       let q : AnsweredPlay = record p { cuts = cuts } in
-      went_still k o s t p q v (moved_still s t p q v refl (ap (λ (z : Stage C). z.world.limit) same) (ap (λ (z : Stage C). z.world.kept) same) (ap (λ (z : Stage C). z.world.nodes) same) (ap (λ (z : Stage C). z.counts) same) (cut_at s t p v cuts h same))
+      went_still k o s t p q v (ap (λ (z : Stage C). z.text.items) same) (moved_still s t p q v refl (ap (λ (z : Stage C). z.world.limit) same) (ap (λ (z : Stage C). z.world.kept) same) (ap (λ (z : Stage C). z.world.nodes) same) (ap (λ (z : Stage C). z.counts) same) (cut_at s t p v cuts h same))

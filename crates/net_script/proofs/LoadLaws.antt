@@ -34,6 +34,7 @@ use Rattle.net_script.specs.Hands.{LogsStand, empty_logs}
 use Rattle.net_script.specs.declared.stage.Stage.{Stage}
 use Rattle.play_state.specs.declared.play_fault.PlayFault.{PlayFault}
 use Rattle.play_state.specs.declared.play_fault.PlayFault.TheVariants as play_fault
+use Rattle.net_script.specs.Writing.{Writes}
 use Rattle.net_script.specs.Stage.{At, Went, LeadsTo}
 use Rattle.net_script.specs.Ends.{records_in, PlayedAs}
 use Rattle.net_script.proofs.TextLaws.{none_written}
@@ -138,12 +139,21 @@ none_first : {C : Type 0} {script : C → Option Items} {said : Items → Option
 none_first limit s rs o = reversed_nothing rs (sym new_is_still ∙ o.trace)
 
 -- nothing was written
-still_written : (a b : Option (List ℕ)) (rs : List Happened) → Appends a b (kinds_text no_kinds rs) → Appends a b []
-still_written a b rs h = subst (Appends a b) (no_lines rs) h
 
 empty_front : (front back : List ℕ) → front ++ back ≡ [] → front ≡ []
 empty_front [] back e = refl
 empty_front (x ∷ xs) back e = absurd cc
+
+empty_back : (front back : List ℕ) → front ++ back ≡ [] → back ≡ []
+empty_back [] back e = e
+empty_back (x ∷ xs) back e = absurd cc
+
+-- nothing is left
+nothing_left : (a b : Option (List ℕ)) (left rest : List ℕ) (rs : List Happened) → left ≡ [] → Writes a left b rest (kinds_text no_kinds rs) → Appends b b rest
+nothing_left a b left rest rs e w = none_written b rest (empty_back w.front rest (w.whole ∙ (ap (λ t. t ++ kinds_text no_kinds rs) e ∙ no_lines rs)))
+
+nothing_begun : (a : Option (List ℕ)) (left : List ℕ) (rs : List Happened) → left ≡ [] → Writes a [] a left (kinds_text no_kinds rs)
+nothing_begun a left rs e = record { front = []; whole = e ∙ sym (no_lines rs); grows = Appends-nil a }
 
 still_front : (a b : Option (List ℕ)) (rs : List Happened) → GrowsByFront a b (kinds_text no_kinds rs) → Appends a b []
 still_front a b rs g = subst (Appends a b) (empty_front g.front g.back (g.whole ∙ no_lines rs)) g.grows
@@ -173,27 +183,34 @@ module _ {C : Type 0} {script : C → Option Items} {said : Items → Option Ite
       let records : script_records (load_script n) ≡ w.records = records_same said all (load_script n) l.play refl l.made ∙ (ap (λ zs. reverse_onto zs []) trace ∙ reversed_back w.records []) in
       w.moved.counts ∙ (ap (λ (c : Counts). counted c w.records) none ∙ ap (counted no_counts) (sym records))
 
-  pub load_done : {U : Type 0} {u : U} (all : AllWorded said) (a b : Option (List ℕ)) (limit : ℕ) (s t : Stage C) (n : ℕ) (rs : List Happened) → Opened script said limit s (settings_of mode.Asked eight) rs → LogsStand R s.world.nodes (empty_logs (world_new (settings_of mode.Asked eight))) → s.counts ≡ no_counts
+  load_rest : {U : Type 0} {u : U} (a b : Option (List ℕ)) (limit : ℕ) (s t : Stage C) (n : ℕ) (rs : List Happened) → Opened script said limit s (settings_of mode.Asked eight) rs → s.text.items ≡ []
+      → ((p : AnsweredPlay) → (v : World) → At script said s p v → LeadsTo script said R (Ok u) no_kinds a b s t p (PlaysLines said p (load_lines n)) v) → Appends b b t.text.items
+  load_rest a b limit s t n rs o text next =
+      let l = next (starting (settings_of mode.Asked eight)) (world_new (settings_of mode.Asked eight)) o.at in
+      let w : Went script said R no_kinds a b s t (starting (settings_of mode.Asked eight)) l.play (world_new (settings_of mode.Asked eight)) = l.outcome in
+      nothing_left a b s.text.items t.text.items w.records text w.written
+
+  pub load_done : {U : Type 0} {u : U} (all : AllWorded said) (a b : Option (List ℕ)) (limit : ℕ) (s t : Stage C) (n : ℕ) (rs : List Happened) → Opened script said limit s (settings_of mode.Asked eight) rs → s.text.items ≡ [] → LogsStand R s.world.nodes (empty_logs (world_new (settings_of mode.Asked eight))) → s.counts ≡ no_counts
       → ((p : AnsweredPlay) → (v : World) → At script said s p v → LeadsTo script said R (Ok u) no_kinds a b s t p (PlaysLines said p (load_lines n)) v)
       → (kept_past limit (load_script n) ≡ None) × (t.counts ≡ counted no_counts (script_records (load_script n)))
-  load_done {U} {u} all a b limit s t n rs o empty none next =
-      let p : PlayedAs script said R (Ok t.world) no_kinds limit (load_script n) a b = played_done no_kinds a a b limit s t (load_script n) rs o empty (none_written a (kinds_text no_kinds rs) (no_lines rs)) next in
+  load_done {U} {u} all a b limit s t n rs o text empty none next =
+      let p : PlayedAs script said R (Ok t.world) no_kinds limit (load_script n) a b = played_done no_kinds a a b b limit s t (load_script n) rs o empty (nothing_begun a s.text.items rs text) next (load_rest a b limit s t n rs o text next) in
       let d = says_done all t.world no_kinds limit (load_script n) a b refl p in
       (d.0, counted_all all a b limit s t n rs o none (next (starting (settings_of mode.Asked eight)) (world_new (settings_of mode.Asked eight)) o.at))
 
-  pub load_stopped : {U : Type 0} (e : PlayFault) (a b : Option (List ℕ)) (limit : ℕ) (s t : Stage C) (n : ℕ) (rs : List Happened) → Opened script said limit s (settings_of mode.Asked eight) rs
+  pub load_stopped : {U : Type 0} (e : PlayFault) (a b : Option (List ℕ)) (limit : ℕ) (s t : Stage C) (n : ℕ) (rs : List Happened) → Opened script said limit s (settings_of mode.Asked eight) rs → s.text.items ≡ []
       → ((p : AnsweredPlay) → (v : World) → At script said s p v → LeadsTo {U = U} script said R (Err e) no_kinds a b s t p (PlaysLines said p (load_lines n)) v) → PlayedAs script said R (Err e) no_kinds limit (load_script n) a b
-  load_stopped e a b limit s t n rs o next = played_stopped e no_kinds a a b limit s t (load_script n) rs o (none_written a (kinds_text no_kinds rs) (no_lines rs)) next
+  load_stopped e a b limit s t n rs o text next = played_stopped e no_kinds a a b limit s t (load_script n) rs o (nothing_begun a s.text.items rs text) next
 
-  pub load_still : {U : Type 0} (r : Result U PlayFault) (all : AllWorded said) (a b : Option (List ℕ)) (limit : ℕ) (s t : Stage C) (n : ℕ) (rs : List Happened) → Opened script said limit s (settings_of mode.Asked eight) rs → LogsStand R s.world.nodes (empty_logs (world_new (settings_of mode.Asked eight)))
+  pub load_still : {U : Type 0} (r : Result U PlayFault) (all : AllWorded said) (a b : Option (List ℕ)) (limit : ℕ) (s t : Stage C) (n : ℕ) (rs : List Happened) → Opened script said limit s (settings_of mode.Asked eight) rs → s.text.items ≡ [] → LogsStand R s.world.nodes (empty_logs (world_new (settings_of mode.Asked eight)))
       → ((p : AnsweredPlay) → (v : World) → At script said s p v → LeadsTo script said R r no_kinds a b s t p (PlaysLines said p (load_lines n)) v) → Appends a b []
-  load_still (Ok u) all a b limit s t n rs o empty next =
-      still_front a b _ (says_front all _ no_kinds limit (load_script n) a b refl (played_done no_kinds a a b limit s t (load_script n) rs o empty (none_written a (kinds_text no_kinds rs) (no_lines rs)) next))
-  load_still (Err e) all a b limit s t n rs o empty next = still_front a b _ (says_front all _ no_kinds limit (load_script n) a b refl (load_stopped e a b limit s t n rs o next))
+  load_still (Ok u) all a b limit s t n rs o text empty next =
+      still_front a b _ (says_front all _ no_kinds limit (load_script n) a b refl (played_done no_kinds a a b b limit s t (load_script n) rs o empty (nothing_begun a s.text.items rs text) next (load_rest a b limit s t n rs o text next)))
+  load_still (Err e) all a b limit s t n rs o text empty next = still_front a b _ (says_front all _ no_kinds limit (load_script n) a b refl (load_stopped e a b limit s t n rs o text next))
 
-  pub load_past : {U : Type 0} (all : AllWorded said) (e : PlayFault) (k : ℕ) (a b : Option (List ℕ)) (limit : ℕ) (s t : Stage C) (n : ℕ) (rs : List Happened) → e ≡ play_fault.Kept k → Opened script said limit s (settings_of mode.Asked eight) rs
+  pub load_past : {U : Type 0} (all : AllWorded said) (e : PlayFault) (k : ℕ) (a b : Option (List ℕ)) (limit : ℕ) (s t : Stage C) (n : ℕ) (rs : List Happened) → e ≡ play_fault.Kept k → Opened script said limit s (settings_of mode.Asked eight) rs → s.text.items ≡ []
       → ((p : AnsweredPlay) → (v : World) → At script said s p v → LeadsTo {U = U} script said R (Err e) no_kinds a b s t p (PlaysLines said p (load_lines n)) v) → kept_past limit (load_script n) ≡ Some k
-  load_past all e k a b limit s t n rs is o next = (says_kept all e k no_kinds limit (load_script n) a b is refl (load_stopped e a b limit s t n rs o next)).0
+  load_past all e k a b limit s t n rs is o text next = (says_kept all e k no_kinds limit (load_script n) a b is refl (load_stopped e a b limit s t n rs o text next)).0
 
 -- ---- its summary
 

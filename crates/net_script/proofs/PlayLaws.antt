@@ -2,9 +2,7 @@
 use Rattle.std.proofs.Common.{◌≡◌, ℕ, List, [], ◌++◌, Option, Some, None, Result, Ok, Err, refl, sym, ◌∙◌, ap, subst, append-nil}
 use Rattle.std.specs.Result.{IsErr, IsErrAnd}
 use Rattle.std.specs.Io.KnownBytes.{Appends}
-use Rattle.std.proofs.KnownBytes.{Appends-nil, Appends-trans}
 use Rattle.hags_io.specs.Edges.{GrowsByFront}
-use Rattle.hags_io.proofs.ByteLaws.{front_on}
 use Rattle.rsct_packet.specs.Lists.{reverse_onto}
 use Rattle.client_callbacks.specs.Handed.{Handed}
 use Rattle.node_state.specs.declared.happened.Happened.{Happened}
@@ -38,7 +36,8 @@ use Rattle.net_script.specs.Stage.{At, Went, Passed, Broke, Stopped, LeadsTo}
 use Rattle.net_script.specs.Ends.{records_in, records_within, StopsAs, EndsAs, ClientsStand, PlayedAs}
 use Rattle.net_script.proofs.SafePlays.{answered_play_is_safe, answered_front_is_safe}
 use Rattle.net_script.proofs.FoldLaws.{answered_play_folds}
-use Rattle.net_script.proofs.TextLaws.{kinds_append, none_front}
+use Rattle.net_script.specs.Writing.{Writes}
+use Rattle.net_script.proofs.TextLaws.{kinds_append, none_front, writes_none, writes_all, writes_front}
 
 -- ---- the beginning
 
@@ -57,13 +56,21 @@ all_so_far : (first rest : List Happened) (start : World) (trace : List Happened
 all_so_far first rest start trace e f =
     ap (λ zs. reverse_onto zs []) (f ∙ (ap (reverse_onto rest) e ∙ reversed first rest [])) ∙ reversed_back (first ++ rest) []
 
-text_on : (kinds : Kinds) (a b c : Option (List ℕ)) (first rest all : List Happened) → all ≡ first ++ rest → Appends a b (kinds_text kinds first) → Appends b c (kinds_text kinds rest) → Appends a c (kinds_text kinds all)
-text_on kinds a b c first rest all e p q = subst (Appends a c) (sym (ap (kinds_text kinds) e ∙ kinds_append kinds first rest)) (Appends-trans a b c _ _ p q)
+text_on : (kinds : Kinds) (a b c : Option (List ℕ)) (left : List ℕ) (first rest all : List Happened) → all ≡ first ++ rest → Writes a [] b left (kinds_text kinds first) → Appends b c (left ++ kinds_text kinds rest) → Appends a c (kinds_text kinds all)
+text_on kinds a b c left first rest all e p q = subst (Appends a c) (sym (ap (kinds_text kinds) e ∙ kinds_append kinds first rest)) (writes_all a b c [] left (kinds_text kinds first) (kinds_text kinds rest) p q)
 
-front_of : (kinds : Kinds) (a b c : Option (List ℕ)) (first rest more all : List Happened) → all ≡ first ++ (rest ++ more) → Appends a b (kinds_text kinds first) → GrowsByFront b c (kinds_text kinds rest) → GrowsByFront a c (kinds_text kinds all)
-front_of kinds a b c first rest more all e p q =
-    front_on a b c (kinds_text kinds first) (kinds_text kinds rest) (kinds_text kinds more) (kinds_text kinds all)
-    (ap (λ t. kinds_text kinds first ++ t) (sym (kinds_append kinds rest more)) ∙ (sym (kinds_append kinds first (rest ++ more)) ∙ ap (kinds_text kinds) (sym e))) p q
+front_of : (kinds : Kinds) (a b c : Option (List ℕ)) (left : List ℕ) (first rest more all : List Happened) → all ≡ first ++ (rest ++ more) → Writes a [] b left (kinds_text kinds first) → GrowsByFront b c (left ++ kinds_text kinds rest) → GrowsByFront a c (kinds_text kinds all)
+front_of kinds a b c left first rest more all e p q =
+    subst (GrowsByFront a c)
+    (ap (λ t. kinds_text kinds first ++ t) (sym (kinds_append kinds rest more)) ∙ (sym (kinds_append kinds first (rest ++ more)) ∙ ap (kinds_text kinds) (sym e)))
+    (writes_front a b c [] left (kinds_text kinds first) (kinds_text kinds rest) (kinds_text kinds more) p q)
+
+-- what is left at the end is put, or a front of it
+ends_whole : (a b c : Option (List ℕ)) (left rest text : List ℕ) → Writes a left b rest text → Appends b c rest → Appends a c (left ++ text)
+ends_whole a b c left rest text p q = subst (λ t. Appends a c (left ++ t)) (append-nil text) (writes_all a b c left rest text [] p (subst (Appends b c) (sym (append-nil rest)) q))
+
+ends_front : (a b c : Option (List ℕ)) (left rest text : List ℕ) → Writes a left b rest text → GrowsByFront b c rest → GrowsByFront a c (left ++ text)
+ends_front a b c left rest text p q = subst (λ t. GrowsByFront a c (left ++ t)) (append-nil text) (writes_front a b c left rest text [] [] p (subst (GrowsByFront b c) (sym (append-nil rest)) q))
 
 -- ---- the run of the whole play
 
@@ -95,7 +102,7 @@ first_front said kinds a b limit c ls first trace g =
     let adds = lines_add (starting c) ls p.0 p.1 in
     let more = whole_tells limit c p.0 adds.events [] adds.grew (tells_none limit 0 (world_new c) adds.events) in
     let all : records_within limit c p.0 ≡ [] ++ (first ++ more.0) = all_so_far first more.0 (world_new c) (limited limit c p.0).world.trace trace more.1 in
-    (p.0, p.1, front_of kinds a a b [] first more.0 (records_within limit c p.0) all (Appends-nil a) g)
+    (p.0, p.1, front_of kinds a a b [] [] first more.0 (records_within limit c p.0) all (writes_none a []) g)
 
 module _ {C : Type 0} {script : C → Option Items} {said : Items → Option Items} where
   -- what the starts have recorded
@@ -114,23 +121,23 @@ module _ {C : Type 0} {script : C → Option Items} {said : Items → Option Ite
 
   -- ---- it ended early
 
-  play_passed : (n : ℕ) (kinds : Kinds) (a b c : Option (List ℕ)) (limit : ℕ) (s : Stage C) (f : Config) (p : AnsweredPlay) (first : List Happened) → Opened script said limit s f first → Appends a b (kinds_text kinds first)
+  play_passed : (n : ℕ) (kinds : Kinds) (a b c : Option (List ℕ)) (limit : ℕ) (s : Stage C) (f : Config) (p : AnsweredPlay) (first : List Happened) → Opened script said limit s f first → Writes a [] b s.text.items (kinds_text kinds first)
       → Passed n kinds b c s (starting f) p (world_new f) → StopsAs (play_fault.Kept n) kinds limit f p a c
   play_passed n kinds a b c limit s f p first o begun w =
       let ends : AnsweredEnds limit 0 (world_new f) w.events n w.world = subst (λ k. AnsweredEnds limit k (world_new f) w.events n w.world) o.kept (subst (λ l. AnsweredEnds l s.world.kept (world_new f) w.events n w.world) o.limited w.ends) in
       let whole : limited limit f p ≡ record { world = w.world; passed = Some n } = whole_ends limit n f p w.events w.world w.happens ends in
       let trace : (limited limit f p).world.trace ≡ reverse_onto w.records (world_new f).trace = ap (λ (z : Ended). z.world.trace) whole ∙ w.recorded in
-      (ap (λ (z : Ended). z.passed) whole, text_on kinds a b c first w.records (records_within limit f p) (all_so_far first w.records (world_new f) (limited limit f p).world.trace o.trace trace) begun w.written)
+      (ap (λ (z : Ended). z.passed) whole, text_on kinds a b c s.text.items first w.records (records_within limit f p) (all_so_far first w.records (world_new f) (limited limit f p).world.trace o.trace trace) begun w.written)
 
-  broke_front : (kinds : Kinds) (a b c : Option (List ℕ)) (limit : ℕ) (s : Stage C) (f : Config) (p : AnsweredPlay) (first : List Happened) → Opened script said limit s f first → Appends a b (kinds_text kinds first)
+  broke_front : (kinds : Kinds) (a b c : Option (List ℕ)) (limit : ℕ) (s : Stage C) (f : Config) (p : AnsweredPlay) (first : List Happened) → Opened script said limit s f first → Writes a [] b s.text.items (kinds_text kinds first)
       → Broke kinds b c s (starting f) p (world_new f) → GrowsByFront a c (kinds_text kinds (records_within limit f p))
   broke_front kinds a b c limit s f p first o begun w =
       let tells : AnsweredTells limit 0 (world_new f) w.events w.records = subst (λ k. AnsweredTells limit k (world_new f) w.events w.records) o.kept (subst (λ l. AnsweredTells l s.world.kept (world_new f) w.events w.records) o.limited w.tells) in
       let more = whole_tells limit f p w.events w.records w.happens tells in
       let all : records_within limit f p ≡ first ++ (w.records ++ more.0) = all_so_far first (w.records ++ more.0) (world_new f) (limited limit f p).world.trace o.trace more.1 in
-      front_of kinds a b c first w.records more.0 (records_within limit f p) all begun w.front
+      front_of kinds a b c s.text.items first w.records more.0 (records_within limit f p) all begun w.front
 
-  play_stopped : (e : PlayFault) (kinds : Kinds) (a b c : Option (List ℕ)) (limit : ℕ) (s : Stage C) (f : Config) (p : AnsweredPlay) (first : List Happened) → Opened script said limit s f first → Appends a b (kinds_text kinds first)
+  play_stopped : (e : PlayFault) (kinds : Kinds) (a b c : Option (List ℕ)) (limit : ℕ) (s : Stage C) (f : Config) (p : AnsweredPlay) (first : List Happened) → Opened script said limit s f first → Writes a [] b s.text.items (kinds_text kinds first)
       → Stopped e kinds b c s (starting f) p (world_new f) → StopsAs e kinds limit f p a c
   play_stopped (play_fault.Kept n) kinds a b c limit s f p first o begun w = play_passed n kinds a b c limit s f p first o begun w
   play_stopped play_fault.WriteFault kinds a b c limit s f p first o begun w = broke_front kinds a b c limit s f p first o begun w
@@ -139,16 +146,39 @@ module _ {C : Type 0} {script : C → Option Items} {said : Items → Option Ite
 module _ {C : Type 0} {script : C → Option Items} {said : Items → Option Items} {R : C → List Handed → Type 0} where
   -- ---- all was played
 
-  play_done : (kinds : Kinds) (a b c : Option (List ℕ)) (limit : ℕ) (s t : Stage C) (f : Config) (p : AnsweredPlay) (first : List Happened) → Opened script said limit s f first → Appends a b (kinds_text kinds first)
-      → Went script said R kinds b c s t (starting f) p (world_new f) → EndsAs script said (Ok t.world) kinds limit f p a c
-  play_done kinds a b c limit s t f p first o begun w =
+  -- its run is within the limit
+  play_within : (kinds : Kinds) (b c : Option (List ℕ)) (limit : ℕ) (s t : Stage C) (f : Config) (p : AnsweredPlay) (first : List Happened) → Opened script said limit s f first
+      → (w : Went script said R kinds b c s t (starting f) p (world_new f)) → limited limit f p ≡ record { world = w.world; passed = None }
+  play_within kinds b c limit s t f p first o w =
       let runs : AnsweredRuns limit 0 (world_new f) w.events t.world.kept w.world = subst (λ k. AnsweredRuns limit k (world_new f) w.events t.world.kept w.world) o.kept (subst (λ l. AnsweredRuns l s.world.kept (world_new f) w.events t.world.kept w.world) o.limited w.moved.runs) in
-      let trace : p.world.trace ≡ reverse_onto w.records (world_new f).trace = sym (ap (λ (z : World). z.trace) w.moved.at.same) ∙ w.moved.recorded in (
-        ap (λ (z : Ended). z.passed) (whole_runs limit t.world.kept f p w.events w.world w.moved.happens runs),
-        ap (λ (z : Ended). reverse_onto z.world.trace []) (whole_runs limit t.world.kept f p w.events w.world w.moved.happens runs) ∙ ap (λ (z : World). reverse_onto z.trace []) w.moved.at.same,
-        text_on kinds a b c first w.records (records_in p) (all_so_far first w.records (world_new f) p.world.trace o.trace trace) begun w.written,
-        w.moved.at.stands,
-      )
+      whole_runs limit t.world.kept f p w.events w.world w.moved.happens runs
+
+  -- the records of its run
+  play_records : (kinds : Kinds) (b c : Option (List ℕ)) (limit : ℕ) (s t : Stage C) (f : Config) (p : AnsweredPlay) (first : List Happened) → Opened script said limit s f first
+      → (w : Went script said R kinds b c s t (starting f) p (world_new f)) → records_in p ≡ first ++ w.records
+  play_records kinds b c limit s t f p first o w =
+      let trace : p.world.trace ≡ reverse_onto w.records (world_new f).trace = sym (ap (λ (z : World). z.trace) w.moved.at.same) ∙ w.moved.recorded in
+      all_so_far first w.records (world_new f) p.world.trace o.trace trace
+
+  records_whole : (kinds : Kinds) (b c : Option (List ℕ)) (limit : ℕ) (s t : Stage C) (f : Config) (p : AnsweredPlay) (first : List Happened) → Opened script said limit s f first
+      → Went script said R kinds b c s t (starting f) p (world_new f) → records_within limit f p ≡ records_in p
+  records_whole kinds b c limit s t f p first o w = ap (λ (z : Ended). reverse_onto z.world.trace []) (play_within kinds b c limit s t f p first o w) ∙ ap (λ (z : World). reverse_onto z.trace []) w.moved.at.same
+
+  play_done : (kinds : Kinds) (a b c d : Option (List ℕ)) (limit : ℕ) (s t : Stage C) (f : Config) (p : AnsweredPlay) (first : List Happened) → Opened script said limit s f first → Writes a [] b s.text.items (kinds_text kinds first)
+      → Went script said R kinds b c s t (starting f) p (world_new f) → Appends c d t.text.items → EndsAs script said (Ok t.world) kinds limit f p a d
+  play_done kinds a b c d limit s t f p first o begun w put = (
+    ap (λ (z : Ended). z.passed) (play_within kinds b c limit s t f p first o w),
+    records_whole kinds b c limit s t f p first o w,
+    text_on kinds a b d s.text.items first w.records (records_in p) (play_records kinds b c limit s t f p first o w) begun (ends_whole b c d s.text.items t.text.items (kinds_text kinds w.records) w.written put),
+    w.moved.at.stands,
+  )
+
+  -- it could not be written to its end
+  play_cut : (kinds : Kinds) (a b c d : Option (List ℕ)) (limit : ℕ) (s t : Stage C) (f : Config) (p : AnsweredPlay) (first : List Happened) → Opened script said limit s f first → Writes a [] b s.text.items (kinds_text kinds first)
+      → Went script said R kinds b c s t (starting f) p (world_new f) → GrowsByFront c d t.text.items → GrowsByFront a d (kinds_text kinds (records_within limit f p))
+  play_cut kinds a b c d limit s t f p first o begun w put =
+      let all : records_within limit f p ≡ first ++ (w.records ++ []) = records_whole kinds b c limit s t f p first o w ∙ (play_records kinds b c limit s t f p first o w ∙ ap (λ rs. first ++ rs) (sym (append-nil w.records))) in
+      front_of kinds a b d s.text.items first w.records [] (records_within limit f p) all begun (ends_front b c d s.text.items t.text.items (kinds_text kinds w.records) w.written put)
 
   clients_stand : (kinds : Kinds) (b c : Option (List ℕ)) (s t : Stage C) (f : Config) (p : AnsweredPlay) → LogsStand R s.world.nodes (empty_logs (world_new f)) → Went script said R kinds b c s t (starting f) p (world_new f) → ClientsStand R (Ok t.world) f p
   clients_stand kinds b c s t f p empty w =
@@ -157,13 +187,13 @@ module _ {C : Type 0} {script : C → Option Items} {said : Items → Option Ite
 
   -- ---- as the play of the lines ended
 
-  pub played_done : {U : Type 0} {u : U} (kinds : Kinds) (a b c : Option (List ℕ)) (limit : ℕ) (s t : Stage C) (x : Script) (first : List Happened) → Opened script said limit s x.config first → LogsStand R s.world.nodes (empty_logs (world_new x.config)) → Appends a b (kinds_text kinds first)
-      → ((p : AnsweredPlay) → (v : World) → At script said s p v → LeadsTo script said R (Ok u) kinds b c s t p (PlaysLines said p x.lines) v) → PlayedAs script said R (Ok t.world) kinds limit x a c
-  played_done kinds a b c limit s t x first o empty begun next =
+  pub played_done : {U : Type 0} {u : U} (kinds : Kinds) (a b c d : Option (List ℕ)) (limit : ℕ) (s t : Stage C) (x : Script) (first : List Happened) → Opened script said limit s x.config first → LogsStand R s.world.nodes (empty_logs (world_new x.config)) → Writes a [] b s.text.items (kinds_text kinds first)
+      → ((p : AnsweredPlay) → (v : World) → At script said s p v → LeadsTo script said R (Ok u) kinds b c s t p (PlaysLines said p x.lines) v) → Appends c d t.text.items → PlayedAs script said R (Ok t.world) kinds limit x a d
+  played_done kinds a b c d limit s t x first o empty begun next put =
       let l = next (starting x.config) (world_new x.config) o.at in
-      record { play = l.play; lines = l.made; ends = play_done kinds a b c limit s t x.config l.play first o begun l.outcome; hands = clients_stand kinds b c s t x.config l.play empty l.outcome; safe = answered_play_is_safe said x l.play l.made; safe_front = answered_front_is_safe said limit x l.play l.made; folds = answered_play_folds R said x l.play l.made }
+      record { play = l.play; lines = l.made; ends = play_done kinds a b c d limit s t x.config l.play first o begun l.outcome put; hands = clients_stand kinds b c s t x.config l.play empty l.outcome; safe = answered_play_is_safe said x l.play l.made; safe_front = answered_front_is_safe said limit x l.play l.made; folds = answered_play_folds R said x l.play l.made }
 
-  pub played_stopped : {U : Type 0} (e : PlayFault) (kinds : Kinds) (a b c : Option (List ℕ)) (limit : ℕ) (s t : Stage C) (x : Script) (first : List Happened) → Opened script said limit s x.config first → Appends a b (kinds_text kinds first)
+  pub played_stopped : {U : Type 0} (e : PlayFault) (kinds : Kinds) (a b c : Option (List ℕ)) (limit : ℕ) (s t : Stage C) (x : Script) (first : List Happened) → Opened script said limit s x.config first → Writes a [] b s.text.items (kinds_text kinds first)
       → ((p : AnsweredPlay) → (v : World) → At script said s p v → LeadsTo {U = U} script said R (Err e) kinds b c s t p (PlaysLines said p x.lines) v) → PlayedAs script said R (Err e) kinds limit x a c
   played_stopped e kinds a b c limit s t x first o begun next =
       let l = next (starting x.config) (world_new x.config) o.at in
@@ -197,3 +227,11 @@ pub starts_cut : {C : Type 0} (script : C → Option Items) (said : Items → Op
 starts_cut script said R r f kinds limit x a b first h trace g =
     let p = first_front said kinds a b limit x.config x.lines first trace g in
     record { play = p.0; lines = p.1; ends = ended_err script said r (fault_of_put f) kinds limit x.config p.0 a b h (front_stops f kinds limit x.config p.0 a b p.2); hands = ended_hands R r x.config p.0 h.0; safe = answered_play_is_safe said x p.0 p.1; safe_front = answered_front_is_safe said limit x p.0 p.1; folds = answered_play_folds R said x p.0 p.1 }
+
+-- what was left at the end could not be written
+pub played_cut : {C U : Type 0} {script : C → Option Items} {said : Items → Option Items} {R : C → List Handed → Type 0} {u : U} (r : Result (kept.World C) PlayFault) (e : PutFault) (kinds : Kinds) (a b c d : Option (List ℕ)) (limit : ℕ) (s t : Stage C) (x : Script) (first : List Happened) → IsErr r × IsErrAnd r (λ z. z ≡ fault_of_put e)
+    → Opened script said limit s x.config first → Writes a [] b s.text.items (kinds_text kinds first)
+    → ((p : AnsweredPlay) → (v : World) → At script said s p v → LeadsTo script said R (Ok u) kinds b c s t p (PlaysLines said p x.lines) v) → GrowsByFront c d t.text.items → PlayedAs script said R r kinds limit x a d
+played_cut {script = script} {said = said} {R = R} r e kinds a b c d limit s t x first h o begun next put =
+    let l = next (starting x.config) (world_new x.config) o.at in
+    record { play = l.play; lines = l.made; ends = ended_err script said r (fault_of_put e) kinds limit x.config l.play a d h (front_stops e kinds limit x.config l.play a d (play_cut kinds a b c d limit s t x.config l.play first o begun l.outcome put)); hands = ended_hands R r x.config l.play h.0; safe = answered_play_is_safe said x l.play l.made; safe_front = answered_front_is_safe said limit x l.play l.made; folds = answered_play_folds R said x l.play l.made }

@@ -5,3 +5,4 @@ pub mod Folds
 pub mod Stage
 pub mod Ends
 pub mod PlaySafe
+pub mod Writing

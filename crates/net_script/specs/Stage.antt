@@ -1,5 +1,5 @@
 -- A play as it runs, and the definitions' play that it stands for, whatever its clients answer.
-use Rattle.std.specs.Prelude.{◌≡◌, ℕ, List, fold, Option, Result, Ok, Err}
+use Rattle.std.specs.Prelude.{◌≡◌, ℕ, List, ◌++◌, fold, Option, Result, Ok, Err}
 use Rattle.std.specs.Io.KnownBytes.{Appends}
 use Rattle.hags_io.specs.Edges.{GrowsByFront}
 use Rattle.client_callbacks.specs.Handed.{Handed}
@@ -12,6 +12,7 @@ use Rattle.world_laws.specs.world_answers.Plays.{AnsweredPlay}
 use Rattle.world_laws.specs.world_answers.Limits.{AnsweredRuns, AnsweredEnds, AnsweredTells, Grew}
 use Rattle.load_script.specs.Counting.{counted}
 use Rattle.net_script.specs.Standing.{Stands}
+use Rattle.net_script.specs.Writing.{Writes}
 use Rattle.net_script.specs.Hands.{Logs, LogsStand, RunHands}
 use Rattle.transcript.specs.declared.kinds.Kinds.{Kinds}
 use Rattle.transcript.specs.Kinds.{kinds_text}
@@ -41,15 +42,15 @@ pub record Moved {C : Type 0} (script : C → Option Items) (said : Items → Op
   pub hears : RunHears R s.world.nodes t.world.nodes v es
   pub at : At script said t q u
 
--- and what they recorded was written
+-- and what they recorded was written, or is left to be
 pub record Went {C : Type 0} (script : C → Option Items) (said : Items → Option Items) (R : C → List Handed → Type 0) (kinds : Kinds) (a b : Option (List ℕ)) (s t : Stage C) (p q : AnsweredPlay) (v : World) : Type 0 where
   pub events : List Answered
   pub records : List Happened
   pub world : World
   pub moved : Moved script said R s t p q v world events records
-  pub written : Appends a b (kinds_text kinds records)
+  pub written : Writes a s.text.items b t.text.items (kinds_text kinds records)
 
--- on the way from p to q an event passed the limit with this sum, and what was recorded before it was written
+-- on the way from p to q an event passed the limit with this sum, and what was left and was recorded before it was written
 pub record Passed {C : Type 0} (n : ℕ) (kinds : Kinds) (a b : Option (List ℕ)) (s : Stage C) (p q : AnsweredPlay) (v : World) : Type 0 where
   pub events : List Answered
   pub records : List Happened
@@ -57,15 +58,15 @@ pub record Passed {C : Type 0} (n : ℕ) (kinds : Kinds) (a b : Option (List ℕ
   pub happens : Grew p q events
   pub ends : AnsweredEnds s.world.limit s.world.kept v events n world
   pub recorded : Recorded v world records
-  pub written : Appends a b (kinds_text kinds records)
+  pub written : Appends a b (s.text.items ++ kinds_text kinds records)
 
--- on the way from p to q a front of what is recorded was written
+-- on the way from p to q a front of what was left and of what is recorded was written
 pub record Broke {C : Type 0} (kinds : Kinds) (a b : Option (List ℕ)) (s : Stage C) (p q : AnsweredPlay) (v : World) : Type 0 where
   pub events : List Answered
   pub records : List Happened
   pub happens : Grew p q events
   pub tells : AnsweredTells s.world.limit s.world.kept v events records
-  pub front : GrowsByFront a b (kinds_text kinds records)
+  pub front : GrowsByFront a b (s.text.items ++ kinds_text kinds records)
 
 abbrev pub Stopped : {C : Type 0} → PlayFault → Kinds → Option (List ℕ) → Option (List ℕ) → Stage C → AnsweredPlay → AnsweredPlay → World → Type 0
 Stopped (play_fault.Kept n) kinds a b s p q v = Passed n kinds a b s p q v

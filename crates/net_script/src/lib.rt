@@ -1,5 +1,5 @@
 //! The play of scripts: what happens in a world of nodes, the lines that become such events, and the records of these,
-//! written as they come.
+//! written in blocks.
 #![tactic(auto)]
 
 mod calls;
@@ -22,7 +22,6 @@ mod world;
 pub use flow::FLOW_LIMIT;
 pub use loads::load;
 pub use nodes::Nodes;
-pub use records::write_records;
 pub use script::{play, play_as};
 pub use stage::Stage;
 pub use world::World;

@@ -108,6 +108,7 @@ fn play_load<K: Sink>(
         world,
         cuts: Cuts::new(alloc),
         counts: Counts::none(),
+        text: Vec::new(alloc),
     };
     match play_steps(alloc, &mut stage, Kinds::none(), steps, out) {
         Ok(()) => Ok(stage.counts),

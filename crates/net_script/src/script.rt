@@ -12,7 +12,7 @@ ghost use Rattle.net_script.specs.Ends.{PlayedAs};
 
 use crate::World;
 use crate::lines::play_lines;
-use crate::records::write_records;
+use crate::records::{write_records, write_rest};
 use crate::stage::Stage;
 use client_callbacks::{Made, ScriptClient};
 use hags_io::Sink;
@@ -39,11 +39,13 @@ fn play_begun<C: Made, K: Sink>(
 {
     let mut records: Records = List::new(alloc);
     let world = World::<C>::new(alloc, script.config, limit, &mut records)?;
-    write_records(alloc, kinds, records.as_slice(), out)?;
+    let mut text = Vec::new(alloc);
+    write_records(&mut text, alloc, kinds, records.as_slice(), out)?;
     let mut stage = Stage {
         world,
         cuts: Cuts::new(alloc),
         counts: Counts::none(),
+        text,
     };
     match play_lines(alloc, &mut stage, kinds, script.lines.as_slice(), out) {
         Ok(()) => {
@@ -51,7 +53,9 @@ fn play_begun<C: Made, K: Sink>(
                 world,
                 cuts: _,
                 counts: _,
+                text,
             } = stage;
+            write_rest(text.as_slice(), out)?;
             Ok(world)
         }
         Err(e) => Err(e),
@@ -110,7 +114,8 @@ pub fn play_as<C: Made, K: Sink>(
 ///
 /// The packets of the run may have as many bytes as `limit` says: `Kept` comes exactly where they pass it, with their
 /// sum at that packet, and then the records before the event that sends it are written. `WriteFault` comes only where
-/// the sink's count of faults rose. After it, and where memory runs out, a front of that text is written.
+/// the sink's count of faults rose. After it, and where memory runs out, a front of that text is written. It is written
+/// in blocks of at least 65,536 bytes, and what is left at the end.
 ///
 /// Where the lines of the script may happen, as those of each script that is read, the run that it played is safe: the
 /// whole one, and up to the event whose packets pass the limit.

@@ -73,14 +73,34 @@ fn each_failing_take_is_a_read_fault(rt: HostRuntime) -> Result<(), Fail> {
 }
 
 #[test]
-fn each_failing_put_is_a_write_fault(rt: HostRuntime) -> Result<(), Fail> {
-    for (call, whole) in [(1, 0), (2, 2), (3, 3), (4, 5)] {
-        let (status, out) = ran(rt.alloc(), ONE_JOIN, &[], &[call])?;
-        assert_eq!(rt; status, 5);
-        assert!(rt; ONE_JOIN_TRANSCRIPT.starts_with(out.held()));
-        assert_eq!(rt; count_lines(out.held()), whole);
+fn a_failing_put_is_a_write_fault(rt: HostRuntime) -> Result<(), Fail> {
+    let (status, out) = ran(rt.alloc(), ONE_JOIN, &[], &[1])?;
+    assert_eq!(rt; status, 5);
+    assert!(rt; out.held().is_empty());
+    let (status, _out) = ran(rt.alloc(), ONE_JOIN, &[], &[2])?;
+    assert_eq!(rt; status, 0);
+    Ok(())
+}
+
+/// A script whose transcript has a block and a rest.
+fn long_script(alloc: Global) -> Result<Vec<u8>, AllocError> {
+    let mut script = Vec::from_slice(alloc, ONE_JOIN)?;
+    for _show in 0..1_200 {
+        script.extend_from_slice(b"show 1 hagsgr\n")?;
     }
-    let (status, _out) = ran(rt.alloc(), ONE_JOIN, &[], &[5])?;
+    Ok(script)
+}
+
+#[test]
+fn a_long_transcript_goes_out_in_blocks(rt: HostRuntime) -> Result<(), Fail> {
+    let script = long_script(rt.alloc())?;
+    let (status, whole) = ran(rt.alloc(), script.as_slice(), &[], &[])?;
+    assert_eq!(rt; status, 0);
+    let (status, out) = ran(rt.alloc(), script.as_slice(), &[], &[2])?;
+    assert_eq!(rt; status, 5);
+    assert!(rt; whole.held().starts_with(out.held()));
+    assert_eq!(rt; count_lines(out.held()), 1_195);
+    let (status, _out) = ran(rt.alloc(), script.as_slice(), &[], &[3])?;
     assert_eq!(rt; status, 0);
     Ok(())
 }
