@@ -1,6 +1,6 @@
 //! The rows of the entries that close phases, in every run.
 
-ghost use Rattle.entry_laws.specs.closing_rows.Rows.{RowsAreAlwaysVoters, TalliesAreOfVoters, EveryListStartsAsTold, PutsAreInOrder, PutsFit};
+ghost use Rattle.entry_laws.specs.closing_rows.Rows.{RowsAreAlwaysVoters, TalliesAreOfVoters, StepsForget, StepsKeepAcks, LeadersForget, PutsAreInOrder, PutsFit};
 
 /// Each entry that closes a phase has rows that are one for each voter of the state before it, in the voters' order.
 #[tactic(auto, using(crate::proofs::closing_rows::Law::rows_are_voters))]
@@ -14,11 +14,26 @@ pub fn tallies_are_of_voters()
     ensures { TalliesAreOfVoters }
 {}
 
-/// What a node's list of a group lacks at its front is nothing, or the node was told to forget just that: an ENTRY that was sent
-/// to it in the view says that all members hold so many entries. Or the node leads the group.
-#[tactic(auto, using(crate::proofs::closing_rows::Law::lists_start_as_told))]
-pub fn lists_start_as_told()
-    ensures { EveryListStartsAsTold }
+/// In each step, a list of a group that the node does not lead comes to start where it did, or where the step tells it to, whichever is
+/// greater: an ENTRY of its view, which it takes, says that all members hold so many entries. In a view that the step enters it
+/// starts at 0.
+#[tactic(auto, using(crate::proofs::closing_rows::Law::steps_forget))]
+pub fn steps_forget()
+    ensures { StepsForget }
+{}
+
+/// In each step, what a member acknowledged of a group, as its node keeps it, becomes what it was, or what the step tells it, whichever
+/// is greater: an ACK of its view, which it takes as the leader. In a view that the step enters it is 0.
+#[tactic(auto, using(crate::proofs::closing_rows::Law::steps_keep_acks))]
+pub fn steps_keep_acks()
+    ensures { StepsKeepAcks }
+{}
+
+/// At the node that leads a group the list starts at the least length that a member of its view holds: of the node itself the length of
+/// the list, of each other member what it acknowledged.
+#[tactic(auto, using(crate::proofs::closing_rows::Law::leaders_forget))]
+pub fn leaders_forget()
+    ensures { LeadersForget }
 {}
 
 /// The places of a node's puts of one view and group are 0, 1, 2 and on.

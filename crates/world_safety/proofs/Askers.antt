@@ -1,6 +1,6 @@
 -- Who asks first for a group leads it, where it has no base: of the coordinator's table at each moment, and of the NAME that answers
 -- the first LOOKUP.
-use Rattle.std.proofs.Common.{◌≡◌, ◌≢◌, ◌⊎◌, ℕ, List, [], ◌∷◌, ◌++◌, Option, Some, None, Bool, true, false, refl, sym, ap, ◌∙◌, subst, inl, inr, ⊎_elim, append_assoc, append-nil, length, ◌+◌}
+use Rattle.std.proofs.Common.{◌≡◌, ◌≢◌, ◌⊎◌, ℕ, List, [], ◌∷◌, ◌++◌, Option, Some, None, Bool, true, false, refl, sym, ap, ◌∙◌, subst, inl, inr, ⊎_elim, append_assoc, length, ◌+◌}
 use Rattle.std.specs.Prelude.{◌==◌, ◌&&◌, not, find, fold, reverse, nat_le, if◌then◌else◌}
 use Rattle.std.specs.Option.{unwrap_or}
 use Rattle.std.specs.Str.{bytes_eq}
@@ -11,7 +11,7 @@ use Rattle.rsct_packet.specs.Ids.{last_u32}
 use Rattle.packet_bodies.specs.declared.body.What.{What}
 use Rattle.node_state.specs.declared.call.CallLine.{CallLine}
 use Rattle.rsct_packet.specs.Search.{Has}
-use Rattle.rsct_packet.proofs.HasLaws.{append_has_right}
+use Rattle.rsct_packet.proofs.HasLaws.{append_has_left, append_has_right}
 use Rattle.proposal_core.specs.declared.entry.Entry.{Entry}
 use Rattle.name_server.specs.Names.{node_of, looked_up, answer_at, max_names}
 use Rattle.view_state.specs.Views.{is_coordinator}
@@ -33,7 +33,7 @@ use Rattle.node_state.specs.Step as step
 use Rattle.world_model.specs.declared.event.Event.{Event}
 use Rattle.world_model.specs.declared.event.Event.TheVariants as event
 use Rattle.world_model.specs.World.{Node, Script, Started, World, inc_in, scripts_after, is_node, node_at, kth_between, posted, handled, traced, after_step, started_at, starts_if, node_starts, stops_if, shows_if, world_of, world_new}
-use Rattle.run_safety.specs.Past.{History, EachRecord, Within, earlier, records_of, history_of}
+use Rattle.run_safety.specs.Past.{History, EachRecord, Within, earlier, history_of}
 use Rattle.run_safety.specs.Sight.{lines_with, lines_of}
 use Rattle.run_safety.specs.Group.{member, Line, Kept, Noted, Put, Based, Heard, kept}
 use Rattle.run_safety.specs.Group as group
@@ -50,18 +50,17 @@ use Rattle.entry_laws.specs.source_order.Meant.{DeliveriesAreNoted}
 use Rattle.entry_laws.specs.source_order.Sources.{RecordedBase, PutBefore}
 use Rattle.entry_laws.proofs.source_order.Steps.{looked_at, looked_by}
 use Rattle.entry_laws.proofs.source_order.Law.{names_come, lookup_is_named}
-use Rattle.world_laws.specs.world_answers.Answers.{Answered, goes_on, events_in, answered_after, answered_records, happens_by, delivers_by_if, step_by, step_by_if, calls_by_if}
+use Rattle.world_laws.specs.world_answers.Answers.{Answered, goes_on, events_in, answered_after, happens_by, delivers_by_if, step_by, step_by_if, calls_by_if}
 use Rattle.world_safety.specs.Events.{run_of_events, AllMayHappen}
 use Rattle.world_safety.specs.Mirrors.{core_in, core_at, Mirrors}
 use Rattle.world_safety.specs.Askers.{LooksUp, LookedUp, RecordLed, FirstAskersLead}
-use Rattle.world_safety.proofs.Following.{IsNamed, StepOf, CameTo, Follows, event_follows}
+use Rattle.world_safety.proofs.Following.{IsNamed, StepOf, CameTo, started_unnamed}
 use Rattle.world_safety.proofs.Runs.{every_run_is_reached}
 use Rattle.world_safety.proofs.Posting.{kth_is}
 use Rattle.world_safety.proofs.Moments.{front_may}
-use Rattle.world_safety.proofs.HeardStates.{answered_last, last_may}
-use Rattle.world_safety.proofs.Turned.{onto_is, back_again}
-use Rattle.world_safety.proofs.Traces.{run_has_the_records}
-use Rattle.world_safety.proofs.SteadyRuns.{history_records}
+use Rattle.world_safety.proofs.Further.{goes_further, Turned, turned_at, trace_is}
+use Rattle.world_safety.proofs.HeardStates.{answered_last}
+use Rattle.world_safety.proofs.Turned.{onto_is}
 
 -- ---- what was sent stays sent
 
@@ -149,43 +148,16 @@ node_same : (n j m i : ℕ) → Some (member n j) ≡ Some (member m i) → n �
 node_same n j m i e = let z : member n j ≡ member m i = cc in ap (λ (y : Member). y.node) z
 
 module _ (c : Config) where
-  -- what holds of the world after some events, and goes on, holds after more
-  module _ (P : List Answered → Type 0) (on : (done : List Answered) (e : Answered) → AllMayHappen c (events_in (done ++ e ∷ [])) → P done → P (done ++ e ∷ [])) where
-    goes_further : (rest done : List Answered) → AllMayHappen c (events_in (done ++ rest)) → P done → P (done ++ rest)
-    goes_further [] done may p = subst P (sym (append-nil done)) p
-    goes_further (e ∷ rest) done may p =
-        let same : (done ++ e ∷ []) ++ rest ≡ done ++ e ∷ rest = append_assoc done (e ∷ []) rest in
-        let all : AllMayHappen c (events_in ((done ++ e ∷ []) ++ rest)) = subst (λ z. AllMayHappen c (events_in z)) (sym same) may in
-        subst P same (goes_further rest (done ++ e ∷ []) all (on done e (front_may c (done ++ e ∷ []) rest all) p))
-
-  sent_further : (q : Packet) (rest done : List Answered) → AllMayHappen c (events_in (done ++ rest)) → Has q (answered_after c done).sent → Has q (answered_after c (done ++ rest)).sent
-  sent_further q = goes_further (λ es. Has q (answered_after c es).sent) (λ done e may h. subst (λ (w : World). Has q w.sent) (sym (answered_last c done e)) (happens_keeps q e.answers (answered_after c done) e.event h))
-
-  -- the scene at an event and the one after it
-  record Turned (done : List Answered) (e : Answered) : Type 0 where
-    scene : Scene
-    reached : Reached c scene
-    noted : DeliveriesAreNoted c scene reached
-    mirrors : Mirrors c (answered_after c done) scene
-    next : Follows c scene reached e.event (answered_after c done) (goes_on (answered_after c done) e)
-    trace : records_of scene.before ≡ (answered_after c done).trace
-
-  trace_is : (es : List Answered) → records_of (history_of (run_of_events c es)) ≡ (answered_after c es).trace
-  unfolding answered_records
-  trace_is es = history_records (run_of_events c es) ∙ (ap reverse (run_has_the_records c es) ∙ back_again (answered_after c es).trace)
-
-  turned_at : (done : List Answered) (e : Answered) → AllMayHappen c (events_in (done ++ e ∷ [])) → Turned done e
-  turned_at done e may =
-      let run = every_run_is_reached c done (front_may c done (e ∷ []) may) in
-      record { scene = run.0; reached = run.1; noted = run.7; mirrors = run.4; next = event_follows e.answers c (answered_after c done) run.0 e.event (last_may c done e may) run.1 run.4; trace = ap records_of run.5 ∙ trace_is done }
+  pub sent_further : (q : Packet) (rest done : List Answered) → AllMayHappen c (events_in (done ++ rest)) → Has q (answered_after c done).sent → Has q (answered_after c (done ++ rest)).sent
+  sent_further q = goes_further c (λ es. Has q (answered_after c es).sent) (λ done e may h. subst (λ (w : World). Has q w.sent) (sym (answered_last c done e)) (happens_keeps q e.answers (answered_after c done) e.event h))
 
   trace_grows : (r : Happened) (done : List Answered) (e : Answered) → AllMayHappen c (events_in (done ++ e ∷ [])) → Has r (answered_after c done).trace → Has r (answered_after c (done ++ e ∷ [])).trace
   trace_grows r done e may h =
-      let t : Turned done e = turned_at done e may in
+      let t : Turned c done e = turned_at c done e may in
       subst (λ (w : World). Has r w.trace) (sym (answered_last c done e)) (subst (Has r) (sym (t.next.trace ∙ onto_is t.next.records (answered_after c done).trace)) (append_has_right r (reverse t.next.records) (answered_after c done).trace h))
 
   trace_further : (r : Happened) (rest done : List Answered) → AllMayHappen c (events_in (done ++ rest)) → Has r (answered_after c done).trace → Has r (answered_after c (done ++ rest)).trace
-  trace_further r = goes_further (λ es. Has r (answered_after c es).trace) (λ done e may h. trace_grows r done e may h)
+  trace_further r = goes_further c (λ es. Has r (answered_after c es).trace) (λ done e may h. trace_grows r done e may h)
 
   -- ---- the table of each node
 
@@ -249,8 +221,8 @@ module _ (c : Config) where
   looking s step.Garbage g m e = absurd (cc)
 
   module _ (done : List Answered) (e : Answered) (may : AllMayHappen c (events_in (done ++ e ∷ []))) (old : Tables done) where
-    t : Turned done e
-    t = turned_at done e may
+    t : Turned c done e
+    t = turned_at c done e may
 
     -- the node is itself
     itself : (s : Scene) (k : Reached c s) (n : ℕ) (core : Core) → s.cores n ≡ Some core → core.views.me ≡ n
@@ -259,7 +231,7 @@ module _ (c : Config) where
         let is : NodeIsIf s.config r.ghost [] n (s.incs n) (Some core) = subst (λ o. NodeIsIf s.config r.ghost [] n (s.incs n) o) up (r.nodes n) in
         is.0.stands.me
 
-    stepped_named : (n : ℕ) (core : Core) → (x : StepOf t.scene (answered_after c done) e.event (records_of t.next.scene.before) n core) → t.next.scene.cores n ≡ Some core → Named (done ++ e ∷ []) n core
+    stepped_named : (n : ℕ) (core : Core) → (x : StepOf t.scene (answered_after c done) e.event (reverse t.next.records) n core) → t.next.scene.cores n ≡ Some core → Named (done ++ e ∷ []) n core
     stepped_named n core x up g m q =
         by (names_come c t.scene t.reached t.noted n x.answers x.core x.what e.event x.up x.arises x.delivered g m (subst (λ (z : Core). node_of g z.names ≡ Some m) x.is q))
       where
@@ -307,8 +279,8 @@ module _ (c : Config) where
         by (inr b) =
             let d : RecordedBase core.views.me core.views.view g (reverse core.records) = subst (λ (y : Core). RecordedBase y.views.me y.views.view g (reverse y.records)) (sym x.is) b in
             let own : core.views.me ≡ n = itself t.next.scene t.next.reached n core up in
-            let now : Has (happened.Base n core.views.view g d.old d.len d.base) (records_of t.next.scene.before) = subst (λ z. Has (happened.Base z core.views.view g d.old d.len d.base) (records_of t.next.scene.before)) own (x.records (happened.Base core.views.me core.views.view g d.old d.len d.base) d.there) in
-            let whole : records_of t.next.scene.before ≡ (answered_after c (done ++ e ∷ [])).trace = ap records_of t.next.before ∙ ap (λ rs. reverse t.next.records ++ rs) t.trace ∙ sym (onto_is t.next.records (answered_after c done).trace) ∙ sym t.next.trace ∙ ap (λ (w : World). w.trace) (sym (answered_last c done e)) in
+            let now : Has (happened.Base n core.views.view g d.old d.len d.base) (reverse t.next.records ++ (answered_after c done).trace) = append_has_left (happened.Base n core.views.view g d.old d.len d.base) (reverse t.next.records) (answered_after c done).trace (subst (λ z. Has (happened.Base z core.views.view g d.old d.len d.base) (reverse t.next.records)) own (x.records (happened.Base core.views.me core.views.view g d.old d.len d.base) d.there)) in
+            let whole : reverse t.next.records ++ (answered_after c done).trace ≡ (answered_after c (done ++ e ∷ [])).trace = sym (onto_is t.next.records (answered_after c done).trace) ∙ sym t.next.trace ∙ ap (λ (w : World). w.trace) (sym (answered_last c done e)) in
             inl (record { old = d.old; len = d.len; base = d.base; there = subst (Has (happened.Base n core.views.view g d.old d.len d.base)) whole now })
 
     tables_on : Tables (done ++ e ∷ [])
@@ -317,9 +289,9 @@ module _ (c : Config) where
         at : t.next.scene.cores n ≡ Some core
         at = t.next.mirrors.cores n ∙ subst (λ (w : World). core_at w.nodes n ≡ Some core) (answered_last c done e) up
 
-        came : CameTo t.scene (answered_after c done) e.event (records_of t.next.scene.before) n core → Named (done ++ e ∷ []) n core
+        came : CameTo t.scene (answered_after c done) e.event (reverse t.next.records) n core → Named (done ++ e ∷ []) n core
         came (inl is) g m q = named_on done e may n core.views.view g (old n core (sym (t.mirrors.cores n) ∙ is) g m q)
-        came (inr (inl none)) g m q = absurd (let z : node_of g [] ≡ Some m = subst (λ z. node_of g z ≡ Some m) none q in cc)
+        came (inr (inl x)) g m q = absurd (let z : node_of g [] ≡ Some m = subst (λ z. node_of g z ≡ Some m) (ap (λ (y : Core). y.names) x.is ∙ started_unnamed t.scene.config n x.inc) q in cc)
         came (inr (inr x)) g m q = stepped_named n core x at g m q
 
   -- outside of mode fixed no node is up at the beginning
@@ -331,7 +303,7 @@ module _ (c : Config) where
 
   tables_all : is_fixed c.mode ≡ false → (es : List Answered) → AllMayHappen c (events_in es) → Tables es
   unfolding answered_after world_new
-  tables_all free es may = goes_further Tables (λ done e all old. tables_on done e all old) es [] may (λ n core up g m q. absurd (none_first c.mode free n core up))
+  tables_all free es may = goes_further c Tables (λ done e all old. tables_on done e all old) es [] may (λ n core up g m q. absurd (none_first c.mode free n core up))
 
 -- ---- who puts first
 

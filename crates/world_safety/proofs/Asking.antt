@@ -1,8 +1,9 @@
 -- Who asks first in the sample run, and who leads it.
 use Rattle.std.proofs.Common.{◌≡◌, ◌⊎◌, ℕ, Bool, List, [], ◌∷◌, ◌++◌, Option, Some, None, true, false, refl, sym, ap, ◌∙◌, subst, inl, inr}
-use Rattle.std.specs.Prelude.{fold, drop}
+use Rattle.std.specs.Prelude.{fold, drop, is_some}
 use Rattle.std.specs.List.{list_any}
 use Rattle.rsct_packet.specs.declared.ids.ViewId.{ViewId}
+use Rattle.node_state.specs.declared.config.Config.{Config}
 use Rattle.node_state.specs.declared.happened.Happened.{Happened}
 use Rattle.node_state.specs.declared.happened.Happened.TheVariants.{Put}
 use Rattle.node_state.specs.declared.call.CallLine.{CallLine}
@@ -21,7 +22,7 @@ use Rattle.entry_laws.specs.source_order.Sources.{PutBefore}
 use Rattle.world_laws.specs.world_answers.Answers.{Answered, goes_on, answered_after, worded, worded_from, all_worded}
 use Rattle.world_safety.specs.Mirrors.{core_at}
 use Rattle.world_safety.specs.Askers.{LooksUp, FirstAsks, RecordLed}
-use Rattle.world_safety.specs.Samples.{history_after, db, two, two_view, lookup_of, until_asked, asks_first, second_leads, first_leads, two_ask, second_led, first_led}
+use Rattle.world_safety.specs.Samples.{history_after, core_or, core_after, db, two, two_view, lookup_of, until_asked, asks_first, second_leads, first_leads, two_ask, second_led, first_led}
 use Rattle.world_safety.specs.Opens.{all_opens}
 
 pub second_led_is : history_after two (two_ask second_leads) ≡ second_led
@@ -78,13 +79,18 @@ nobody_asked =
     (start_given _ _ _ 1, (start_given _ _ _ 2, (ask_given _ _ _ 1 _, (other_given _ two_view db 1 2 1 refl, (other_given _ two_view db 2 1 1 refl, (other_given _ two_view db 1 2 2 refl, (call_given _ _ _ 2 _, (call_given _ _ _ 2 _, tt))))))))
 
 -- an event among others, with what the clients answer
-worded_at : (w : World) (xs ys : List Event) (e : Event) → worded_from w (xs ++ e ∷ ys) ≡ worded_from w xs ++ worded (fold happens w xs) e ∷ worded_from (happens (fold happens w xs) e) ys
+pub worded_at : (w : World) (xs ys : List Event) (e : Event) → worded_from w (xs ++ e ∷ ys) ≡ worded_from w xs ++ worded (fold happens w xs) e ∷ worded_from (happens (fold happens w xs) e) ys
 worded_at w [] ys e = refl
 worded_at w (x ∷ xs) ys e = ap (λ l. worded w x ∷ l) (worded_at (happens w x) xs ys e)
 
-abbrev core_or : Option Core → Core
-core_or None = started two 1 1
-core_or (Some s) = s
+-- a node that is up then
+pub there : (c : Config) (es : List Event) (n : ℕ) → is_some (core_at (answered_after c (all_worded c es)).nodes n) ≡ true → core_at (answered_after c (all_worded c es)).nodes n ≡ Some (core_after c es n)
+unfolding core_after
+there c es n e = by (core_at (answered_after c (all_worded c es)).nodes n) e
+  where
+    by : (o : Option Core) → is_some o ≡ true → o ≡ Some (core_or (started c n 1) o)
+    by None q = absurd (cc)
+    by (Some s) q = refl
 
 second_node_asks_first : (then : List Event) → FirstAsks two (all_worded two (two_ask then)) two_view db 2
 unfolding all_opens
@@ -94,7 +100,7 @@ second_node_asks_first then =
       event = worded (fold happens (world_new two) until_asked) asks_first;
       rest = worded_from (happens (fold happens (world_new two) until_asked) asks_first) then;
       at = worded_at (world_new two) until_asked then asks_first;
-      asks = record { coordinator = core_or (core_at (answered_after two (all_worded two until_asked)).nodes 1); up = refl; coordinates_it = refl; sender = 2; number = 3; happens = refl; packet = lookup_of 2; given = refl; to = refl; from = refl; looks_up = refl; used = refl };
+      asks = record { coordinator = core_after two until_asked 1; up = there two until_asked 1 refl; coordinates_it = refl; sender = 2; number = 3; happens = refl; packet = lookup_of 2; given = refl; to = refl; from = refl; looks_up = refl; used = refl };
       first = λ k. none_asks two_view db (all_worded two until_asked) k.before k.rest (world_new two) k.event k.asker nobody_asked k.at k.asks;
     }
 

@@ -4,7 +4,7 @@ use Rattle.std.specs.Prelude.{find, map, reverse}
 use Rattle.rsct_packet.specs.Ids.{last_u32}
 use Rattle.rsct_packet.specs.Lists.{reverse_onto}
 use Rattle.rsct_packet.specs.Search.{Has}
-use Rattle.rsct_packet.proofs.HasLaws.{append_has_left, append_has_right, has_map}
+use Rattle.rsct_packet.proofs.HasLaws.{append_has_right, has_map}
 use Rattle.packet_bodies.specs.declared.body.What.{What}
 use Rattle.session_state.specs.declared.fault.GsFault.TheVariants.{NoInit}
 use Rattle.node_state.specs.declared.call.CallLine.{CallLine}
@@ -24,7 +24,6 @@ use Rattle.world_model.specs.declared.event.Event.{Event}
 use Rattle.world_model.specs.declared.event.Event.TheVariants as event
 use Rattle.world_model.specs.World.{Script, Node, World, is_node, node_at, kth_between, handled, traced, after_step, started_at, starts_if, node_starts, stops_if, shows_if, scripts_after}
 use Rattle.world_laws.proofs.world_runs.Traces.{after_records}
-use Rattle.run_safety.specs.Past.{records_of}
 use Rattle.step_refinement.specs.Tied.{Scene, NodeIsIf, Rests}
 use Rattle.step_refinement.specs.Rules.{over, stopped, start_with, ended, Arises}
 use Rattle.entry_laws.specs.late_rows.Runs.{NotedAs, TicksAreNoted}
@@ -59,9 +58,15 @@ pub record StepOf (s : Scene) (u : World) (e : Event) (now : List Happened) (n :
   pub named : IsNamed u e n what
   pub records : (r : Happened) → Has r (reverse t.records) → Has r now
 
+-- a node started in the event, and recorded this
+pub record StartOf (s : Scene) (now : List Happened) (n : ℕ) (t : Core) : Type 0 where
+  pub inc : ℕ
+  pub is : t ≡ started s.config n inc
+  pub records : (r : Happened) → Has r (reverse t.records) → Has r now
+
 -- a node after the event was so before, or it started, or it took a step
 abbrev pub CameTo : Scene → World → Event → List Happened → ℕ → Core → Type 0
-CameTo s u e now n t = (s.cores n ≡ Some t) ⊎ (t.names ≡ []) ⊎ StepOf s u e now n t
+CameTo s u e now n t = (s.cores n ≡ Some t) ⊎ StartOf s now n t ⊎ StepOf s u e now n t
 
 -- after the event the scene stands for the world, and both have these records more
 pub record Follows (c : Config) (s : Scene) (k : Reached c s) (e : Event) (u w : World) : Type 0 where
@@ -75,7 +80,7 @@ pub record Follows (c : Config) (s : Scene) (k : Reached c s) (e : Event) (u w :
   pub records : List Happened
   pub before : scene.before ≡ record { event = Some e; records = reverse records } ∷ s.before
   pub trace : w.trace ≡ reverse_onto records u.trace
-  pub cores : (n : ℕ) (t : Core) → scene.cores n ≡ Some t → CameTo s u e (records_of scene.before) n t
+  pub cores : (n : ℕ) (t : Core) → scene.cores n ≡ Some t → CameTo s u e (reverse records) n t
 
 -- a call names its node and what is called
 same_node : (n a : ℕ) (x y : CallLine) → event.Call n x ≡ event.Call a y → n ≡ a
@@ -85,7 +90,7 @@ same_call : (n a : ℕ) (x y : CallLine) → event.Call n x ≡ event.Call a y �
 same_call n a x y e = cc
 
 -- nobody stands in the table of a node that starts
-started_unnamed : (c : Config) (n j : ℕ) → (started c n j).names ≡ []
+pub started_unnamed : (c : Config) (n j : ℕ) → (started c n j).names ≡ []
 unfolding started with_sessions
 started_unnamed c n j = refl
 
@@ -147,16 +152,16 @@ module _ (c : Config) (w : World) (s : Scene) (k : Reached c s) (m : Mirrors c w
           records = y.records;
           before = refl;
           trace = after_records w scripts y;
-          cores = each_set (λ j o. (t : Core) → o ≡ Some t → CameTo s w v (records_of (over v y ∷ s.before)) j t) s.cores n (Some y) own (λ j ne t e. inl e);
+          cores = each_set (λ j o. (t : Core) → o ≡ Some t → CameTo s w v (reverse y.records) j t) s.cores n (Some y) own (λ j ne t e. inl e);
         }
       where
         y : Core
         y = stepped f x.core e
 
-        own : (t : Core) → Some y ≡ Some t → CameTo s w v (records_of (over v y ∷ s.before)) n t
+        own : (t : Core) → Some y ≡ Some t → CameTo s w v (reverse y.records) n t
         own t same =
             let is : y ≡ t = cc in
-            inr (inr (record { answers = f; core = x.core; what = e; up = m.cores n ∙ ap core_in up; is = sym is; arises = arises; delivered = delivered; named = fact; records = λ r h. append_has_left r (reverse y.records) (records_of s.before) (subst (λ (z : Core). Has r (reverse z.records)) (sym is) h) }))
+            inr (inr (record { answers = f; core = x.core; what = e; up = m.cores n ∙ ap core_in up; is = sym is; arises = arises; delivered = delivered; named = fact; records = λ r h. subst (λ (z : Core). Has r (reverse z.records)) (sym is) h }))
 
         reached : Reached c (ended s n v y)
         reached = Steps s n f x.core e v k (m.cores n ∙ ap core_in up) arises
@@ -188,14 +193,16 @@ module _ (c : Config) (w : World) (s : Scene) (k : Reached c s) (m : Mirrors c w
           records = y.records;
           before = refl;
           trace = ap (λ (z : Core). reverse_onto z.records w.trace) (sym (same_start c w s m n));
-          cores = each_set (λ j o. (t : Core) → o ≡ Some t → CameTo s w v (records_of (over v y ∷ s.before)) j t) s.cores n (Some y) (λ t e. inr (inl (fresh t e))) (λ j ne t e. inl e);
+          cores = each_set (λ j o. (t : Core) → o ≡ Some t → CameTo s w v (reverse y.records) j t) s.cores n (Some y) (λ t e. inr (inl (fresh t e))) (λ j ne t e. inl e);
         }
       where
         y : Core
         y = started s.config n (s.incs n + 1)
 
-        fresh : (t : Core) → Some y ≡ Some t → t.names ≡ []
-        fresh t e = let is : y ≡ t = cc in subst (λ (z : Core). z.names ≡ []) is (started_unnamed s.config n (s.incs n + 1))
+        fresh : (t : Core) → Some y ≡ Some t → StartOf s (reverse y.records) n t
+        fresh t e =
+            let is : y ≡ t = cc in
+            record { inc = s.incs n + 1; is = sym is; records = λ r h. subst (λ (z : Core). Has r (reverse z.records)) (sym is) h }
 
     starts_follow : (v : Event) → NoCall v → is_fixed c.mode ≡ false → n ≢ 0 → (o : Option Node) → find (is_node n) w.nodes ≡ o → Follows c s k v w (starts_if w n (inc_at w.starts n) o)
     unfolding starts_if
@@ -221,7 +228,7 @@ module _ (c : Config) (w : World) (s : Scene) (k : Reached c s) (m : Mirrors c w
           records = happened.Down n ∷ [];
           before = refl;
           trace = refl;
-          cores = each_set (λ j o. (t : Core) → o ≡ Some t → CameTo s w v (records_of (stopped s n v).before) j t) s.cores n None (λ t e. absurd (cc)) (λ j ne t e. inl e);
+          cores = each_set (λ j o. (t : Core) → o ≡ Some t → CameTo s w v (happened.Down n ∷ []) j t) s.cores n None (λ t e. absurd (cc)) (λ j ne t e. inl e);
         }
 
     -- ---- what is shown, and calls
@@ -264,7 +271,7 @@ unwaiting c w s k v a b i x f =
     named n (Calls d) z = tt
     named n step.Garbage z = tt
 
-    on : (n : ℕ) (t : Core) → CameTo s (handled w a b i) v (records_of f.scene.before) n t → CameTo s w v (records_of f.scene.before) n t
+    on : (n : ℕ) (t : Core) → CameTo s (handled w a b i) v (reverse f.records) n t → CameTo s w v (reverse f.records) n t
     on n t (inl z) = inl z
     on n t (inr (inl z)) = inr (inl z)
     on n t (inr (inr z)) = inr (inr (record { answers = z.answers; core = z.core; what = z.what; up = z.up; is = z.is; arises = z.arises; delivered = z.delivered; named = named n z.what z.named; records = z.records }))

@@ -150,7 +150,7 @@ module _ (c : Config) (es : List Answered) (e : Answered) (may : AllMayHappen c 
 
 -- ---- the laws
 
-has_turned : (r : Happened) (xs : List Happened) → Has r xs → Has r (reverse xs)
+pub has_turned : (r : Happened) (xs : List Happened) → Has r xs → Has r (reverse xs)
 has_turned r xs h = reverse_has r (reverse xs) (subst (Has r) (sym (reverse-reverse xs)) h)
 
 pub heard_states_are_folds : HeardStatesAreFolds

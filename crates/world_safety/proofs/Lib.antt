@@ -10,7 +10,9 @@ pub mod Saying
 pub mod Lined
 pub mod Playing
 pub mod Moments
+pub mod Further
 pub mod Askers
+pub mod Floors
 pub mod Scripts
 pub mod Steady
 pub mod SteadyRuns

@@ -1,22 +1,17 @@
 -- At each moment of a run its nodes are those of a scene that events lead to.
-use Rattle.std.proofs.Common.{◌≡◌, ◌⊎◌, ℕ, List, [], ◌∷◌, ◌++◌, ◌∙◌, subst, inl, inr}
+use Rattle.std.proofs.Common.{◌≡◌, List, [], ◌∷◌, ◌++◌, ◌∙◌, subst}
 use Rattle.node_state.specs.declared.config.Config.{Config}
-use Rattle.node_state.specs.declared.state.Core.{Core}
-use Rattle.node_state.specs.State.{row_of}
 use Rattle.node_state.specs.Step.{NodeEvent, Ticks, Asks, Given, Calls, Garbage}
 use Rattle.world_model.specs.World.{World}
 use Rattle.step_refinement.specs.Tied.{Scene}
 use Rattle.step_refinement.specs.Rules.{Arises}
-use Rattle.entry_laws.specs.closing_rows.Rows.{start_in, WasTold}
-use Rattle.entry_laws.proofs.closing_rows.At.{told_more}
-use Rattle.entry_laws.proofs.closing_rows.Law.{lists_start_as_told}
 use Rattle.run_laws.specs.tails.Tails.{TailsHeld}
 use Rattle.run_laws.proofs.tails.Law.{tails_held}
 use Rattle.send_laws.proofs.Law.{runs_send}
 use Rattle.world_laws.specs.world_answers.Answers.{Answered, events_in, answered_after}
 use Rattle.world_safety.specs.Events.{AllMayHappen}
 use Rattle.world_safety.specs.Mirrors.{Mirrors}
-use Rattle.world_safety.specs.Moments.{AtEachMoment, AllTailsHeld, AllListsStartAsTold, CanCome, StepsSendFew}
+use Rattle.world_safety.specs.Moments.{AtEachMoment, AllTailsHeld, CanCome, StepsSendFew}
 use Rattle.world_safety.proofs.Runs.{every_run_is_reached}
 
 pub front_may : (c : Config) (front rest : List Answered) → AllMayHappen c (events_in (front ++ rest)) → AllMayHappen c (events_in front)
@@ -30,24 +25,14 @@ arises c w s m (Given p) k = m.sent p k
 arises c w s m (Calls d) k = tt
 arises c w s m Garbage k = tt
 
--- what was sent in the scene was sent in the world
-told_too : (c : Config) (w : World) (x : Scene) → Mirrors c w x → (s : Core) (g : List ℕ) → (start_in (row_of s g).list ≡ 0) ⊎ WasTold x.sent s.views.me s.views.view g (start_in (row_of s g).list) → (start_in (row_of s g).list ≡ 0) ⊎ WasTold w.sent s.views.me s.views.view g (start_in (row_of s g).list)
-told_too c w x m s g (inl none) = inl none
-told_too c w x m s g (inr told) = inr (told_more x.sent w.sent m.came told)
-
 module _ (c : Config) (es : List Answered) (may : AllMayHappen c (events_in es)) where
-  may_front : (front rest : List Answered) → es ≡ front ++ rest → AllMayHappen c (events_in front)
+  pub may_front : (front rest : List Answered) → es ≡ front ++ rest → AllMayHappen c (events_in front)
   may_front front rest e = front_may c front rest (subst (λ z. AllMayHappen c (events_in z)) e may)
 
   pub tails_at : AtEachMoment AllTailsHeld c es
   tails_at front rest e n s up =
       let run = every_run_is_reached c front (may_front front rest e) in
       subst (TailsHeld s) run.5 (tails_held c run.0 run.1 n s (run.4.cores n ∙ up))
-
-  pub starts_at : AtEachMoment AllListsStartAsTold c es
-  starts_at front rest e n s up g away =
-      let run = every_run_is_reached c front (may_front front rest e) in
-      told_too c (answered_after c front) run.0 run.4 s g (lists_start_as_told c run.0 run.1 n s (run.4.cores n ∙ up) g away)
 
   pub sends_at : AtEachMoment StepsSendFew c es
   sends_at front rest e n s up event can f =

@@ -51,7 +51,8 @@ use Rattle.run_laws.proofs.seen_runs.Once.{requests_once}
 use Rattle.run_laws.proofs.gapless.Alike.{takers_hear_alike}
 use Rattle.run_safety.proofs.SightLaws.{one_entry_seen}
 use Rattle.step_refinement.specs.Tied.{opening_of}
-use Rattle.world_safety.proofs.Moments.{tails_at, starts_at, sends_at}
+use Rattle.world_safety.proofs.Floors.{lists_start_as_told, led_lists_start_as_held}
+use Rattle.world_safety.proofs.Moments.{may_front, tails_at, sends_at}
 use Rattle.world_safety.proofs.Askers.{first_askers_lead}
 use Rattle.run_safety.specs.SafeLists.{Each}
 use Rattle.run_safety.specs.SafeHeard.{InOrder, NotLetGo, AllHear, Dissolves}
@@ -103,7 +104,8 @@ answers_safe c es may trace e =
       seen = subst (λ h. Seen (past.records_of h)) run.5 (traces_seen c run.0 run.1);
       rings_seen = λ net fit. subst (λ h. RingsSeen net (past.records_of h)) run.5 (every_ring_seen c run.0 run.1 net fit);
       tails = tails_at c es may;
-      forgets = starts_at c es may;
+      forgets = λ front rest e. lists_start_as_told c front (may_front c es may front rest e);
+      forgets_least = λ front rest e. led_lists_start_as_held c front (may_front c es may front rest e);
       sends = sends_at c es may;
     }
 

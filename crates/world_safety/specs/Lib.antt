@@ -2,6 +2,7 @@ pub mod Events
 pub mod Mirrors
 pub mod Safety
 pub mod Moments
+pub mod Floors
 pub mod Askers
 pub mod Scripts
 pub mod Plays

@@ -7,25 +7,23 @@ use Rattle.node_state.specs.HandOn.{Answering}
 use Rattle.node_state.specs.Step.{NodeEvent, Given, stepped}
 use Rattle.world_model.specs.World.{World}
 use Rattle.run_safety.specs.Past.{History, history_of}
-use Rattle.entry_laws.specs.closing_rows.Rows.{ListsStartAsTold}
 use Rattle.run_laws.specs.tails.Tails.{TailsHeld}
 use Rattle.send_laws.specs.Bound.{puts_of, led_count, owed_count}
 use Rattle.world_laws.specs.world_answers.Answers.{Answered, answered_after}
 use Rattle.world_safety.specs.Events.{run_of_events}
 use Rattle.world_safety.specs.Mirrors.{core_at}
 
--- it holds of the world and the history after each front of the events
+-- it holds of each front of the events
+abbrev pub AfterEach : (List Answered → Type 0) → List Answered → Type 0
+AfterEach P es = (front rest : List Answered) → es ≡ front ++ rest → P front
+
+-- of the world and the history after each front
 abbrev pub AtEachMoment : (World → History → Type 0) → Config → List Answered → Type 0
-AtEachMoment P c es = (front rest : List Answered) → es ≡ front ++ rest → P (answered_after c front) (history_of (run_of_events c front))
+AtEachMoment P c es = AfterEach (λ front. P (answered_after c front) (history_of (run_of_events c front))) es
 
 -- at each node that is up, each member of its view has put what its lists lack at their front
 abbrev pub AllTailsHeld : World → History → Type 0
 AllTailsHeld w h = (n : ℕ) (s : Core) → core_at w.nodes n ≡ Some s → TailsHeld s h
-
--- and what a list of a group that the node does not lead lacks there it was told to forget: just so many entries all members hold, by
--- an ENTRY that was sent to it in its view
-abbrev pub AllListsStartAsTold : World → History → Type 0
-AllListsStartAsTold w h = (n : ℕ) (s : Core) → core_at w.nodes n ≡ Some s → ListsStartAsTold s w.sent
 
 -- an event that can come to a node: a packet that it is given was sent
 abbrev pub CanCome : World → NodeEvent → Type 0

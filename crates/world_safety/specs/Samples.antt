@@ -20,14 +20,14 @@ use Rattle.node_state.specs.declared.happened.Happened.TheVariants as happened
 use Rattle.node_state.specs.declared.packet.Body.TheVariants as body
 use Rattle.node_state.specs.declared.packet.Packet.{Packet}
 use Rattle.node_state.specs.declared.state.Core.{Core}
-use Rattle.node_state.specs.State.{row_of}
+use Rattle.node_state.specs.Step.{started}
 use Rattle.world_model.specs.declared.event.Event.{Event}
 use Rattle.world_model.specs.declared.event.Event.TheVariants as event
 use Rattle.world_model.specs.Run.{Happening}
 use Rattle.world_model.specs.Load.{settings_of, mask_of}
 use Rattle.run_safety.specs.Past.{History, history_of}
 use Rattle.world_laws.specs.world_answers.Answers.{answered_after, all_worded}
-use Rattle.entry_laws.specs.closing_rows.Rows.{start_in}
+use Rattle.entry_laws.specs.closing_rows.Rows.{start_of}
 use Rattle.world_safety.specs.Events.{run_of_events}
 use Rattle.world_safety.specs.Mirrors.{core_at}
 
@@ -321,28 +321,49 @@ pair = settings_of Fixed (1 ∷ 2 ∷ [])
 abbrev pub hello : List ℕ
 hello = codes "hello"
 
--- a client of node 1 joins; node 2 takes the entry and acknowledges it; then the client sends a message, which node 2 takes
+-- a client of node 1 joins, and node 2 takes the entry
+unfoldable pub until_acked : List Event
+until_acked = comes 1 (codes "a") ∷ joins 1 (codes "a") db 7 empty_attrs ∷ event.Deliver 1 1 1 ∷ event.Deliver 1 2 1 ∷ []
+
+abbrev pub acks : Event
+acks = event.Deliver 2 1 1
+
+-- node 1 takes the ACK of node 2, and its client sends a message
+unfoldable pub until_told : List Event
+until_told = acks ∷ event.Call 1 (call.SendMessage (codes "a") db One hello) ∷ event.Deliver 1 1 2 ∷ []
+
+-- node 2 takes that entry
+abbrev pub tells : Event
+tells = event.Deliver 1 2 2
+
 unfoldable pub two_entries : List Event
-two_entries =
-    comes 1 (codes "a") ∷ joins 1 (codes "a") db 7 empty_attrs ∷ event.Deliver 1 1 1 ∷ event.Deliver 1 2 1 ∷ event.Deliver 2 1 1 ∷ event.Call 1 (call.SendMessage (codes "a") db One hello) ∷ event.Deliver 1 1 2 ∷ event.Deliver 1 2 2 ∷ []
+two_entries = until_acked ++ until_told ++ tells ∷ []
 
 -- the entry at place 1, with the place below which all have acknowledged
 abbrev pub second_entry : Packet
 second_entry =
     record { network = 1; from = 1; to = 2; inc = 1; level = 1; domain = 0; body = body.Entry one_view db 1 1 (Once (proposal.Message first_joiner 2 hello)) }
 
+-- the ACK
+abbrev pub first_ack : Packet
+first_ack = record { network = 1; from = 2; to = 1; inc = 1; level = 1; domain = 0; body = body.Ack one_view db 1 }
+
 unfoldable pub sent_after : Config → List Event → List Packet
 sent_after c es = (answered_after c (all_worded c es)).sent
 
-abbrev pub start_of_node : Option Core → List ℕ → ℕ
-start_of_node None g = 0
-start_of_node (Some s) g = start_in (row_of s g).list
+-- a node as it is then, where it is up
+abbrev pub core_or : Core → Option Core → Core
+core_or s None = s
+core_or s (Some t) = t
+
+unfoldable pub core_after : Config → List Event → ℕ → Core
+core_after c es n = core_or (started c n 1) (core_at (answered_after c (all_worded c es)).nodes n)
 
 -- where the node's list of the group starts then
 unfoldable pub start_after : Config → List Event → ℕ → List ℕ → ℕ
-start_after c es n g = start_of_node (core_at (answered_after c (all_worded c es)).nodes n) g
+start_after c es n g = start_of (core_after c es n) g
 
 -- opens each word of this file, for a computation
 unfoldable pub samples_opens : Unit {0}
-unfolding history_after two_join two_joined target_joins target_joined until_asked after_asked second_leads first_leads two_ask until_named second_led first_led two_sides two_merged more_win fewer_win none_wins two_entries sent_after start_after
+unfolding history_after two_join two_joined target_joins target_joined until_asked after_asked second_leads first_leads two_ask until_named second_led first_led two_sides two_merged more_win fewer_win none_wins until_acked until_told two_entries sent_after core_after start_after
 samples_opens = tt

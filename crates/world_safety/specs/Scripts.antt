@@ -34,7 +34,8 @@ use Rattle.run_safety.specs.SafeHeard.{InOrder, NotLetGo, AllHear, Dissolves}
 use Rattle.world_laws.specs.world_answers.Answers.{Answered, all_worded}
 use Rattle.world_safety.specs.Events.{run_of_events}
 use Rattle.world_safety.specs.Askers.{FirstAskersLead}
-use Rattle.world_safety.specs.Moments.{AtEachMoment, AllTailsHeld, AllListsStartAsTold, StepsSendFew}
+use Rattle.world_safety.specs.Floors.{ListsStartAsTold, LedListsStartAsHeld}
+use Rattle.world_safety.specs.Moments.{AfterEach, AtEachMoment, AllTailsHeld, StepsSendFew}
 
 -- the events of the run of these events with these answers, the latest first, each with its records
 abbrev pub history_in : Config → List Answered → History
@@ -113,8 +114,10 @@ pub record IsSafe (c : Config) (es : List Answered) (rs : List Happened) : Type 
   -- ---- bounds: at each moment of the run
   -- what a node's list lacks at its front each member of its view has put, and acknowledged to the leader
   pub tails : AtEachMoment AllTailsHeld c es
-  -- what a list of a group that a node does not lead lacks at its front the node was told to forget, by an ENTRY that was sent to it
-  pub forgets : AtEachMoment AllListsStartAsTold c es
+  -- a list of a group that a node does not lead starts at the greatest place that it was told, by the ENTRYs that it took in its view
+  pub forgets : AfterEach (ListsStartAsTold c) es
+  -- and one of a group that it leads at the least number of entries that a member of its view holds, as it acknowledged
+  pub forgets_least : AfterEach (LedListsStartAsHeld c) es
   -- the next step of a node sends few packets
   pub sends : AtEachMoment StepsSendFew c es
   -- ---- what records show

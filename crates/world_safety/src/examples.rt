@@ -5,11 +5,11 @@ ghost use Rattle.group_attr.specs.Attrs.{empty_attrs};
 ghost use Rattle.run_safety.specs.Past.{EachRecord};
 ghost use Rattle.run_safety.specs.SafeGroups.{SafeGroups};
 ghost use Rattle.step_refinement.specs.Tied.{opening_of};
-ghost use Rattle.entry_laws.specs.closing_rows.Rows.{WasTold};
 ghost use Rattle.entry_laws.specs.source_order.Sources.{FirstsFollowSources};
 ghost use Rattle.world_laws.specs.world_answers.Answers.{all_worded};
 ghost use Rattle.world_safety.specs.Askers.{FirstAsks, RecordLed};
-ghost use Rattle.world_safety.specs.Samples.{history_after, db, one, two_join, two_joined, limited, target_joins, target_joined, sourced, two, two_view, second_leads, first_leads, two_ask, second_led, first_led, two_sides, more_win, fewer_win, none_wins, pair, one_view, two_entries, sent_after, start_after};
+ghost use Rattle.world_safety.specs.Floors.{ToldToForget, HasAcknowledged, IsGreatest, IsLeastHeld};
+ghost use Rattle.world_safety.specs.Samples.{history_after, db, one, two_join, two_joined, limited, target_joins, target_joined, sourced, two, two_view, second_leads, first_leads, two_ask, second_led, first_led, two_sides, more_win, fewer_win, none_wins, pair, one_view, two_entries, core_after, start_after};
 
 /// Two clients join a group, one after the other: the entry of the first has the attributes that it asked for, since the group
 /// was empty and idle, and that of the second has the group's.
@@ -81,11 +81,31 @@ pub fn no_side_is_refused()
 #[tactic(auto, using(crate::proofs::Forgetting::member_starts, crate::proofs::Forgetting::member_was_told))]
 pub fn member_forgets_what_it_was_told()
     ensures starts { start_after pair two_entries 2 db ≡ 1 }
-    ensures accepted { WasTold (sent_after pair two_entries) 2 one_view db 1 }
+    ensures told { ToldToForget pair (all_worded pair two_entries) 2 one_view db 1 }
+{}
+
+/// A list that lacks nothing, as that of a machine which never forgets, is refused.
+#[tactic(auto, using(crate::proofs::Forgetting::never_is_refused))]
+pub fn never_forgetting_is_refused()
+    ensures { IsGreatest (ToldToForget pair (all_worded pair two_entries) 2 one_view db) 0 → ⊥ }
 {}
 
 /// Where it forgot at its own length, it forgot what it was not told to.
-#[tactic(auto, using(crate::proofs::Forgetting::own_length_was_not_told))]
+#[tactic(auto, using(crate::proofs::Forgetting::own_length_is_refused))]
 pub fn forgetting_at_its_length_is_refused()
-    ensures { WasTold (sent_after pair two_entries) 2 one_view db 2 → ⊥ }
+    ensures { IsGreatest (ToldToForget pair (all_worded pair two_entries) 2 one_view db) 2 → ⊥ }
+{}
+
+/// Its leader forgets the first entry, since the member has acknowledged that.
+#[tactic(auto, using(crate::proofs::Forgetting::leader_starts, crate::proofs::Forgetting::member_acknowledged))]
+pub fn leader_forgets_what_was_acknowledged()
+    ensures starts { start_after pair two_entries 1 db ≡ 1 }
+    ensures acknowledged { HasAcknowledged pair (all_worded pair two_entries) 1 one_view db 2 1 }
+{}
+
+/// A leader whose list lacks nothing, as one that never forgets or that records no ACK, is refused.
+#[tactic(auto, using(crate::proofs::Forgetting::leader_that_keeps_is_refused))]
+pub fn leader_that_keeps_all_is_refused()
+    ensures { IsLeastHeld pair (all_worded pair two_entries)
+        (core_after pair two_entries 1) db 0 → ⊥ }
 {}

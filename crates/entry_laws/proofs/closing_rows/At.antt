@@ -1,14 +1,17 @@
 -- In the middle of a step: the tallies of a node are of the voters of the states that its lists have, these states are those
--- of its records, the rows of what it put are right, and its lists lack at their front what it was told to forget.
-use Rattle.std.proofs.Common.{◌≡◌, ◌⊎◌, ℕ, ◌+◌, suc, List, [], ◌∷◌, ◌++◌, length, take, Option, Some, None, Bool, true, false, refl, sym, ap, ◌∙◌, subst, inl, inr, append_assoc, append-nil, length-append, arith}
+-- of its records, the rows of what it put are right, and the lists that it does not lead start where they did, or where the step
+-- told it, or at 0 in a view that it has entered.
+use Rattle.std.proofs.Common.{◌≡◌, ◌≤◌, ◌⊎◌, min, ℕ, ◌+◌, suc, List, [], ◌∷◌, ◌++◌, length, take, Option, Some, None, Bool, true, false, refl, sym, ap, ◌∙◌, subst, inl, inr, append_assoc, append-nil, length-append, arith}
 use Rattle.std.specs.Prelude.{◌==◌, ◌&&◌, fold, find, reverse, if◌then◌else◌}
 use Rattle.std.specs.Str.{bytes_eq}
 use Rattle.std.proofs.lemmas.List.{reverse-append}
 use Rattle.std.proofs.lemmas.Bool.{eq-eqb}
 use Rattle.std.proofs.lemmas.Bool.Decides.{nat_tests}
 use Rattle.rsct_packet.specs.declared.ids.ViewId.{ViewId}
+use Rattle.rsct_packet.specs.declared.ids.Member.{Member}
 use Rattle.rsct_packet.specs.Ids.{same_view}
 use Rattle.rsct_packet.specs.Search.{Has}
+use Rattle.rsct_packet.proofs.HasLaws.{append_has_left}
 use Rattle.proposal_core.specs.declared.entry.Entry.{Entry}
 use Rattle.proposal_core.specs.declared.group_state.GroupState.{GroupState}
 use Rattle.proposal_core.specs.Fold.{empty_state, after}
@@ -17,16 +20,17 @@ use Rattle.proposal_core.specs.Lists.{list_or_new, state_in, len_in, with_entry}
 use Rattle.name_server.specs.declared.names.Leader.{Leader}
 use Rattle.view_state.specs.declared.views.Views.{Views}
 use Rattle.node_state.specs.declared.config.Config.{Config}
+use Rattle.node_state.specs.declared.config.Mode.{Mode}
 use Rattle.node_state.specs.declared.group.GroupRow.{GroupRow}
 use Rattle.node_state.specs.declared.happened.Happened.{Happened}
 use Rattle.node_state.specs.declared.happened.Happened.TheVariants as happened
 use Rattle.node_state.specs.declared.packet.Packet.{Packet}
 use Rattle.node_state.specs.declared.state.Core.{Core}
-use Rattle.node_state.specs.State.{InNameOrder, row_found, row_of, with_row, list_of, len_of, is_this, leader_by, leader_in, leads_in, leads, recorded, recorded_all, has_name}
+use Rattle.node_state.specs.State.{acked_from, acked_by, least_acked, InNameOrder, row_found, row_of, with_row, list_of, len_of, is_this, leader_by, leader_in, leads_in, leads, recorded, recorded_all, has_name}
 use Rattle.node_state.specs.Leading.{put}
 use Rattle.run_safety.specs.Past.{History, earlier, Within, is_list, puts_of, base_of, fold_from, state_at, state_now}
 use Rattle.node_state.proofs.NameOrder.{KeepsName, cases_text, text_self, text_other, row_here, row_there, rows_ordered}
-use Rattle.entry_laws.specs.closing_rows.Rows.{HasRows, TallyFits, start_in, WasTold}
+use Rattle.entry_laws.specs.closing_rows.Rows.{HasRows, TallyFits, start_in}
 use Rattle.entry_laws.proofs.closing_rows.Entered.{Since}
 
 -- the node leads a group with this row
@@ -44,27 +48,145 @@ leads_is s g = refl
 abbrev pub RowIs : Bool → GroupRow → Type 0
 RowIs led row = (row.led.tally ≡ None) ⊎ ((led ≡ true) × TallyFits row.led.tally (state_in row.list))
 
--- a list starts at 0, or the node leads the group, or it was told the place
-abbrev pub StartIs : (ℕ → Type 0) → Bool → Option GroupView → Type 0
-StartIs told led l = (start_in l ≡ 0) ⊎ ((led ≡ true) ⊎ told (start_in l))
+-- what says which groups a node leads, and who acknowledges to it
+pub record Seat : Type 0 where
+  pub me : ℕ
+  pub coord : ℕ
+  pub mode : Mode
+  pub members : List Member
 
--- what the node was told of the group in its view, by what was sent
-abbrev pub ToldOf : List Packet → Core → List ℕ → ℕ → Type 0
-ToldOf sent s g = WasTold sent s.views.me s.views.view g
+abbrev pub seat : Core → Seat
+seat s = record { me = s.views.me; coord = s.views.view.coord; mode = s.config.mode; members = s.views.members }
 
--- what was told stays told
-pub told_more : (sent more : List Packet) → ((p : Packet) → Has p sent → Has p more) → {n : ℕ} {v : ViewId} {g : List ℕ} {k : ℕ} → WasTold sent n v g k → WasTold more n v g k
-told_more sent more all t = record { packet = t.packet; there = all t.packet t.there; to = t.to; place = t.place; entry = t.entry; says = t.says }
+abbrev pub leader_at : Seat → GroupRow → Option ℕ
+leader_at a row = leader_by a.mode a.coord row.leader
 
--- what was sent before a step, and the history until then
+abbrev pub leads_by : Seat → GroupRow → Bool
+leads_by a row = is_this a.me (leader_at a row)
+
+-- what a member holds, as the node knows it, and the least of that
+abbrev pub holds_at : Seat → GroupRow → ℕ → ℕ
+holds_at a row n = elim (n == a.me) as (λ _. ℕ) [ true ↦ len_in row.list | false ↦ acked_from n row.led.acked ]
+
+abbrev pub least_at : Seat → GroupRow → ℕ
+least_at a row = fold (λ least (m : Member). min least (holds_at a row m.node)) (len_in row.list) a.members
+
+pub least_is : (s : Core) (g : List ℕ) → least_acked s g ≡ least_at (seat s) (found s g)
+unfolding least_acked acked_by row_of
+least_is s g = refl
+
+-- where the lists start that a node does not lead, which ones it leads, and what members acknowledged to it; and of which groups
+-- nothing is under way
+pub record Floors : Type 0 where
+  pub starts : List ℕ → ℕ
+  pub led : List ℕ → Bool
+  pub acks : List ℕ → ℕ → ℕ
+  pub settled : List ℕ → Bool
+
+-- A list starts where it is to, or the node leads the group, and then at the least that a member holds; what it led it leads; and
+-- where no leader is known the list is empty.
+pub record RowStarts (x : Floors) (a : Seat) (g : List ℕ) (row : GroupRow) : Type 0 where
+  pub told : leads_by a row ≡ false → start_in row.list ≡ x.starts g
+  pub goes : x.led g ≡ true → leads_by a row ≡ true
+  pub acked : (m : ℕ) → acked_from m row.led.acked ≡ x.acks g m
+  pub within : start_in row.list ≤ len_in row.list
+  pub below : leads_by a row ≡ true → start_in row.list ≤ least_at a row
+  pub least : x.settled g ≡ true → leads_by a row ≡ true → least_at a row ≤ start_in row.list
+  pub empty : x.settled g ≡ true → leader_at a row ≡ None → len_in row.list ≡ 0
+
+-- the least grows with what members hold
+pub least_grows : (f h : Member → ℕ) (ms : List Member) (i j : ℕ) → i ≤ j → ((m : Member) → f m ≤ h m) → fold (λ least (m : Member). min least (f m)) i ms ≤ fold (λ least (m : Member). min least (h m)) j ms
+least_grows f h [] i j le more = le
+least_grows f h (m ∷ ms) i j le more =
+    let one : f m ≤ h m = more m in
+    let both : min i (f m) ≤ min j (h m) = omega arith in least_grows f h ms (min i (f m)) (min j (h m)) both more
+
+pub least_below : (f : Member → ℕ) (ms : List Member) (i : ℕ) → fold (λ least (m : Member). min least (f m)) i ms ≤ i
+least_below f [] i = omega arith
+least_below f (m ∷ ms) i = let rest = least_below f ms (min i (f m)) in omega arith
+
+-- where the length grows, and what is acknowledged
+pub least_more : (a : Seat) (old row : GroupRow) → len_in old.list ≤ len_in row.list → ((m : ℕ) → acked_from m old.led.acked ≤ acked_from m row.led.acked) → least_at a old ≤ least_at a row
+least_more a old row len acked =
+    least_grows (λ (m : Member). holds_at a old m.node) (λ (m : Member). holds_at a row m.node) a.members (len_in old.list) (len_in row.list) len (λ m. by (m.node == a.me) m.node)
+  where
+    by : (b : Bool) (n : ℕ) → elim b as (λ _. ℕ) [ true ↦ len_in old.list | false ↦ acked_from n old.led.acked ] ≤ elim b as (λ _. ℕ) [ true ↦ len_in row.list | false ↦ acked_from n row.led.acked ]
+    by true n = len
+    by false n = acked n
+
+-- a row with the same leader and the same acknowledgements, whose list starts and ends at the same place
+pub row_same : {x : Floors} (a : Seat) (g : List ℕ) (old row : GroupRow) → row.leader ≡ old.leader → start_in row.list ≡ start_in old.list → len_in row.list ≡ len_in old.list → ((m : ℕ) → acked_from m row.led.acked ≡ acked_from m old.led.acked) → RowStarts x a g old → RowStarts x a g row
+row_same a g old row leader start len acked k =
+    let known : leader_at a row ≡ leader_at a old = ap (λ o. leader_by a.mode a.coord o) leader in
+    let led : leads_by a row ≡ leads_by a old = ap (is_this a.me) known in
+    let more : least_at a old ≤ least_at a row = least_more a old row (let z = len in omega arith) (λ m. let z = acked m in omega arith) in
+    let less : least_at a row ≤ least_at a old = least_more a row old (let z = len in omega arith) (λ m. let z = acked m in omega arith) in
+    record {
+      told = λ e. start ∙ k.told (sym led ∙ e);
+      goes = λ e. led ∙ k.goes e;
+      acked = λ m. acked m ∙ k.acked m;
+      within = let z = k.within in let y = start in let x = len in omega arith;
+      below = λ e. let z = k.below (sym led ∙ e) in let y = start in omega arith;
+      least = λ e q. let z = k.least e (sym led ∙ q) in let y = start in omega arith;
+      empty = λ e q. len ∙ k.empty e (sym known ∙ q);
+    }
+
+-- nothing was said yet, and nothing is led
+abbrev pub nothing_said : Floors
+nothing_said = record { starts = λ g. 0; led = λ g. false; acks = λ g m. 0; settled = λ g. true }
+
+-- a row with an empty list
+pub fresh_row : (a : Seat) (g : List ℕ) (row : GroupRow) → start_in row.list ≡ 0 → len_in row.list ≡ 0 → row.led.acked ≡ [] → RowStarts nothing_said a g row
+unfolding acked_from
+fresh_row a g row start len none =
+    let le : least_at a row ≤ len_in row.list = least_below (λ (m : Member). holds_at a row m.node) a.members (len_in row.list) in
+    record { told = λ e. start; goes = λ e. absurd (cc); acked = λ m. ap (acked_from m) none; within = omega arith; below = λ e. omega arith; least = λ e q. omega arith; empty = λ e q. len }
+
+-- of one group something is under way
+abbrev pub loosened : Floors → List ℕ → Floors
+loosened x g = record x { settled = λ k. if bytes_eq g k then false else x.settled k }
+
+pub loose_here : (x : Floors) (g : List ℕ) → (loosened x g).settled g ≡ true → ⊥
+loose_here x g e =
+    let z : false ≡ true = sym (ap (λ b. if b then false else x.settled g) (text_self g)) ∙ e in cc
+
+loose_there : (x : Floors) (g k : List ℕ) → (g ≡ k → ⊥) → (loosened x g).settled k ≡ x.settled k
+loose_there x g k ne = ap (λ b. if b then false else x.settled k) (text_other g k ne)
+
+pub loosen_here : (x : Floors) (a : Seat) (g : List ℕ) (row : GroupRow) → RowStarts x a g row → RowStarts (loosened x g) a g row
+loosen_here x a g row z =
+    record { told = z.told; goes = z.goes; acked = z.acked; within = z.within; below = z.below; least = λ e. absurd (loose_here x g e); empty = λ e. absurd (loose_here x g e) }
+
+pub loosen_beside : (x : Floors) (a : Seat) (g k : List ℕ) (row : GroupRow) → (g ≡ k → ⊥) → RowStarts x a k row → RowStarts (loosened x g) a k row
+loosen_beside x a g k row ne z =
+    let same : (loosened x g).settled k ≡ x.settled k = loose_there x g k ne in
+    record { told = z.told; goes = z.goes; acked = z.acked; within = z.within; below = z.below; least = λ e. z.least (sym same ∙ e); empty = λ e. z.empty (sym same ∙ e) }
+
+pub settle_beside : (x : Floors) (a : Seat) (g k : List ℕ) (row : GroupRow) → (g ≡ k → ⊥) → RowStarts (loosened x g) a k row → RowStarts x a k row
+settle_beside x a g k row ne z =
+    let same : (loosened x g).settled k ≡ x.settled k = loose_there x g k ne in
+    record { told = z.told; goes = z.goes; acked = z.acked; within = z.within; below = z.below; least = λ e. z.least (same ∙ e); empty = λ e. z.empty (same ∙ e) }
+
+-- the history before a step and the view of the node then; whether it has entered another one; and the floors of its lists
 pub record Frame : Type 0 where
   pub history : History
-  pub sent : List Packet
+  pub view : ViewId
+  pub entered : Bool
+  pub floors : Floors
+
+-- the node is in its view of before, or has recorded that it entered its view
+abbrev pub Came : Bool → ViewId → ℕ → ViewId → List Happened → Type 0
+Came false old n v rs = v ≡ old
+Came true old n v rs = (ms : List Member) × Has (happened.In n v ms) rs
+
+came_more : (b : Bool) (old : ViewId) (n : ℕ) (v : ViewId) (rs more : List Happened) → Came b old n v rs → Came b old n v (rs ++ more)
+came_more false old n v rs more k = k
+came_more true old n v rs more k = (k.0, append_has_left (happened.In n v k.0) rs more k.1)
 
 -- T: the groups whose tally is of the phase that runs; G: those that the node leads
-pub record Rows (sent : List Packet) (T G : List ℕ → Type 0) (s : Core) : Type 0 where
+pub record Rows (x : Floors) (T G : List ℕ → Type 0) (s : Core) : Type 0 where
   pub order : InNameOrder s.groups
-  pub starts : (g : List ℕ) → StartIs (ToldOf sent s g) (leads_row s (found s g)) (found s g).list
+  pub starts : (g : List ℕ) → RowStarts x (seat s) g (found s g)
   pub tallies : (g : List ℕ) → T g → RowIs (leads_row s (found s g)) (found s g)
   pub led : (g : List ℕ) → G g → leads_row s (found s g) ≡ true
 
@@ -97,7 +219,8 @@ pub record StateIs (n : ℕ) (v : ViewId) (g : List ℕ) (l : Option GroupView) 
   pub len : len_in l ≡ length (puts_of n v g rs)
 
 pub record At (h : Frame) (T G : List ℕ → Type 0) (s : Core) : Type 0 where
-  pub rows : Rows h.sent T G s
+  pub came : Came h.entered h.view s.views.me s.views.view s.records
+  pub rows : Rows h.floors T G s
   pub facts : Facts h.history (reverse s.records)
   pub states : Fresh (reverse s.records) h.history → (g : List ℕ) → StateIs s.views.me s.views.view g (found s g).list (earlier (reverse s.records) h.history)
 
@@ -195,9 +318,9 @@ calm_fold f one [] c = calm_self c
 calm_fold f one (x ∷ xs) c = calm_then c (f c x) (fold f (f c x) xs) (one c x) (calm_fold f one xs (f c x))
 
 -- a row changes
-pub rows_for : (sent : List Packet) (T G U : List ℕ → Type 0) (s : Core) (g : List ℕ) (f : GroupRow → GroupRow) → KeepsName f → ((x : GroupRow) → (f x).leader ≡ x.leader) → ((k : List ℕ) → U k → (g ≡ k → ⊥) → T k) → (U g → RowIs (leads_row s (found s g)) (f (found s g))) → StartIs (ToldOf sent s g) (leads_row s (found s g)) (f (found s g)).list → Rows sent T G s → Rows sent U G (with_row s g f)
+pub rows_for : (x y : Floors) (T G U : List ℕ → Type 0) (s : Core) (g : List ℕ) (f : GroupRow → GroupRow) → KeepsName f → ((x : GroupRow) → (f x).leader ≡ x.leader) → ((k : List ℕ) → U k → (g ≡ k → ⊥) → T k) → (U g → RowIs (leads_row s (found s g)) (f (found s g))) → RowStarts y (seat s) g (f (found s g)) → ((k : List ℕ) → (g ≡ k → ⊥) → RowStarts x (seat s) k (found s k) → RowStarts y (seat s) k (found s k)) → Rows x T G s → Rows y U G (with_row s g f)
 unfolding with_row row_of
-rows_for sent T G U s g f keeps leader others own begins a =
+rows_for x y T G U s g f keeps leader others own begins rest a =
     record { order = rows_ordered g f keeps s a.order; starts = λ k. start k (cases_text g k); tallies = λ k u. tally k u (cases_text g k); led = λ k i. leads k i (cases_text g k) }
   where
     here : found (with_row s g f) g ≡ f (found s g)
@@ -214,10 +337,9 @@ rows_for sent T G U s g f keeps leader others own begins a =
         subst (λ z. RowIs (leads_row s (found (with_row s g f) z)) (found (with_row s g f) z)) e (subst (λ z. RowIs (leads_row s z) z) (sym here) (subst (λ b. RowIs b (f (found s g))) (sym lead) (own (subst U (sym e) u))))
     tally k u (inr ne) = subst (λ z. RowIs (leads_row s z) z) (sym (there k ne)) (a.tallies k (others k u ne))
 
-    start : (k : List ℕ) → (g ≡ k) ⊎ (g ≡ k → ⊥) → StartIs (ToldOf sent s k) (leads_row s (found (with_row s g f) k)) (found (with_row s g f) k).list
-    start k (inl e) =
-        subst (λ z. StartIs (ToldOf sent s z) (leads_row s (found (with_row s g f) z)) (found (with_row s g f) z).list) e (subst (λ (z : GroupRow). StartIs (ToldOf sent s g) (leads_row s z) z.list) (sym here) (subst (λ b. StartIs (ToldOf sent s g) b (f (found s g)).list) (sym lead) begins))
-    start k (inr ne) = subst (λ (z : GroupRow). StartIs (ToldOf sent s k) (leads_row s z) z.list) (sym (there k ne)) (a.starts k)
+    start : (k : List ℕ) → (g ≡ k) ⊎ (g ≡ k → ⊥) → RowStarts y (seat s) k (found (with_row s g f) k)
+    start k (inl e) = subst (λ z. RowStarts y (seat s) z (found (with_row s g f) z)) e (subst (RowStarts y (seat s) g) (sym here) begins)
+    start k (inr ne) = subst (RowStarts y (seat s) k) (sym (there k ne)) (rest k ne (a.starts k))
 
     leads : (k : List ℕ) → G k → (g ≡ k) ⊎ (g ≡ k → ⊥) → leads_row s (found (with_row s g f) k) ≡ true
     leads k i (inl e) = subst (λ z. leads_row s (found (with_row s g f) z) ≡ true) e (ap (leads_row s) here ∙ lead ∙ a.led g (subst G (sym e) i))
@@ -236,15 +358,19 @@ module _ (h : Frame) where
   -- other groups
   pub at_for : (T G U V : List ℕ → Type 0) (s : Core) → ((g : List ℕ) → U g → T g) → ((g : List ℕ) → V g → leads_row s (found s g) ≡ true) → At h T G s → At h U V s
   at_for T G U V s less led a =
-      record { rows = record { order = a.rows.order; starts = a.rows.starts; tallies = λ g t. a.rows.tallies g (less g t); led = led }; facts = a.facts; states = a.states }
+      record { came = a.came; rows = record { order = a.rows.order; starts = a.rows.starts; tallies = λ g t. a.rows.tallies g (less g t); led = led }; facts = a.facts; states = a.states }
 
   -- the entry is put at the end of a list
-  pub at_put_for : (T G U : List ℕ → Type 0) (s : Core) (g : List ℕ) (e : Entry) → PutFact (reverse s.records) h.history s.views.me s.views.view g (len_in (found s g).list) e → ((k : List ℕ) → U k → (g ≡ k → ⊥) → T k) → (U g → RowIs (leads_row s (found s g)) (record (found s g) { list = Some (with_entry (list_or_new (found s g).list) s.views.view e) })) → At h T G s → At h U G (put s g e)
+  pub at_put_for : (T G U : List ℕ → Type 0) (s : Core) (g : List ℕ) (e : Entry) → PutFact (reverse s.records) h.history s.views.me s.views.view g (len_in (found s g).list) e → ((k : List ℕ) → U k → (g ≡ k → ⊥) → T k) → (U g → RowIs (leads_row s (found s g)) (record (found s g) { list = Some (with_entry (list_or_new (found s g).list) s.views.view e) })) → At h T G s → At (record h { floors = loosened h.floors g }) U G (put s g e)
   unfolding put recorded with_row row_of len_of list_of with_entry
   at_put_for T G U s g e fact others own a =
       let f : GroupRow → GroupRow = λ row. record row { list = Some (with_entry (list_or_new row.list) s.views.view e) } in
-      let rows : Rows h.sent U G (with_row s g f) = rows_for h.sent T G U s g f (λ x. refl) (λ x. refl) others own (a.rows.starts g) a.rows in
+      let old = a.rows.starts g in
+      let longer : least_at (seat s) (found s g) ≤ least_at (seat s) (f (found s g)) = least_more (seat s) (found s g) (f (found s g)) (omega arith) (λ m. omega arith) in
+      let begins : RowStarts (loosened h.floors g) (seat s) g (f (found s g)) = record { told = old.told; goes = old.goes; acked = old.acked; within = let z = old.within in omega arith; below = λ e. let z = old.below e in omega arith; least = λ e. absurd (loose_here h.floors g e); empty = λ e. absurd (loose_here h.floors g e) } in
+      let rows : Rows (loosened h.floors g) U G (with_row s g f) = rows_for h.floors (loosened h.floors g) T G U s g f (λ x. refl) (λ x. refl) others own begins (λ k ne z. loosen_beside h.floors (seat s) g k (found s k) ne z) a.rows in
       record {
+        came = came_more h.entered h.view s.views.me s.views.view s.records (r ∷ []) a.came;
         rows = record { order = rows.order; starts = rows.starts; tallies = rows.tallies; led = rows.led };
         facts = subst (Facts h.history) (sym turned) (fact, a.facts);
         states = λ fresh. subst (λ rs. (k : List ℕ) → StateIs s.views.me s.views.view k (found (with_row s g f) k).list (earlier rs h.history)) (sym turned) (new (subst (λ rs. Fresh rs h.history) turned fresh).1);
@@ -268,18 +394,19 @@ module _ (h : Frame) where
     pub at_calm : (c d : Core) → Calm c d → At h T G c → At h T G d
     at_calm c d k a =
         let x : At h T G (record c { groups = d.groups; views = d.views; config = d.config; records = d.records }) = subst (λ (z : List GroupRow × Views × Config × List Happened). At h T G (record c { groups = z.0; views = z.1; config = z.2; records = z.3 })) (λ i. (sym k.groups i, sym k.views i, sym k.config i, sym k.records i)) a in
-        record { rows = record { order = x.rows.order; starts = x.rows.starts; tallies = x.rows.tallies; led = x.rows.led }; facts = x.facts; states = x.states }
+        record { came = x.came; rows = record { order = x.rows.order; starts = x.rows.starts; tallies = x.rows.tallies; led = x.rows.led }; facts = x.facts; states = x.states }
 
     -- the coordinator's table changes
     pub at_table : (s : Core) (table : List Leader) → At h T G s → At h T G (record s { names = table })
     at_table s table a =
-        record { rows = record { order = a.rows.order; starts = a.rows.starts; tallies = a.rows.tallies; led = a.rows.led }; facts = a.facts; states = a.states }
+        record { came = a.came; rows = record { order = a.rows.order; starts = a.rows.starts; tallies = a.rows.tallies; led = a.rows.led }; facts = a.facts; states = a.states }
 
     pub at_recorded : (s : Core) (r : Happened) → Silent r → At h T G s → At h T G (recorded s r)
     unfolding recorded
     at_recorded s r silent a =
         let turned : reverse (s.records ++ r ∷ []) ≡ r ∷ reverse s.records = reverse-append s.records (r ∷ []) in
         record {
+          came = came_more h.entered h.view s.views.me s.views.view s.records (r ∷ []) a.came;
           rows = record { order = a.rows.order; starts = a.rows.starts; tallies = a.rows.tallies; led = a.rows.led };
           facts = subst (Facts h.history) (sym turned) (silent_fact h.history (reverse s.records) r silent a.facts);
           states = λ fresh. subst (λ rs. (k : List ℕ) → StateIs s.views.me s.views.view k (found s k).list (earlier rs h.history)) (sym turned) (λ k. silent_state s.views.me s.views.view k (found s k).list (earlier (reverse s.records) h.history) r silent (a.states (subst (λ rs. Fresh rs h.history) turned fresh).1 k));
@@ -291,10 +418,11 @@ module _ (h : Frame) where
     at_recorded_all (r ∷ rs) s none a =
         subst (λ l. At h T G (record s { records = l })) (append_assoc s.records (r ∷ []) rs) (at_recorded_all rs (recorded s r) (λ x i. none x (inr i)) (at_recorded s r (none r (inl refl)) a))
 
-    pub at_views : (s : Core) (v : Views) → v.me ≡ s.views.me → v.view ≡ s.views.view → At h T G s → At h T G (record s { views = v })
-    at_views s v me at a =
+    pub at_views : (s : Core) (v : Views) → v.me ≡ s.views.me → v.view ≡ s.views.view → v.members ≡ s.views.members → At h T G s → At h T G (record s { views = v })
+    at_views s v me at ms a =
         record {
-          rows = record { order = a.rows.order; starts = λ g. subst (λ (z : ℕ × ViewId × Bool). StartIs (WasTold h.sent z.0 z.1 g) z.2 (found s g).list) (λ i. (sym me i, sym at i, same g i)) (a.rows.starts g); tallies = λ g t. subst (λ b. RowIs b (found s g)) (same g) (a.rows.tallies g t); led = λ g t. sym (same g) ∙ a.rows.led g t };
+          came = subst (λ (z : ℕ × ViewId). Came h.entered h.view z.0 z.1 s.records) (λ i. (sym me i, sym at i)) a.came;
+          rows = record { order = a.rows.order; starts = λ g. subst (λ (z : Seat). RowStarts h.floors z g (found s g)) (λ i. record { me = sym me i; coord = (sym at i).coord; mode = s.config.mode; members = sym ms i }) (a.rows.starts g); tallies = λ g t. subst (λ b. RowIs b (found s g)) (same g) (a.rows.tallies g t); led = λ g t. sym (same g) ∙ a.rows.led g t };
           facts = a.facts;
           states = λ fresh k. subst (λ (z : ℕ × ViewId). StateIs z.0 z.1 k (found s k).list (earlier (reverse s.records) h.history)) (λ i. (sym me i, sym at i)) (a.states fresh k);
         }
@@ -303,20 +431,21 @@ module _ (h : Frame) where
         same g = λ i. is_this (sym me i) (leader_by s.config.mode (sym at i).coord (found s g).leader)
 
     -- a row changes, whose list has the same state and length
-    module _ (U : List ℕ → Type 0) where
-      pub at_row_for : (s : Core) (g : List ℕ) (f : GroupRow → GroupRow) → KeepsName f → ((x : GroupRow) → (f x).leader ≡ x.leader) → ((x : GroupRow) → state_in (f x).list ≡ state_in x.list) → ((x : GroupRow) → len_in (f x).list ≡ len_in x.list) → ((k : List ℕ) → U k → (g ≡ k → ⊥) → T k) → (U g → RowIs (leads_row s (found s g)) (f (found s g))) → StartIs (ToldOf h.sent s g) (leads_row s (found s g)) (f (found s g)).list → At h T G s → At h U G (with_row s g f)
+    module _ (y : Floors) (U : List ℕ → Type 0) where
+      pub at_row_for : (s : Core) (g : List ℕ) (f : GroupRow → GroupRow) → KeepsName f → ((x : GroupRow) → (f x).leader ≡ x.leader) → ((x : GroupRow) → state_in (f x).list ≡ state_in x.list) → ((x : GroupRow) → len_in (f x).list ≡ len_in x.list) → ((k : List ℕ) → U k → (g ≡ k → ⊥) → T k) → (U g → RowIs (leads_row s (found s g)) (f (found s g))) → RowStarts y (seat s) g (f (found s g)) → ((k : List ℕ) → (g ≡ k → ⊥) → RowStarts h.floors (seat s) k (found s k) → RowStarts y (seat s) k (found s k)) → At h T G s → At (record h { floors = y }) U G (with_row s g f)
       unfolding with_row
-      at_row_for s g f keeps leader states lens others own begins a =
-          let rows : Rows h.sent U G (with_row s g f) = rows_for h.sent T G U s g f keeps leader others own begins a.rows in
+      at_row_for s g f keeps leader states lens others own begins rest a =
+          let rows : Rows y U G (with_row s g f) = rows_for h.floors y T G U s g f keeps leader others own begins rest a.rows in
           record {
+            came = a.came;
             rows = record { order = rows.order; starts = rows.starts; tallies = rows.tallies; led = rows.led };
             facts = a.facts;
             states = λ fresh. list_with (λ k l. StateIs s.views.me s.views.view k l (earlier (reverse s.records) h.history)) s g f keeps a.rows.order (let b = a.states fresh g in record { state = states (found s g) ∙ b.state; len = lens (found s g) ∙ b.len }) (λ k ne. a.states fresh k);
           }
 
-    pub at_row : (s : Core) (g : List ℕ) (f : GroupRow → GroupRow) → KeepsName f → ((x : GroupRow) → (f x).leader ≡ x.leader) → ((x : GroupRow) → state_in (f x).list ≡ state_in x.list) → ((x : GroupRow) → len_in (f x).list ≡ len_in x.list) → ((x : GroupRow) → start_in (f x).list ≡ start_in x.list) → (T g → RowIs (leads_row s (found s g)) (f (found s g))) → At h T G s → At h T G (with_row s g f)
-    at_row s g f keeps leader states lens starts own a =
-        at_row_for T s g f keeps leader states lens (λ k t ne. t) own (subst (λ i. (i ≡ 0) ⊎ ((leads_row s (found s g) ≡ true) ⊎ ToldOf h.sent s g i)) (sym (starts (found s g))) (a.rows.starts g)) a
+    pub at_row : (s : Core) (g : List ℕ) (f : GroupRow → GroupRow) → KeepsName f → ((x : GroupRow) → (f x).leader ≡ x.leader) → ((x : GroupRow) → state_in (f x).list ≡ state_in x.list) → ((x : GroupRow) → len_in (f x).list ≡ len_in x.list) → ((x : GroupRow) → start_in (f x).list ≡ start_in x.list) → ((x : GroupRow) (m : ℕ) → acked_from m (f x).led.acked ≡ acked_from m x.led.acked) → (T g → RowIs (leads_row s (found s g)) (f (found s g))) → At h T G s → At h T G (with_row s g f)
+    at_row s g f keeps leader states lens starts acked own a =
+        at_row_for h.floors T s g f keeps leader states lens (λ k t ne. t) own (row_same (seat s) g (found s g) (f (found s g)) (leader (found s g)) (starts (found s g)) (lens (found s g)) (acked (found s g)) (a.rows.starts g)) (λ k ne z. z) a
 
     -- what the leader puts
     pub put_fact : (s : Core) (g : List ℕ) (e : Entry) → HasRows (state_in (found s g).list) e → At h T G s → PutFact (reverse s.records) h.history s.views.me s.views.view g (len_in (found s g).list) e

@@ -43,7 +43,7 @@ module _ (h : Frame) where
 
     pub at_decision : (s : Core) (g : List ℕ) (p : ProviderId) (r : ℕ) (y : Option Why) → At h T G s → At h T G (keep_decision s g p r y)
     unfolding keep_decision
-    at_decision s g p r y a = at_led h T G s g (λ l. record l { decided = decisions_with (record { p = p; r = r; why = y }) l.decided }) (λ l. refl) a
+    at_decision s g p r y a = at_led h T G s g (λ l. record l { decided = decisions_with (record { p = p; r = r; why = y }) l.decided }) (λ l. refl) (λ l. refl) a
 
     pub at_refused : (s : Core) (g : List ℕ) (p : ProviderId) (r : ℕ) (y : Why) → At h T G s → At h T G (refused s g p r y)
     unfolding refused
@@ -52,7 +52,7 @@ module _ (h : Frame) where
     at_decided_join : (s : Core) (g : List ℕ) (p : ProviderId) (r : ℕ) (attrs : Attrs) (o : Option Why) → At h T G s → At h T G (decide_join s g p r attrs o)
     unfolding decide_join wait_join
     at_decided_join s g p r attrs None a =
-        at_led h T G (keep_decision s g p r None) g (λ l. record l { waiting = waits_join p l.waiting; join_attrs = keep_attrs l.join_attrs p attrs (is_idle_empty (state_of s g)) }) (λ l. refl) (at_decision s g p r None a)
+        at_led h T G (keep_decision s g p r None) g (λ l. record l { waiting = waits_join p l.waiting; join_attrs = keep_attrs l.join_attrs p attrs (is_idle_empty (state_of s g)) }) (λ l. refl) (λ l. refl) (at_decision s g p r None a)
     at_decided_join s g p r attrs (Some y) a = at_refused s g p r y a
 
     at_decided_other : (f : Answering) (s : Core) (g : List ℕ) (p : ProviderId) (r : ℕ) (phases : Phases) (x : Proposal) (o : Option Why) → T g → G g → At h T G s → At h T G (decide_change f s g p r phases x o)

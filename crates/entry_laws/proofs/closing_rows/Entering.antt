@@ -1,5 +1,5 @@
 -- Entering a view, and what a rule of views leaves.
-use Rattle.std.proofs.Common.{◌≡◌, ℕ, List, [], ◌∷◌, ◌++◌, length, Option, Some, None, Bool, true, false, refl, sym, ap, ◌∙◌, subst, inl, inr, ⊎_elim, append_assoc, append-nil, arith}
+use Rattle.std.proofs.Common.{◌≡◌, ◌⊎◌, ℕ, List, [], ◌∷◌, ◌++◌, length, Option, Some, None, Bool, true, false, refl, sym, ap, ◌∙◌, subst, inl, inr, ⊎_elim, append_assoc, append-nil, arith}
 use Rattle.std.specs.Prelude.{◌==◌, ◌&&◌, not, map, filter, fold, find, flat_map, reverse, is_some, if◌then◌else◌}
 use Rattle.std.specs.Option.{option_map}
 use Rattle.std.specs.Str.{bytes_eq}
@@ -10,7 +10,7 @@ use Rattle.rsct_packet.specs.declared.ids.ProviderId.{ProviderId}
 use Rattle.rsct_packet.specs.Ids.{same_view}
 use Rattle.rsct_packet.specs.Providers.{among}
 use Rattle.rsct_packet.specs.Search.{Has}
-use Rattle.rsct_packet.proofs.HasLaws.{has_append}
+use Rattle.rsct_packet.proofs.HasLaws.{has_append, append_has_right}
 use Rattle.group_attr.specs.Attrs.{host_membership}
 use Rattle.proposal_core.specs.declared.proposal.Cause.TheVariants.{Died}
 use Rattle.proposal_core.specs.declared.group_state.GroupState.{GroupState}
@@ -35,7 +35,7 @@ use Rattle.node_state.specs.declared.happened.Happened.{Happened}
 use Rattle.node_state.specs.declared.happened.Happened.TheVariants as happened
 use Rattle.node_state.specs.declared.packet.Body.TheVariants as body
 use Rattle.node_state.specs.declared.state.Core.{Core}
-use Rattle.node_state.specs.State.{InNameOrder, AllAfter, row_found, state_of, held_rows, recorded_all, with_sessions, has_name}
+use Rattle.node_state.specs.State.{InNameOrder, AllAfter, new_row, row_found, state_of, held_rows, recorded_all, with_sessions, has_name}
 use Rattle.node_state.specs.Sending.{sent, send_requests, send_votes_again}
 use Rattle.node_state.specs.HandOn.{Answering, subscriber_name, note_of}
 use Rattle.node_state.specs.Leading.{with_waiting, tally_opened}
@@ -43,8 +43,7 @@ use Rattle.node_state.specs.Applying.{Lacking, lacking, fill_lists, level_set, b
 use Rattle.run_safety.specs.Past.{History, earlier, puts_of, base_of, fold_from, state_now}
 use Rattle.node_state.proofs.NameOrder.{none_after, text_same}
 use Rattle.step_refinement.proofs.BaseOrder.{bases_ordered, row_of_base, base_noted}
-use Rattle.entry_laws.specs.closing_rows.Rows.{start_in}
-use Rattle.entry_laws.proofs.closing_rows.At.{Frame, Fresh, Facts, StateIs, Silent, calm_fold, At, at_fold, at_calm, at_recorded, at_recorded_all, at_views}
+use Rattle.entry_laws.proofs.closing_rows.At.{Frame, seat, RowStarts, nothing_said, fresh_row, Fresh, Facts, StateIs, Silent, calm_fold, At, at_fold, at_calm, at_recorded, at_recorded_all, at_views}
 use Rattle.entry_laws.proofs.closing_rows.Calms.{calm_sent, calm_sessions, owed_calm}
 use Rattle.entry_laws.proofs.closing_rows.Leading.{at_waits, at_opened_anew, at_closes}
 use Rattle.entry_laws.proofs.closing_rows.Ending.{Every, NoGroup, at_led_groups}
@@ -133,65 +132,6 @@ module _ (h : Frame) where
   abbrev Full : Core → Type 0
   Full s = At h Every NoGroup s
 
-  -- (2) in a view that is entered lists are those of the bases, and nothing is counted yet
-  at_view_entered : (s : Core) (i : Install) → Full (view_entered s i (bases_of i))
-  unfolding view_entered level_set base_record base_row views_entered own_install with_sessions recorded_all
-  at_view_entered s i =
-      record {
-        rows = record { order = bases_ordered i; starts = λ g. inl (start g); tallies = λ g u. inl (tally g); led = λ g z. absurd z };
-        facts = subst (λ l. Facts h.history (reverse l)) same (based_facts h.history s.views.me i.view bs rs (subst (Facts h.history) (sym entering) tt));
-        states = λ fresh g. state g (fresh_there (subst (λ l. Fresh (reverse l) h.history) (sym same) fresh));
-      }
-    where
-      bs : List Base
-      bs = bases_of i
-
-      enters : Happened
-      enters = happened.In s.views.me i.view i.members
-
-      rs : List Happened
-      rs = s.records ++ enters ∷ []
-
-      same : rs ++ map (base_noted s.views.me i.view) bs ≡ s.records ++ enters ∷ map (base_noted s.views.me i.view) bs
-      same = append_assoc s.records (enters ∷ []) (map (base_noted s.views.me i.view) bs)
-
-      entering : reverse rs ≡ enters ∷ reverse s.records
-      entering = reverse-append s.records (enters ∷ [])
-
-      tally : (g : List ℕ) → (row_found g (find (has_name g) (map base_row bs))).led.tally ≡ None
-      tally g = ap (λ o. (row_found g o).led.tally) (row_of_base g bs) ∙ by (base_named bs g)
-        where
-          by : (o : Option Base) → (row_found g (option_map base_row o)).led.tally ≡ None
-          by None = refl
-          by (Some b) = refl
-
-      start : (g : List ℕ) → start_in (row_found g (find (has_name g) (map base_row bs))).list ≡ 0
-      start g = ap (λ o. start_in (row_found g o).list) (row_of_base g bs) ∙ by (base_named bs g)
-        where
-          by : (o : Option Base) → start_in (row_found g (option_map base_row o)).list ≡ 0
-          by None = refl
-          by (Some b) = refl
-
-      fresh_there : Fresh (reverse (rs ++ map (base_noted s.views.me i.view) bs)) h.history → (g : List ℕ) → (puts_of s.views.me i.view g (earlier (reverse s.records) h.history) ≡ []) × (base_of s.views.me i.view g (earlier (reverse s.records) h.history) ≡ empty_state)
-      fresh_there k = (subst (λ l. Fresh l h.history) entering (based_fresh h.history s.views.me i.view bs rs k)).0
-
-      state : (g : List ℕ) → ((k : List ℕ) → (puts_of s.views.me i.view k (earlier (reverse s.records) h.history) ≡ []) × (base_of s.views.me i.view k (earlier (reverse s.records) h.history) ≡ empty_state)) → StateIs s.views.me i.view g (row_found g (find (has_name g) (map base_row bs))).list (earlier (reverse (s.records ++ enters ∷ map (base_noted s.views.me i.view) bs)) h.history)
-      state g k =
-          subst (λ l. StateIs s.views.me i.view g (row_found g (find (has_name g) (map base_row bs))).list (earlier (reverse l) h.history)) same (subst (λ o. StateIs s.views.me i.view g (row_found g o).list (earlier (pushed h.history s.views.me i.view rs bs) h.history)) (sym (row_of_base g bs)) (of (base_named bs g) base))
-        where
-          puts : puts_of s.views.me i.view g (earlier (pushed h.history s.views.me i.view rs bs) h.history) ≡ []
-          puts = based_puts h.history s.views.me i.view g bs rs ∙ ap (λ l. puts_of s.views.me i.view g (earlier l h.history)) entering ∙ (k g).0
-
-          base : base_of s.views.me i.view g (earlier (pushed h.history s.views.me i.view rs bs) h.history) ≡ state_named (base_named bs g) empty_state
-          base = based_base h.history s.views.me i.view g bs rs ∙ ap (λ l. last_state g bs (base_of s.views.me i.view g (earlier l h.history))) entering ∙ ap (last_state g bs) (k g).1 ∙ last_is_named g bs empty_state (bases_ordered i)
-
-          state_is : state_now s.views.me i.view g (earlier (pushed h.history s.views.me i.view rs bs) h.history) ≡ base_of s.views.me i.view g (earlier (pushed h.history s.views.me i.view rs bs) h.history)
-          state_is = ap (fold_from i.view (base_of s.views.me i.view g (earlier (pushed h.history s.views.me i.view rs bs) h.history)) 0) puts
-
-          of : (o : Option Base) → base_of s.views.me i.view g (earlier (pushed h.history s.views.me i.view rs bs) h.history) ≡ state_named o empty_state → StateIs s.views.me i.view g (row_found g (option_map base_row o)).list (earlier (pushed h.history s.views.me i.view rs bs) h.history)
-          of None e = record { state = sym (state_is ∙ e); len = sym (ap length puts) }
-          of (Some b) e = record { state = sym (state_is ∙ e); len = sym (ap length puts) }
-
   -- (3)
   at_dissolved : (s : Core) (p : ProviderId) (r : ℕ) → Full s → Full (dissolved s p r)
   unfolding dissolved
@@ -273,30 +213,102 @@ module _ (h : Frame) where
   unfolding lead_groups
   at_groups_led f s a = at_led_groups h (lead f) (at_group_led f) s a
 
-  at_entered : (f : Answering) (s : Core) (i : Install) (xs : List Lacking) → Full (entered f s i xs)
+-- the node has entered a view, in which nothing was told, led or acknowledged yet
+abbrev pub entering : Frame → Frame
+entering h = record h { entered = true; floors = nothing_said }
+
+module _ (h : Frame) where
+  abbrev Entered : Core → Type 0
+  Entered s = At (entering h) Every NoGroup s
+
+  abbrev Stayed : Core → Type 0
+  Stayed s = At h Every NoGroup s
+
+  -- (2) in a view that is entered lists are those of the bases, and nothing is counted yet
+  at_view_entered : (s : Core) (i : Install) → Entered (view_entered s i (bases_of i))
+  unfolding view_entered level_set base_record base_row views_entered own_install with_sessions recorded_all
+  at_view_entered s i =
+      record {
+        came = (i.members, append_has_right enters s.records (enters ∷ map (base_noted s.views.me i.view) bs) (inl refl));
+        rows = record { order = bases_ordered i; starts = start; tallies = λ g u. inl (tally g); led = λ g z. absurd z };
+        facts = subst (λ l. Facts h.history (reverse l)) same (based_facts h.history s.views.me i.view bs rs (subst (Facts h.history) (sym entering) tt));
+        states = λ fresh g. state g (fresh_there (subst (λ l. Fresh (reverse l) h.history) (sym same) fresh));
+      }
+    where
+      bs : List Base
+      bs = bases_of i
+
+      enters : Happened
+      enters = happened.In s.views.me i.view i.members
+
+      rs : List Happened
+      rs = s.records ++ enters ∷ []
+
+      same : rs ++ map (base_noted s.views.me i.view) bs ≡ s.records ++ enters ∷ map (base_noted s.views.me i.view) bs
+      same = append_assoc s.records (enters ∷ []) (map (base_noted s.views.me i.view) bs)
+
+      entering : reverse rs ≡ enters ∷ reverse s.records
+      entering = reverse-append s.records (enters ∷ [])
+
+      tally : (g : List ℕ) → (row_found g (find (has_name g) (map base_row bs))).led.tally ≡ None
+      tally g = ap (λ o. (row_found g o).led.tally) (row_of_base g bs) ∙ by (base_named bs g)
+        where
+          by : (o : Option Base) → (row_found g (option_map base_row o)).led.tally ≡ None
+          by None = refl
+          by (Some b) = refl
+
+      start : (g : List ℕ) → RowStarts nothing_said (seat (view_entered s i (bases_of i))) g (row_found g (find (has_name g) (map base_row bs)))
+      start g = subst (λ o. RowStarts nothing_said (seat (view_entered s i (bases_of i))) g (row_found g o)) (sym (row_of_base g bs)) (by (base_named bs g))
+        where
+          by : (o : Option Base) → RowStarts nothing_said (seat (view_entered s i (bases_of i))) g (row_found g (option_map base_row o))
+          by None = fresh_row (seat (view_entered s i (bases_of i))) g (new_row g) refl refl refl
+          by (Some b) = fresh_row (seat (view_entered s i (bases_of i))) g (base_row b) refl refl refl
+
+      fresh_there : Fresh (reverse (rs ++ map (base_noted s.views.me i.view) bs)) h.history → (g : List ℕ) → (puts_of s.views.me i.view g (earlier (reverse s.records) h.history) ≡ []) × (base_of s.views.me i.view g (earlier (reverse s.records) h.history) ≡ empty_state)
+      fresh_there k = (subst (λ l. Fresh l h.history) entering (based_fresh h.history s.views.me i.view bs rs k)).0
+
+      state : (g : List ℕ) → ((k : List ℕ) → (puts_of s.views.me i.view k (earlier (reverse s.records) h.history) ≡ []) × (base_of s.views.me i.view k (earlier (reverse s.records) h.history) ≡ empty_state)) → StateIs s.views.me i.view g (row_found g (find (has_name g) (map base_row bs))).list (earlier (reverse (s.records ++ enters ∷ map (base_noted s.views.me i.view) bs)) h.history)
+      state g k =
+          subst (λ l. StateIs s.views.me i.view g (row_found g (find (has_name g) (map base_row bs))).list (earlier (reverse l) h.history)) same (subst (λ o. StateIs s.views.me i.view g (row_found g o).list (earlier (pushed h.history s.views.me i.view rs bs) h.history)) (sym (row_of_base g bs)) (of (base_named bs g) base))
+        where
+          puts : puts_of s.views.me i.view g (earlier (pushed h.history s.views.me i.view rs bs) h.history) ≡ []
+          puts = based_puts h.history s.views.me i.view g bs rs ∙ ap (λ l. puts_of s.views.me i.view g (earlier l h.history)) entering ∙ (k g).0
+
+          base : base_of s.views.me i.view g (earlier (pushed h.history s.views.me i.view rs bs) h.history) ≡ state_named (base_named bs g) empty_state
+          base = based_base h.history s.views.me i.view g bs rs ∙ ap (λ l. last_state g bs (base_of s.views.me i.view g (earlier l h.history))) entering ∙ ap (last_state g bs) (k g).1 ∙ last_is_named g bs empty_state (bases_ordered i)
+
+          state_is : state_now s.views.me i.view g (earlier (pushed h.history s.views.me i.view rs bs) h.history) ≡ base_of s.views.me i.view g (earlier (pushed h.history s.views.me i.view rs bs) h.history)
+          state_is = ap (fold_from i.view (base_of s.views.me i.view g (earlier (pushed h.history s.views.me i.view rs bs) h.history)) 0) puts
+
+          of : (o : Option Base) → base_of s.views.me i.view g (earlier (pushed h.history s.views.me i.view rs bs) h.history) ≡ state_named o empty_state → StateIs s.views.me i.view g (row_found g (option_map base_row o)).list (earlier (pushed h.history s.views.me i.view rs bs) h.history)
+          of None e = record { state = sym (state_is ∙ e); len = sym (ap length puts) }
+          of (Some b) e = record { state = sym (state_is ∙ e); len = sym (ap length puts) }
+
+  at_entered : (f : Answering) (s : Core) (i : Install) (xs : List Lacking) → Entered (entered f s i xs)
   unfolding entered
   at_entered f s i xs =
       let t : Core = fill_lists f s xs in
       let bs : List Base = bases_of i in
       let v : Core = view_entered t i bs in
       let d : Core = sides_dissolved v (held_rows t) t.views.view bs in
-      let e : Full d = at_sides v (held_rows t) t.views.view bs (at_view_entered t i) in
-      at_groups_led f (owed_sent (taken_sent (entering_noted d bs))) (at_owed_sent (taken_sent (entering_noted d bs)) (at_taken_sent (entering_noted d bs) (at_entering_noted d bs e)))
+      let j : Frame = entering h in
+      let e : Entered d = at_sides j v (held_rows t) t.views.view bs (at_view_entered t i) in
+      at_groups_led j f (owed_sent (taken_sent (entering_noted d bs))) (at_owed_sent j (taken_sent (entering_noted d bs)) (at_taken_sent j (entering_noted d bs) (at_entering_noted j d bs e)))
 
-  at_applied : (f : Answering) (s : Core) (o : Option Install) → Full s → Full (apply_install f s o)
+  at_applied : (f : Answering) (s : Core) (o : Option Install) → Stayed s → Entered (apply_install f s o) ⊎ Stayed (apply_install f s o)
   unfolding apply_install entered_if
-  at_applied f s None a = a
+  at_applied f s None a = inr a
   at_applied f s (Some i) a = by (lacking s i)
     where
-      by : (o : Option (List Lacking)) → Full (entered_if f s i o)
-      by None = a
-      by (Some xs) = at_entered f s i xs
+      by : (o : Option (List Lacking)) → Entered (entered_if f s i o) ⊎ Stayed (entered_if f s i o)
+      by None = inr a
+      by (Some xs) = inl (at_entered f s i xs)
 
   -- ---- a rule of views
 
-  pub at_views_taken : (f : Answering) (s : Core) (w : ViewWork) → Stays s.views w → Full s → Full (views_taken f s w)
+  pub at_views_taken : (f : Answering) (s : Core) (w : ViewWork) → Stays s.views w → Stayed s → Entered (views_taken f s w) ⊎ Stayed (views_taken f s w)
   unfolding views_taken
   at_views_taken f s w k a =
       let c : Core = record s { views = w.views } in
       let d : Core = fold (λ t (x : ViewSend). sent t x.to (body.View x.packet)) c w.sends in
-      at_applied f d w.install (at_calm h Every NoGroup c d (calm_fold (λ t (x : ViewSend). sent t x.to (body.View x.packet)) (λ t x. calm_sent t x.to (body.View x.packet)) w.sends c) (at_views h Every NoGroup s w.views k.me k.view a))
+      at_applied f d w.install (at_calm h Every NoGroup c d (calm_fold (λ t (x : ViewSend). sent t x.to (body.View x.packet)) (λ t x. calm_sent t x.to (body.View x.packet)) w.sends c) (at_views h Every NoGroup s w.views k.me k.view k.members a))

@@ -1,6 +1,6 @@
 -- The rows of packets of a view.
-use Rattle.std.proofs.Common.{◌≡◌, ◌⊎◌, ℕ, List, Option, Some, None, Bool, true, false, refl, sym, ap, ◌∙◌, subst, inl, inr}
-use Rattle.std.specs.Prelude.{◌==◌, ◌&&◌, ◌||◌, find, fold, reverse, nat_le, nat_lt, is_none}
+use Rattle.std.proofs.Common.{◌≡◌, ◌≤◌, ◌⊎◌, ℕ, ◌+◌, List, Option, Some, None, Bool, true, false, refl, sym, ap, ◌∙◌, subst, inl, inr, arith}
+use Rattle.std.specs.Prelude.{◌==◌, ◌&&◌, ◌||◌, find, fold, reverse, nat_le, nat_lt, is_none, is_some}
 use Rattle.std.specs.Option.{unwrap_or}
 use Rattle.rsct_packet.specs.declared.ids.ProviderId.{ProviderId}
 use Rattle.rsct_packet.specs.declared.ids.ProtoId.{ProtoId}
@@ -11,7 +11,8 @@ use Rattle.proposal_core.specs.declared.proposal.Proposal.{Proposal}
 use Rattle.proposal_core.specs.declared.entry.Entry.{Entry}
 use Rattle.proposal_core.specs.declared.entry.Vote.{Vote}
 use Rattle.proposal_core.specs.Fold.{runs, present}
-use Rattle.proposal_core.specs.Lists.{state_in, len_in}
+use Rattle.proposal_core.specs.GroupView.{GroupView}
+use Rattle.proposal_core.specs.Lists.{state_in, len_in, with_entry}
 use Rattle.batch_rules.specs.Waiting.{add_failure, drop_join}
 use Rattle.vote_phases.specs.Tally.{TallyView, tally_fail}
 use Rattle.name_server.specs.Names as names
@@ -21,10 +22,11 @@ use Rattle.session_state.specs.declared.state.Request.{Request}
 use Rattle.view_state.specs.declared.views.Views.{Views}
 use Rattle.node_state.specs.declared.group.Decision.{Decision}
 use Rattle.node_state.specs.declared.group.GroupRow.{GroupRow}
+use Rattle.node_state.specs.declared.group.Led.{Led}
 use Rattle.node_state.specs.declared.packet.Body.TheVariants as body
 use Rattle.node_state.specs.declared.state.Core.{Core}
 use Rattle.node_state.specs.Settings.{is_fixed}
-use Rattle.node_state.specs.State.{leader_by, InNameOrder, row_found, row_of, with_row, with_led, led_of, state_of, len_of, holds, fits_at_end, forget_below, coordinates, is_this, leader_in, leader_of, leads_in, leads, set_leader, acked_raised, decision_of, recorded, has_name}
+use Rattle.node_state.specs.State.{acked_from, leader_by, InNameOrder, row_found, row_of, with_row, with_led, led_of, state_of, len_of, holds, fits_at_end, forget_below, coordinates, is_this, leader_in, leader_of, leads_in, leads, set_leader, acked_raised, decision_of, recorded, has_name}
 use Rattle.node_state.specs.Sending.{sent, send_on, send_request}
 use Rattle.node_state.specs.HandOn.{Answering}
 use Rattle.node_state.specs.Leading.{forget_least, put, put_and_hand, with_waiting, with_tally, closes}
@@ -33,13 +35,12 @@ use Rattle.node_state.specs.Following.{take_lookup, take_tell, requests_of, name
 use Rattle.run_safety.specs.Past.{earlier}
 use Rattle.node_state.proofs.NameOrder.{cases_text, row_here, row_there, rows_ordered}
 use Rattle.step_refinement.proofs.Appending.{handed_rows}
-use Rattle.entry_laws.specs.closing_rows.Rows.{TallyFits}
+use Rattle.entry_laws.specs.closing_rows.Rows.{TallyFits, start_in}
 use Rattle.row_laws.proofs.hearing.Changes.{put_handed_onward}
-use Rattle.entry_laws.specs.closing_rows.Rows.{WasTold}
-use Rattle.entry_laws.proofs.closing_rows.At.{found, leads_row, leads_is, RowIs, StartIs, ToldOf, Frame, PutFact, StateIs, calm_fold, At, at_for, at_fold, at_calm, at_table, at_row, list_with}
+use Rattle.entry_laws.proofs.closing_rows.At.{found, leads_row, leads_is, seat, leader_at, leads_by, least_at, loosened, loosen_beside, RowStarts, RowIs, Frame, PutFact, StateIs, calm_fold, At, at_for, at_fold, at_calm, at_table, at_row, at_row_for, list_with}
 use Rattle.entry_laws.proofs.closing_rows.Calms.{calm_sent, request_calm, at_tell}
 use Rattle.entry_laws.proofs.closing_rows.Tallies.{failed_fits, voted_fits}
-use Rattle.entry_laws.proofs.closing_rows.Leading.{put_row, at_put_and_handed_for, at_led, at_waits, at_forgets, at_forgets_least, at_closes}
+use Rattle.entry_laws.proofs.closing_rows.Leading.{put_row, raised, acknowledged, acked_beside, row_named, row_noted, row_followed, row_away, row_known, row_acked, at_put_and_handed_for, at_led, at_waits, at_forgets_least, at_told, at_told_next, at_told_less, at_closes}
 use Rattle.entry_laws.proofs.closing_rows.Ending.{Every, NoGroup, at_decided}
 
 -- a vote is counted
@@ -52,37 +53,57 @@ row_voted led row p v value message k = by row.led.tally refl k
     by (Some t) e (inl none) = let z : Some t ≡ None = sym e ∙ none in absurd (cc)
     by (Some t) e (inr j) = inr (j.0, voted_fits p v t (state_in row.list) (subst (λ z. TallyFits z (state_in row.list)) e j.1))
 
+-- what is acknowledged stays where a vote is counted
+voted_acks : (l : Led) (p : ProviderId) (v : Vote) (value message : Option (List ℕ)) (o : Option TallyView) (m : ℕ) → acked_from m (vote_cast l p v value message o).acked ≡ acked_from m l.acked
+unfolding vote_cast
+voted_acks l p v value message None m = refl
+voted_acks l p v value message (Some t) m = refl
+
+not_true : (b : Bool) → (b ≡ true → ⊥) → b ≡ false
+not_true true never = absurd (never refl)
+not_true false never = refl
+
+-- an ACK is taken
+abbrev pub acked_if : Frame → List ℕ → ℕ → ℕ → Bool → Frame
+acked_if h g m n true = record h { floors = acknowledged h.floors g m n }
+acked_if h g m n false = h
+
+-- an ENTRY is taken: at the end of the list one that fits there
+abbrev pub is_taken : Core → List ℕ → ℕ → Entry → Bool
+is_taken s g place e = elim (place == len_of s g) [ true ↦ fits_at_end s g e | false ↦ true ]
+
+-- then it tells a place
+abbrev pub told_if : Frame → List ℕ → ℕ → Bool → Frame
+told_if h g stable true = record h { floors = raised h.floors g stable }
+told_if h g stable false = h
+
+-- a leader is known
+at_led_by : (h : Frame) (s : Core) (g : List ℕ) (n : ℕ) → RowIs (leads_row s (record (found s g) { leader = Some n })) (record (found s g) { leader = Some n }) → RowStarts h.floors (seat s) g (record (found s g) { leader = Some n }) → At h Every NoGroup s → At h Every NoGroup (set_leader s g n)
+unfolding set_leader with_row row_of
+at_led_by h s g n own begins a =
+    record {
+      came = a.came;
+      rows = record { order = rows_ordered g f (λ x. refl) s a.rows.order; starts = λ k. start k (cases_text g k); tallies = λ k u. tally k (cases_text g k); led = λ k z. absurd z };
+      facts = a.facts;
+      states = λ fresh. list_with (λ k l. StateIs s.views.me s.views.view k l (earlier (reverse s.records) h.history)) s g f (λ x. refl) a.rows.order (a.states fresh g) (λ k ne. a.states fresh k);
+    }
+  where
+    f : GroupRow → GroupRow
+    f row = record row { leader = Some n }
+
+    start : (k : List ℕ) → (g ≡ k) ⊎ (g ≡ k → ⊥) → RowStarts h.floors (seat s) k (found (with_row s g f) k)
+    start k (inl e) =
+        subst (λ z. RowStarts h.floors (seat s) z (found (with_row s g f) z)) e (subst (RowStarts h.floors (seat s) g) (sym (row_here g f (λ x. refl) s a.rows.order)) begins)
+    start k (inr ne) = subst (RowStarts h.floors (seat s) k) (sym (row_there g f (λ x. refl) s k ne)) (a.rows.starts k)
+
+    tally : (k : List ℕ) → (g ≡ k) ⊎ (g ≡ k → ⊥) → RowIs (leads_row s (found (with_row s g f) k)) (found (with_row s g f) k)
+    tally k (inl e) =
+        subst (λ z. RowIs (leads_row s (found (with_row s g f) z)) (found (with_row s g f) z)) e (subst (λ z. RowIs (leads_row s z) z) (sym (row_here g f (λ x. refl) s a.rows.order)) own)
+    tally k (inr ne) = subst (λ z. RowIs (leads_row s z) z) (sym (row_there g f (λ x. refl) s k ne)) (a.rows.tallies k tt)
+
 module _ (h : Frame) where
   abbrev Full : Core → Type 0
   Full s = At h Every NoGroup s
-
-  -- a leader is known
-  at_led_by : (s : Core) (g : List ℕ) (n : ℕ) → RowIs (leads_row s (record (found s g) { leader = Some n })) (record (found s g) { leader = Some n }) → (leads_row s (found s g) ≡ true → leads_row s (record (found s g) { leader = Some n }) ≡ true) → Full s → Full (set_leader s g n)
-  unfolding set_leader with_row row_of
-  at_led_by s g n own still a =
-      record {
-        rows = record { order = rows_ordered g f (λ x. refl) s a.rows.order; starts = λ k. start k (cases_text g k); tallies = λ k u. tally k (cases_text g k); led = λ k z. absurd z };
-        facts = a.facts;
-        states = λ fresh. list_with (λ k l. StateIs s.views.me s.views.view k l (earlier (reverse s.records) h.history)) s g f (λ x. refl) a.rows.order (a.states fresh g) (λ k ne. a.states fresh k);
-      }
-    where
-      f : GroupRow → GroupRow
-      f row = record row { leader = Some n }
-
-      start_here : StartIs (ToldOf h.sent s g) (leads_row s (found s g)) (found s g).list → StartIs (ToldOf h.sent s g) (leads_row s (f (found s g))) (found s g).list
-      start_here (inl e) = inl e
-      start_here (inr (inl led)) = inr (inl (still led))
-      start_here (inr (inr told)) = inr (inr told)
-
-      start : (k : List ℕ) → (g ≡ k) ⊎ (g ≡ k → ⊥) → StartIs (ToldOf h.sent s k) (leads_row s (found (with_row s g f) k)) (found (with_row s g f) k).list
-      start k (inl e) =
-          subst (λ z. StartIs (ToldOf h.sent s z) (leads_row s (found (with_row s g f) z)) (found (with_row s g f) z).list) e (subst (λ (z : GroupRow). StartIs (ToldOf h.sent s g) (leads_row s z) z.list) (sym (row_here g f (λ x. refl) s a.rows.order)) (start_here (a.rows.starts g)))
-      start k (inr ne) = subst (λ (z : GroupRow). StartIs (ToldOf h.sent s k) (leads_row s z) z.list) (sym (row_there g f (λ x. refl) s k ne)) (a.rows.starts k)
-
-      tally : (k : List ℕ) → (g ≡ k) ⊎ (g ≡ k → ⊥) → RowIs (leads_row s (found (with_row s g f) k)) (found (with_row s g f) k)
-      tally k (inl e) =
-          subst (λ z. RowIs (leads_row s (found (with_row s g f) z)) (found (with_row s g f) z)) e (subst (λ z. RowIs (leads_row s z) z) (sym (row_here g f (λ x. refl) s a.rows.order)) own)
-      tally k (inr ne) = subst (λ z. RowIs (leads_row s z) z) (sym (row_there g f (λ x. refl) s k ne)) (a.rows.tallies k tt)
 
   -- one group that the node leads
   abbrev Only : List ℕ → List ℕ → Type 0
@@ -107,13 +128,17 @@ module _ (h : Frame) where
       by false = a
       by true = at_calm h Every NoGroup t _ (calm_sent t from (body.Name s.views.view g (unwrap_or (names.looked_up g from s.names) 0))) (at_table h Every NoGroup s (names.lookup g from s.names) a)
 
-  pub at_name : (s : Core) (g : List ℕ) (n : ℕ) → Full s → Full (take_name s g n)
+  pub at_name : (s : Core) (g : List ℕ) (n : ℕ) → h.floors.settled g ≡ true → Full s → Full (take_name s g n)
   unfolding take_name named is_name_used leader_of leader_in row_of
-  at_name s g n a = by (n == 0) (is_none (leader_in s (found s g))) (is_fixed s.config.mode) refl
+  at_name s g n settled a = by (n == 0) (is_none (leader_in s (found s g))) (is_fixed s.config.mode) refl
     where
       unled : (o : Option ℕ) → is_none o ≡ true → is_this s.views.me o ≡ true → ⊥
       unled None e q = absurd (cc)
       unled (Some k) e q = absurd (cc)
+
+      none_of : (o : Option ℕ) → is_none o ≡ true → o ≡ None
+      none_of None e = refl
+      none_of (Some k) e = absurd (cc)
 
       idle : is_none (leader_in s (found s g)) ≡ true → (found s g).led.tally ≡ None
       idle e = at (a.rows.tallies g tt)
@@ -129,7 +154,7 @@ module _ (h : Frame) where
       by true true fixed e = told
       by true false true e = told
       by true false false e = a
-      by false true fixed e = at_calm h Every NoGroup (set_leader s g n) _ (calm_fold send_request request_calm (requests_of s g) (set_leader s g n)) (at_led_by s g n (inl (idle e)) (λ q. absurd (unled (leader_in s (found s g)) e q)) a)
+      by false true fixed e = at_calm h Every NoGroup (set_leader s g n) _ (calm_fold send_request request_calm (requests_of s g) (set_leader s g n)) (at_led_by h s g n (inl (idle e)) (row_named h.floors (seat s) g (found s g) n settled (none_of (leader_in s (found s g)) e) (a.rows.starts g)) a)
       by false false true e = a
       by false false false e = a
 
@@ -141,10 +166,10 @@ module _ (h : Frame) where
   at_told_again s g p r (Some y) a = at_calm h Every NoGroup s _ (calm_sent s p.node (body.Tell s.views.view g p r y)) a
 
   -- noting itself as leader, the node leads
-  module _ (f : Answering) (s : Core) (g : List ℕ) (leads_it : leads (set_leader s g s.views.me) g ≡ true) where
+  module _ (f : Answering) (s : Core) (g : List ℕ) (leads_it : leads (set_leader s g s.views.me) g ≡ true) (known : (m : ℕ) → leader_at (seat s) (found s g) ≡ Some m → m ≡ s.views.me) (settled : h.floors.settled g ≡ true) where
     at_noted : Full s → Full (set_leader s g s.views.me)
     unfolding set_leader with_row leads leads_in leader_in row_of
-    at_noted a = at_led_by s g s.views.me (own (a.rows.tallies g tt)) (λ q. now) a
+    at_noted a = at_led_by h s g s.views.me (own (a.rows.tallies g tt)) (row_noted h.floors (seat s) g (found s g) s.views.me settled known now (a.rows.starts g)) a
       where
         now : leads_row s (record (found s g) { leader = Some s.views.me }) ≡ true
         now = ap (leads_row s) (sym (row_here g (λ row. record row { leader = Some s.views.me }) (λ x. refl) s a.rows.order)) ∙ leads_it
@@ -196,17 +221,44 @@ module _ (h : Frame) where
       let leader = ap (λ (l : List GroupRow). (row_found g (find (has_name g) l)).leader) rows.0 ∙ ap (λ (z : GroupRow). z.leader) (row_here g (λ row. put_row h s row e) (λ x. refl) s order) in
       λ i. is_this (views i).me (leader_by (rows.1 i).mode (views i).view.coord (leader i))
 
-  -- what the node does not lead is not counted there; the entry was put by someone, and the node was told what to forget
-  module _ (f : Answering) (s : Core) (from : ℕ) (g : List ℕ) (stable : ℕ) (e : Entry) (told : ToldOf h.sent s g stable) where
-    at_next : PutFact (reverse s.records) h.history s.views.me s.views.view g (len_in (found s g).list) e → (leads s g ≡ true → ⊥) → Full s → Full (entry_next f s from g stable e true)
+  -- and its list is longer
+  len_after : (f : Answering) (s : Core) (from : ℕ) (g : List ℕ) (e : Entry) → InNameOrder s.groups → len_in (found (put_and_hand f s (Some from) g e) g).list ≡ len_in (found s g).list + 1
+  unfolding put_and_hand put recorded with_row row_of with_entry
+  len_after f s from g e order =
+      ap (λ rows. len_in (row_found g (find (has_name g) rows)).list) (handed_rows f (put s g e) (Some from) g (len_of s g) (state_of s g) (state_of (put s g e) g) e).0 ∙ ap (λ (z : GroupRow). len_in z.list) (row_here g (λ row. put_row h s row e) (λ x. refl) s order)
+
+  -- its row where a leader is noted
+  noted_row : (s : Core) (g : List ℕ) (n : ℕ) → InNameOrder s.groups → found (set_leader s g n) g ≡ record (found s g) { leader = Some n }
+  unfolding set_leader with_row row_of
+  noted_row s g n order = row_here g (λ row. record row { leader = Some n }) (λ x. refl) s order
+
+  noted_list : (s : Core) (g : List ℕ) (n : ℕ) → InNameOrder s.groups → (found (set_leader s g n) g).list ≡ (found s g).list
+  noted_list s g n order = ap (λ (z : GroupRow). z.list) (noted_row s g n order)
+
+  -- what the node does not lead is not counted there; the entry was put by someone, and the node is told a place that it has
+  module _ (f : Answering) (s : Core) (from : ℕ) (g : List ℕ) (stable : ℕ) (e : Entry) (le : stable ≤ len_in (found s g).list) (held : leads_row s (found s g) ≡ true → stable ≤ least_at (seat s) (found s g)) where
+    abbrev Loose : Core → Type 0
+    Loose c = At (record h { floors = loosened h.floors g }) Every NoGroup c
+
+    abbrev Told : Core → Type 0
+    Told c = At (record h { floors = raised h.floors g stable }) Every NoGroup c
+
+    at_next : PutFact (reverse s.records) h.history s.views.me s.views.view g (len_in (found s g).list) e → (leads s g ≡ true → ⊥) → (from ≡ s.views.me → ⊥) → Full s → Told (entry_next f s from g stable e true)
     unfolding entry_next sent send_on set_leader with_row
-    at_next fact follows a =
+    at_next fact follows foreign a =
         let t : Core = put_and_hand f s (Some from) g e in
         let u : Core = sent t from (body.Ack t.views.view g (len_of t g)) in
-        let b : Full t = at_put_and_handed_for h Every NoGroup Every f s (Some from) g e fact (λ k u ne. u) (λ u. inl none) a in
-        let c : Full u = at_calm h Every NoGroup t u (calm_sent t from (body.Ack t.views.view g (len_of t g))) b in
-        at_forgets h Every NoGroup (set_leader u g from) g stable (inr (subst (λ (z : Views). WasTold h.sent z.me z.view g stable) (sym (put_handed_onward f s (Some from) g e a.rows.order).views) told)) (at_led_by u g from (inl after) (λ q. absurd (follows (sym (leads_is s g) ∙ sym (leads_after f s from g e a.rows.order) ∙ q))) c)
+        let j : Frame = record h { floors = loosened h.floors g } in
+        let b : Loose t = at_put_and_handed_for h Every NoGroup Every f s (Some from) g e fact (λ k u ne. u) (λ u. inl none) a in
+        let c : Loose u = at_calm j Every NoGroup t u (calm_sent t from (body.Ack t.views.view g (len_of t g))) b in
+        let apart : leads_row u (found u g) ≡ false = leads_after f s from g e a.rows.order ∙ not_true (leads_row s (found s g)) (λ q. follows (sym (leads_is s g) ∙ q)) in
+        let other : leads_by (seat u) (record (found u g) { leader = Some from }) ≡ false = row_away (seat u) (found u g) from apart (λ q. foreign (q ∙ ap (λ (z : Views). z.me) (put_handed_onward f s (Some from) g e a.rows.order).views)) in
+        let d : Loose (set_leader u g from) = at_led_by j u g from (inl after) (row_followed h.floors (seat u) g (found u g) from apart other (c.rows.starts g)) c in
+        at_told_next h Every NoGroup (set_leader u g from) g stable (long (len_in (found s g).list) (len_in (found (set_leader u g from) g).list) (ap len_in (noted_list u g from c.rows.order) ∙ len_after f s from g e a.rows.order) le) (ap (leads_by (seat u)) (noted_row u g from c.rows.order) ∙ other) (λ q. row_known (seat u) (found u g) from (sym (ap (leader_at (seat u)) (noted_row u g from c.rows.order)) ∙ q)) d
       where
+        long : (i j : ℕ) → j ≡ i + 1 → stable ≤ i → stable ≤ j
+        long i j e k = omega arith
+
         none : (found s g).led.tally ≡ None
         none = at (a.rows.tallies g tt)
           where
@@ -220,40 +272,53 @@ module _ (h : Frame) where
         after : (found (sent t from (body.Ack t.views.view g (len_of t g))) g).led.tally ≡ None
         after = rows_after f s from g e a.rows.order ∙ none
 
-    at_next_if : PutFact (reverse s.records) h.history s.views.me s.views.view g (len_in (found s g).list) e → (leads s g ≡ true → ⊥) → (b : Bool) → Full s → Full (entry_next f s from g stable e b)
+    at_next_if : PutFact (reverse s.records) h.history s.views.me s.views.view g (len_in (found s g).list) e → (leads s g ≡ true → ⊥) → (from ≡ s.views.me → ⊥) → (b : Bool) → Full s → At (told_if h g stable b) Every NoGroup (entry_next f s from g stable e b)
     unfolding entry_next
-    at_next_if fact follows false a = a
-    at_next_if fact follows true a = at_next fact follows a
+    at_next_if fact follows foreign false a = a
+    at_next_if fact follows foreign true a = at_next fact follows foreign a
 
-    at_elsewhere : (b : Bool) → Full s → Full (entry_elsewhere s from g stable b)
-    unfolding entry_elsewhere sent send_on
-    at_elsewhere true a = at_forgets h Every NoGroup (sent s from (body.Ack s.views.view g (len_of s g))) g stable (inr told) (at_calm h Every NoGroup s _ (calm_sent s from (body.Ack s.views.view g (len_of s g))) a)
-    at_elsewhere false a = by (holds s g)
+    at_elsewhere : (b : Bool) → Full s → Told (entry_elsewhere s from g stable b)
+    unfolding entry_elsewhere holds row_of sent send_on
+    at_elsewhere true a = at_told h Every NoGroup (sent s from (body.Ack s.views.view g (len_of s g))) g stable le held (at_calm h Every NoGroup s _ (calm_sent s from (body.Ack s.views.view g (len_of s g))) a)
+    at_elsewhere false a = by (holds s g) refl
       where
-        by : (b : Bool) → Full (elim b as (λ _. Core) [ true ↦ forget_below s g stable | false ↦ s ])
-        by true = at_forgets h Every NoGroup s g stable (inr told) a
-        by false = a
+        bare : (l : Option GroupView) → is_some l ≡ false → stable ≤ len_in l → stable ≤ start_in l
+        bare None e k = k
+        bare (Some l) e k = absurd (cc)
 
-    pub at_entry : (place : ℕ) → ((place == len_of s g) ≡ true → PutFact (reverse s.records) h.history s.views.me s.views.view g (len_in (found s g).list) e) → ((place == len_of s g) ≡ true → leads s g ≡ true → ⊥) → Full s → Full (take_entry f s from g place stable e)
+        lacks : holds s g ≡ false → stable ≤ start_in (found s g).list
+        lacks e = bare (found s g).list e le
+
+        by : (b : Bool) → holds s g ≡ b → Told (elim b as (λ _. Core) [ true ↦ forget_below s g stable | false ↦ s ])
+        by true e = at_told h Every NoGroup s g stable le held a
+        by false e = at_told_less h Every NoGroup s g stable (lacks e) a
+
+    pub at_entry : (place : ℕ) → ((place == len_of s g) ≡ true → PutFact (reverse s.records) h.history s.views.me s.views.view g (len_in (found s g).list) e) → ((place == len_of s g) ≡ true → leads s g ≡ true → ⊥) → ((place == len_of s g) ≡ true → from ≡ s.views.me → ⊥) → Full s → At (told_if h g stable (is_taken s g place e)) Every NoGroup (take_entry f s from g place stable e)
     unfolding take_entry
-    at_entry place fact follows a = by (place == len_of s g) refl
+    at_entry place fact follows foreign a = by (place == len_of s g) refl
       where
-        by : (b : Bool) → (place == len_of s g) ≡ b → Full (elim b as (λ _. Core) [ true ↦ entry_next f s from g stable e (fits_at_end s g e) | false ↦ entry_elsewhere s from g stable (nat_lt place (len_of s g)) ])
-        by true q = at_next_if (fact q) (follows q) (fits_at_end s g e) a
+        by : (b : Bool) → (place == len_of s g) ≡ b → At (told_if h g stable (elim b as (λ _. Bool) [ true ↦ fits_at_end s g e | false ↦ true ])) Every NoGroup (elim b as (λ _. Core) [ true ↦ entry_next f s from g stable e (fits_at_end s g e) | false ↦ entry_elsewhere s from g stable (nat_lt place (len_of s g)) ])
+        by true q = at_next_if (fact q) (follows q) (foreign q) (fits_at_end s g e) a
         by false q = at_elsewhere (nat_lt place (len_of s g)) a
 
-  at_acked : (s : Core) (from : ℕ) (g : List ℕ) (n : ℕ) → leads s g ≡ true → Full s → Full (acked s from g n)
-  unfolding acked
+  at_acked : (s : Core) (from : ℕ) (g : List ℕ) (n : ℕ) → leads s g ≡ true → Full s → At (record h { floors = acknowledged h.floors g from n }) Every NoGroup (acked s from g n)
+  unfolding acked with_led
   at_acked s from g n led a =
+      let j : Frame = record h { floors = acknowledged h.floors g from n } in
+      let u : Frame = record h { floors = loosened (acknowledged h.floors g from n) g } in
       let t : Core = with_led s g (λ l. record l { acked = acked_raised from n l.acked }) in
-      let b : At h Every (Only g) t = at_led h Every (Only g) s g (λ l. record l { acked = acked_raised from n l.acked }) (λ l. refl) (only_led s g led a) in
-      all_again (forget_least t g) g (at_forgets_least h Every (Only g) t g (b.rows.led g refl) b)
+      let b : At u Every (Only g) t = at_row_for h Every (Only g) (loosened (acknowledged h.floors g from n) g) Every s g (λ row. record row { led = record (row.led) { acked = acked_raised from n row.led.acked } }) (λ x. refl) (λ x. refl) (λ x. refl) (λ x. refl) (λ k z ne. z) (λ z. own (a.rows.tallies g z)) (row_acked h.floors (seat s) g (found s g) from n (a.rows.starts g)) (λ k ne z. loosen_beside (acknowledged h.floors g from n) (seat s) g k (found s k) ne (acked_beside h.floors (seat s) g from n k (found s k) ne z)) (only_led s g led a) in
+      at_for j Every (Only g) Every NoGroup (forget_least t g) (λ k z. z) (λ k z. absurd z) (at_forgets_least j Every (Only g) t g (b.rows.led g refl) b)
+    where
+      own : RowIs (leads_row s (found s g)) (found s g) → RowIs (leads_row s (found s g)) (record (found s g) { led = record ((found s g).led) { acked = acked_raised from n (found s g).led.acked } })
+      own (inl z) = inl z
+      own (inr z) = inr z
 
-  pub at_ack : (s : Core) (from : ℕ) (g : List ℕ) (n : ℕ) → Full s → Full (take_ack s from g n)
+  pub at_ack : (s : Core) (from : ℕ) (g : List ℕ) (n : ℕ) → Full s → At (acked_if h g from n (leads s g && nat_le n (len_of s g))) Every NoGroup (take_ack s from g n)
   unfolding take_ack
   at_ack s from g n a = by (leads s g) (nat_le n (len_of s g)) refl
     where
-      by : (b c : Bool) → leads s g ≡ b → Full (elim (b && c) as (λ _. Core) [ true ↦ acked s from g n | false ↦ s ])
+      by : (b c : Bool) → leads s g ≡ b → At (acked_if h g from n (b && c)) Every NoGroup (elim (b && c) as (λ _. Core) [ true ↦ acked s from g n | false ↦ s ])
       by true true q = at_acked s from g n q a
       by true false q = a
       by false c q = a
@@ -270,7 +335,7 @@ module _ (h : Frame) where
       counted : leads s g ≡ true → At h Every (Only g) t
       counted led =
           let b : At h Every (Only g) s = only_led s g led a in
-          at_row h Every (Only g) s g (λ row. record row { led = vote_cast row.led p v value message row.led.tally }) (λ x. refl) (λ x. refl) (λ x. refl) (λ x. refl) (λ x. refl) (λ t. row_voted (leads_row s (found s g)) (found s g) p v value message (b.rows.tallies g t)) b
+          at_row h Every (Only g) s g (λ row. record row { led = vote_cast row.led p v value message row.led.tally }) (λ x. refl) (λ x. refl) (λ x. refl) (λ x. refl) (λ x. refl) (λ x m. voted_acks x.led p v value message x.led.tally m) (λ t. row_voted (leads_row s (found s g)) (found s g) p v value message (b.rows.tallies g t)) b
 
       by : (b c : Bool) → leads s g ≡ b → Full (elim (b && c) as (λ _. Core) [ true ↦ closes f t g | false ↦ s ])
       by true true q = all_again (closes f t g) g (at_closes h Every (Only g) f t g tt refl (counted q))
@@ -283,7 +348,7 @@ module _ (h : Frame) where
   unfolding tally_failed with_tally with_led
   at_failed f s g p None e a = a
   at_failed f s g p (Some t) e a =
-      at_closes h Every (Only g) f (with_tally s g (Some (tally_fail p t))) g tt refl (at_row h Every (Only g) s g (λ row. record row { led = record (row.led) { tally = Some (tally_fail p t) } }) (λ x. refl) (λ x. refl) (λ x. refl) (λ x. refl) (λ x. refl) (λ u. own (a.rows.tallies g u)) a)
+      at_closes h Every (Only g) f (with_tally s g (Some (tally_fail p t))) g tt refl (at_row h Every (Only g) s g (λ row. record row { led = record (row.led) { tally = Some (tally_fail p t) } }) (λ x. refl) (λ x. refl) (λ x. refl) (λ x. refl) (λ x. refl) (λ x m. refl) (λ u. own (a.rows.tallies g u)) a)
     where
       own : RowIs (leads_row s (found s g)) (found s g) → RowIs (leads_row s (found s g)) (record (found s g) { led = record ((found s g).led) { tally = Some (tally_fail p t) } })
       own (inl none) = let z : Some t ≡ None = sym e ∙ none in absurd (cc)
@@ -301,7 +366,7 @@ module _ (h : Frame) where
   unfolding gone_present led_of row_of
   at_gone_present f s g p led a =
       let t : Core = with_led s g (λ l. record l { gone = marked l.gone p }) in
-      let b : At h Every (Only g) t = at_led h Every (Only g) s g (λ l. record l { gone = marked l.gone p }) (λ l. refl) (only_led s g led a) in
+      let b : At h Every (Only g) t = at_led h Every (Only g) s g (λ l. record l { gone = marked l.gone p }) (λ l. refl) (λ l. refl) (only_led s g led a) in
       at_gone_waits (tally_failed f t g p (found t g).led.tally) g p (all_again (tally_failed f t g p (found t g).led.tally) g (at_failed f t g p (found t g).led.tally refl b))
 
   at_gone_of : (f : Answering) (s : Core) (g : List ℕ) (p : ProviderId) (b c : Bool) → leads s g ≡ true → Full s → Full (gone_of f s g p b c)

@@ -171,7 +171,7 @@ module _ (n : ℕ) (v : ViewId) (g : List ℕ) where
   -- ---- the state
 
   -- the list of the node is a front of the whole one
-  front_of : (bases : Bases) (log : ViewId → List Entry) (all : List Line) → Told bases log all → IsPrefix (lists.puts_of n v (kept all)) (log v)
+  pub front_of : (bases : Bases) (log : ViewId → List Entry) (all : List Line) → Told bases log all → IsPrefix (lists.puts_of n v (kept all)) (log v)
   front_of bases log all t = puts_front n v (log v) (kept all) (λ i e h. t.puts n v i e h) t.places
 
   take_whole : (i : ℕ) (xs ys : List Entry) → xs ≡ ys → i ≡ length ys → take i xs ≡ ys

@@ -1,5 +1,5 @@
 -- A tick.
-use Rattle.std.proofs.Common.{ℕ, List, Option, Some, None, Bool, true, false, refl, ap, inl, inr}
+use Rattle.std.proofs.Common.{◌⊎◌, ℕ, List, Option, Some, None, Bool, true, false, refl, ap, inl, inr}
 use Rattle.std.specs.Prelude.{◌==◌, ◌&&◌, fold}
 use Rattle.rsct_packet.specs.declared.ids.ProviderId.{ProviderId}
 use Rattle.proposal_core.specs.declared.entry.Entry.TheVariants.{Late}
@@ -22,7 +22,7 @@ use Rattle.entry_laws.proofs.closing_rows.Tallies.{ticked_fits}
 use Rattle.entry_laws.proofs.closing_rows.Leading.{at_closes, at_announces}
 use Rattle.entry_laws.proofs.closing_rows.Ending.{Every, NoGroup, at_led_groups}
 use Rattle.entry_laws.proofs.closing_rows.Works.{begun_stays, ticks_stay, install_again_stays}
-use Rattle.entry_laws.proofs.closing_rows.Entering.{at_views_taken}
+use Rattle.entry_laws.proofs.closing_rows.Entering.{entering, at_views_taken}
 
 row_ticked : (led : Bool) (row : GroupRow) → RowIs led row → RowIs led (record row { led = record (row.led) { tally = ticked_in row.led.tally } })
 row_ticked led row (inl e) = inl (ap ticked_in e)
@@ -35,14 +35,6 @@ row_ticked led row (inr k) = inr (k.0, by row.led.tally k.1)
 module _ (h : Frame) where
   abbrev Full : Core → Type 0
   Full s = At h Every NoGroup s
-
-  -- ---- views
-
-  pub at_views_part : (f : Answering) (s : Core) → Full s → Full (tick_views f s)
-  unfolding tick_views
-  at_views_part f s a =
-      let t : Core = views_taken f s (gathering_ticks (views_at_work s.views) (ring_ask s) (own_parts s)) in
-      at_views_taken h f t (install_again (views_at_work t.views)) (install_again_stays t.views (views_at_work t.views) (begun_stays t.views)) (at_views_taken h f s (gathering_ticks (views_at_work s.views) (ring_ask s) (own_parts s)) (ticks_stay s.views (views_at_work s.views) (ring_ask s) (own_parts s) (begun_stays s.views)) a)
 
   -- ---- what is led
 
@@ -64,7 +56,7 @@ module _ (h : Frame) where
     at_ticked : (s : Core) (g : List ℕ) → At h Every G s → At h Every G (with_tally s g (ticked_in (led_of s g).tally))
     unfolding with_tally with_led led_of row_of
     at_ticked s g a =
-        at_row h Every G s g (λ row. record row { led = record (row.led) { tally = ticked_in (found s g).led.tally } }) (λ x. refl) (λ x. refl) (λ x. refl) (λ x. refl) (λ x. refl) (λ t. row_ticked (leads_row s (found s g)) (found s g) (a.rows.tallies g t)) a
+        at_row h Every G s g (λ row. record row { led = record (row.led) { tally = ticked_in (found s g).led.tally } }) (λ x. refl) (λ x. refl) (λ x. refl) (λ x. refl) (λ x. refl) (λ x m. refl) (λ t. row_ticked (leads_row s (found s g)) (found s g) (a.rows.tallies g t)) a
 
     at_tally_ticks : (s : Core) (g : List ℕ) (o : Option TallyView) → G g → At h Every G s → At h Every G (tally_ticks f s g o)
     unfolding tally_ticks
@@ -86,3 +78,28 @@ module _ (h : Frame) where
       by : (b : Bool) → Full (elim b as (λ _. Core) [ true ↦ s | false ↦ fold (tick_group f) s (led_groups s) ])
       by true = a
       by false = at_led_groups h (tick_group f) (λ G c g led k. at_group_ticks f G c g led k) s a
+
+-- ---- views
+
+module _ (h : Frame) where
+  abbrev Parted : Core → Type 0
+  Parted s = At (entering h) Every NoGroup s ⊎ At h Every NoGroup s
+
+  -- a view may be entered as it is gathered, or as its install is taken again
+  pub at_views_part : (f : Answering) (s : Core) → At h Every NoGroup s → Parted (tick_views f s)
+  unfolding tick_views
+  at_views_part f s a = by (at_views_taken h f s (gathering_ticks (views_at_work s.views) (ring_ask s) (own_parts s)) (ticks_stay s.views (views_at_work s.views) (ring_ask s) (own_parts s) (begun_stays s.views)) a)
+    where
+      t : Core
+      t = views_taken f s (gathering_ticks (views_at_work s.views) (ring_ask s) (own_parts s))
+
+      last : Core
+      last = views_taken f t (install_again (views_at_work t.views))
+
+      once : At (entering h) Every NoGroup last ⊎ At (entering h) Every NoGroup last → Parted last
+      once (inl k) = inl k
+      once (inr k) = inl k
+
+      by : At (entering h) Every NoGroup t ⊎ At h Every NoGroup t → Parted last
+      by (inl k) = once (at_views_taken (entering h) f t (install_again (views_at_work t.views)) (install_again_stays t.views (views_at_work t.views) (begun_stays t.views)) k)
+      by (inr k) = at_views_taken h f t (install_again (views_at_work t.views)) (install_again_stays t.views (views_at_work t.views) (begun_stays t.views)) k

@@ -21,31 +21,32 @@ use Rattle.view_state.specs.Views.{is_frozen, is_coordinator, others_of, view_se
 pub record Stays (v : Views) (w : ViewWork) : Type 0 where
   pub me : w.views.me ≡ v.me
   pub view : w.views.view ≡ v.view
+  pub members : w.views.members ≡ v.members
 
 module _ (v : Views) where
   pub begun_stays : Stays v (views_at_work v)
-  begun_stays = record { me = refl; view = refl }
+  begun_stays = record { me = refl; view = refl; members = refl }
 
   sent_stays : (w : ViewWork) (to : ℕ) (y : ViewPacket) → Stays v w → Stays v (view_sent w to y)
   unfolding view_sent
-  sent_stays w to y k = record { me = k.me; view = k.view }
+  sent_stays w to y k = record { me = k.me; view = k.view; members = k.members }
 
   sent_all_stays : (w : ViewWork) (ns : List ℕ) (y : ViewPacket) → Stays v w → Stays v (view_sent_all w ns y)
   unfolding view_sent_all
-  sent_all_stays w ns y k = record { me = k.me; view = k.view }
+  sent_all_stays w ns y k = record { me = k.me; view = k.view; members = k.members }
 
   gathering_stays : (w : ViewWork) (g : Option Exchange) → Stays v w → Stays v (gathering_set w g)
   unfolding gathering_set
-  gathering_stays w g k = record { me = k.me; view = k.view }
+  gathering_stays w g k = record { me = k.me; view = k.view; members = k.members }
 
   promised_stays : (w : ViewWork) (u : ViewId) → Stays v w → Stays v (promised w u)
   unfolding promised
-  promised_stays w u k = record { me = k.me; view = k.view }
+  promised_stays w u k = record { me = k.me; view = k.view; members = k.members }
 
   installs_stay : (w : ViewWork) (i : Install) (b : Bool) → Stays v w → Stays v (begin_install w i b)
   unfolding begin_install view_sent_all
   installs_stay w i false k = k
-  installs_stay w i true k = record { me = k.me; view = k.view }
+  installs_stay w i true k = record { me = k.me; view = k.view; members = k.members }
 
   gathers_stay : (w : ViewWork) (g : Exchange) → Stays v w → Stays v (gather_on w g)
   unfolding gather_on gathered
@@ -105,7 +106,7 @@ module _ (v : Views) where
   refuse_stays w u n k = by w.views.gathering
     where
       at : (b : Bool) → Stays v (elim b as (λ _. ViewWork) [ true ↦ refused_by w n | false ↦ w ])
-      at true = record { me = k.me; view = k.view }
+      at true = record { me = k.me; view = k.view; members = k.members }
       at false = k
 
       by : (o : Option Exchange) → Stays v (refuse_to w u n o)
@@ -118,7 +119,7 @@ module _ (v : Views) where
     where
       by : (a b : Bool) → Stays v (installed w i a b)
       by true b = sent_stays w i.view.coord (packet.Taken i.view) k
-      by false true = record { me = k.me; view = k.view }
+      by false true = record { me = k.me; view = k.view; members = k.members }
       by false false = k
 
   pub taken_stays : (w : ViewWork) (from : ℕ) (u : ViewId) → Stays v w → Stays v (taken_rule w from u)
@@ -126,7 +127,7 @@ module _ (v : Views) where
   taken_stays w from u k = by (same_view w.views.view u)
     where
       by : (b : Bool) → Stays v (elim b as (λ _. ViewWork) [ true ↦ record w { views = record (w.views) { taken = with_node w.views.taken from } } | false ↦ w ])
-      by true = record { me = k.me; view = k.view }
+      by true = record { me = k.me; view = k.view; members = k.members }
       by false = k
 
   -- ---- a tick
@@ -145,7 +146,7 @@ module _ (v : Views) where
   ticks_stay w (Some a) parts k = by (tick_asks w.views a)
     where
       noted : Stays v (note_stuck w)
-      noted = record { me = k.me; view = k.view }
+      noted = record { me = k.me; view = k.view; members = k.members }
 
       by : (b : Bool) → Stays v (asks_or_ages (note_stuck w) a parts b)
       by true = ask_stays (note_stuck w) a.mask parts noted

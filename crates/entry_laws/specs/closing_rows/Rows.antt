@@ -1,6 +1,6 @@
 -- The rows of an entry that closes a phase: one for each voter.
-use Rattle.std.specs.Prelude.{ℕ, ◌≡◌, ◌⊎◌, false, List, map, Option, Some, None}
-use Rattle.rsct_packet.specs.declared.ids.ViewId.{ViewId}
+use Rattle.std.specs.Prelude.{ℕ, ◌≡◌, ◌≤◌, ◌⊎◌, true, false, List, map, Option, Some, None}
+use Rattle.rsct_packet.specs.declared.ids.Member.{Member}
 use Rattle.rsct_packet.specs.Search.{Has}
 use Rattle.proposal_core.specs.declared.entry.Row.{Row}
 use Rattle.proposal_core.specs.declared.entry.Entry.{Entry}
@@ -15,12 +15,15 @@ use Rattle.node_state.specs.declared.config.Config.{Config}
 use Rattle.node_state.specs.declared.packet.Body.TheVariants as body
 use Rattle.node_state.specs.declared.packet.Packet.{Packet}
 use Rattle.node_state.specs.declared.state.Core.{Core}
-use Rattle.node_state.specs.State.{row_of, led_of, state_of, leads}
+use Rattle.node_state.specs.State.{row_of, led_of, state_of, len_of, acked_from, least_acked, fits_at_end, leads}
+use Rattle.node_state.specs.HandOn.{Answering}
+use Rattle.node_state.specs.Step.{NodeEvent, Given, is_used, stepped}
 use Rattle.node_state.specs.declared.happened.Happened.{Happened}
 use Rattle.node_state.specs.declared.happened.Happened.TheVariants as happened
 use Rattle.run_safety.specs.Past.{History, earlier, EachRecord, state_at}
 use Rattle.run_safety.specs.SafeLists.{NextPlace, Fitting, Each}
 use Rattle.step_refinement.specs.Tied.{Scene}
+use Rattle.step_refinement.specs.Rules.{Arises}
 use Rattle.step_refinement.specs.Runs.{Reached}
 
 -- one row for each voter of the state, in the voters' order
@@ -68,23 +71,64 @@ TalliesAreOfVoters =
 abbrev pub start_in : Option GroupView → ℕ
 start_in l = (list_or_new l).start
 
--- an ENTRY of the group that was sent to the node in the view says that all members hold so many entries
-pub record WasTold (sent : List Packet) (n : ℕ) (v : ViewId) (g : List ℕ) (k : ℕ) : Type 0 where
+-- where the node's list of the group starts; 0 where it has none
+abbrev pub start_of : Core → List ℕ → ℕ
+start_of s g = start_in (row_of s g).list
+
+-- The event gives the node an ENTRY of its view that says that all members hold so many entries of the group, and the node takes
+-- it: at the end of its list one that fits there.
+pub record Tells (s : Core) (e : NodeEvent) (g : List ℕ) (k : ℕ) : Type 0 where
   pub packet : Packet
-  pub there : Has packet sent
-  pub to : packet.to ≡ n
+  pub given : e ≡ Given packet
+  pub to : packet.to ≡ s.views.me
   pub place : ℕ
   pub entry : Entry
-  pub says : packet.body ≡ body.Entry v g place k entry
+  pub says : packet.body ≡ body.Entry s.views.view g place k entry
+  pub used : is_used s packet s.views.view ≡ true
+  pub fits : place ≡ len_of s g → fits_at_end s g entry ≡ true
 
--- What a node's list of a group lacks at its front is nothing, or it was told to forget just that; or the node leads the group.
-abbrev pub ListsStartAsTold : Core → List Packet → Type 0
-ListsStartAsTold s sent =
-    (g : List ℕ) → leads s g ≡ false → (start_in (row_of s g).list ≡ 0) ⊎ WasTold sent s.views.me s.views.view g (start_in (row_of s g).list)
+-- The event gives the node, which leads the group, an ACK of its view in which the member says that it holds so many entries of the
+-- group, and the node takes it.
+pub record Acknowledges (s : Core) (e : NodeEvent) (g : List ℕ) (m k : ℕ) : Type 0 where
+  pub packet : Packet
+  pub given : e ≡ Given packet
+  pub to : packet.to ≡ s.views.me
+  pub from : packet.from ≡ m
+  pub says : packet.body ≡ body.Ack s.views.view g k
+  pub used : is_used s packet s.views.view ≡ true
+  pub led : leads s g ≡ true
 
--- whatever starts, stops and steps, at each node that is up
-abbrev pub EveryListStartsAsTold : Type 0
-EveryListStartsAsTold = (c : Config) (w : Scene) → Reached c w → (n : ℕ) (s : Core) → w.cores n ≡ Some s → ListsStartAsTold s w.sent
+-- From one moment to the next, in one view: a number stays what it was, or becomes what the event says, whichever is greater.
+pub record GoesOn (value : Core → ℕ) (Says : Core → NodeEvent → ℕ → Type 0) (s : Core) (e : NodeEvent) (t : Core) : Type 0 where
+  pub view : t.views.view ≡ s.views.view
+  pub old : value s ≤ value t
+  pub told : (k : ℕ) → Says s e k → k ≤ value t
+  pub one : (value t ≡ value s) ⊎ Says s e (value t)
+
+-- the node entered its view in the event
+pub record EntersView (t : Core) : Type 0 where
+  pub members : List Member
+  pub enters : Has (happened.In t.views.me t.views.view members) t.records
+
+-- Whatever starts, stops and steps: at each node that takes a step, of each group that it does not lead after it, the start of the
+-- list goes on to what the event tells. In a view that the node enters it is 0.
+abbrev pub StepsForget : Type 0
+StepsForget =
+    (c : Config) (w : Scene) → Reached c w → (n : ℕ) (f : Answering) (s : Core) (e : NodeEvent) → w.cores n ≡ Some s → Arises w e → (g : List ℕ) → leads (stepped f s e) g ≡ false → ((leads s g ≡ false) × GoesOn (λ c. start_of c g) (λ c e k. Tells c e g k) s e (stepped f s e)) ⊎ (EntersView (stepped f s e) × (start_of (stepped f s e) g ≡ 0))
+
+-- how many entries of the group a member acknowledged to the node, as it keeps that
+abbrev pub acked_of : Core → List ℕ → ℕ → ℕ
+acked_of s g m = acked_from m (led_of s g).acked
+
+-- so does that number, of each group and member
+abbrev pub StepsKeepAcks : Type 0
+StepsKeepAcks =
+    (c : Config) (w : Scene) → Reached c w → (n : ℕ) (f : Answering) (s : Core) (e : NodeEvent) → w.cores n ≡ Some s → Arises w e → (g : List ℕ) (m : ℕ) → GoesOn (λ c. acked_of c g m) (λ c e k. Acknowledges c e g m k) s e (stepped f s e) ⊎ (EntersView (stepped f s e) × (acked_of (stepped f s e) g m ≡ 0))
+
+-- a list of a group that the node leads starts at the least length that a member of its view holds, as the node knows it
+abbrev pub LeadersForget : Type 0
+LeadersForget =
+    (c : Config) (w : Scene) → Reached c w → (n : ℕ) (s : Core) → w.cores n ≡ Some s → (g : List ℕ) → leads s g ≡ true → start_of s g ≡ least_acked s g
 
 -- ---- the records of one node
 
