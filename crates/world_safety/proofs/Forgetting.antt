@@ -55,7 +55,7 @@ member_was_told =
       event = worded (fold happens (world_new pair) (until_acked ++ until_told)) tells;
       rest = worded_from (happens (fold happens (world_new pair) (until_acked ++ until_told)) tells) [];
       at = worded_at (world_new pair) (until_acked ++ until_told) [] tells;
-      gives = record { core = core_after pair (until_acked ++ until_told) 2; up = there pair (until_acked ++ until_told) 2 refl; view = refl; sender = 1; number = 2; happens = refl; packet = second_entry; given = refl; says = record { packet = second_entry; given = refl; to = refl; place = 1; entry = _; says = refl; used = refl; fits = λ e. refl } };
+      gives = record { core = core_after pair (until_acked ++ until_told) 2; up = there pair (until_acked ++ until_told) 2 refl; view = refl; sender = 1; number = 2; happens = refl; packet = second_entry; given = refl; says = record { packet = second_entry; given = refl; to = refl; place = 1; entry = _; says = refl; used = refl; room = λ e. refl } };
     }
 
 abbrev says_two : Body → Bool

@@ -254,7 +254,7 @@ fold_pushed v (x ∷ xs) s i e =
 length_pushed : (xs : List Entry) (e : Entry) → length (xs ++ e ∷ []) ≡ length xs + 1
 length_pushed xs e = length-append xs (e ∷ [])
 
-take_all : (xs : List Entry) → take (length xs) xs ≡ xs
+pub take_all : (xs : List Entry) → take (length xs) xs ≡ xs
 take_all [] = refl
 take_all (x ∷ xs) = ap (λ l. x ∷ l) (take_all xs)
 

@@ -14,7 +14,7 @@ use Rattle.node_state.specs.declared.happened.Happened.TheVariants as happened
 use Rattle.node_state.specs.declared.group.GroupRow.{GroupRow}
 use Rattle.node_state.specs.declared.packet.Packet.{Packet}
 use Rattle.node_state.specs.declared.state.Core.{Core}
-use Rattle.node_state.specs.State.{new_row, acked_from, row_of, led_of, list_of, state_of, len_of, fits_at_end, frozen, with_sessions, leads, leads_in, leader_in}
+use Rattle.node_state.specs.State.{new_row, acked_from, row_of, led_of, list_of, state_of, len_of, frozen, with_sessions, leads, leads_in, leader_in}
 use Rattle.node_state.specs.HandOn.{Answering}
 use Rattle.node_state.specs.Applying.{level_set}
 use Rattle.node_state.specs.Step.{NodeEvent, Given, at_work, is_used, started, stepped}
@@ -217,12 +217,12 @@ tallies_are_of_voters c w k n s up g = by (node_holds Sent CoreIs Evident fittin
 
 -- what a step begins with are the node's lists
 begins_told : (s : Core) (e : NodeEvent) (g : List ℕ) (k : ℕ) → Tells (at_work s) e g k → Tells s e g k
-unfolding is_used frozen fits_at_end len_of list_of row_of
-begins_told s e g k t = record { packet = t.packet; given = t.given; to = t.to; place = t.place; entry = t.entry; says = t.says; used = t.used; fits = t.fits }
+unfolding is_used frozen len_of list_of row_of
+begins_told s e g k t = record { packet = t.packet; given = t.given; to = t.to; place = t.place; entry = t.entry; says = t.says; used = t.used; room = t.room }
 
 ends_told : (s : Core) (e : NodeEvent) (g : List ℕ) (k : ℕ) → Tells s e g k → Tells (at_work s) e g k
-unfolding is_used frozen fits_at_end len_of list_of row_of
-ends_told s e g k t = record { packet = t.packet; given = t.given; to = t.to; place = t.place; entry = t.entry; says = t.says; used = t.used; fits = t.fits }
+unfolding is_used frozen len_of list_of row_of
+ends_told s e g k t = record { packet = t.packet; given = t.given; to = t.to; place = t.place; entry = t.entry; says = t.says; used = t.used; room = t.room }
 
 pub steps_forget : StepsForget
 unfolding leads leads_in leader_in row_of

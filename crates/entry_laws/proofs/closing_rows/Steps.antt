@@ -1,8 +1,8 @@
 -- A whole step.
-use Rattle.std.proofs.Common.{◌≡◌, ◌≤◌, ◌⊎◌, ℕ, max, min, List, [], ◌∷◌, ◌++◌, length, length-append, Some, Bool, true, false, refl, sym, ap, ◌∙◌, subst, inl, inr, arith}
+use Rattle.std.proofs.Common.{◌≡◌, ◌≤◌, ◌⊎◌, ℕ, max, min, List, [], ◌∷◌, ◌++◌, length, take, length-append, Some, Bool, true, false, refl, sym, ap, ◌∙◌, subst, inl, inr, arith}
 use Rattle.std.specs.Prelude.{◌==◌, ◌&&◌, ◌+◌, nat_le, fold, reverse, slice_get, if◌then◌else◌}
 use Rattle.std.specs.Str.{bytes_eq}
-use Rattle.std.proofs.lemmas.Bool.{eqb-true, eqb-false, eq-eqb}
+use Rattle.std.proofs.lemmas.Bool.{and_parts, eqb-true, eqb-false, eq-eqb}
 use Rattle.std.proofs.lemmas.Bool.Decides.{nat_tests}
 use Rattle.rsct_packet.specs.declared.ids.ViewId.{ViewId}
 use Rattle.rsct_packet.specs.declared.ids.Member.{Member}
@@ -13,7 +13,8 @@ use Rattle.rsct_packet.proofs.HasLaws.{append_has_right}
 use Rattle.group_attr.specs.declared.attrs.Phases.{Phases}
 use Rattle.proposal_core.specs.declared.entry.Entry.{Entry}
 use Rattle.proposal_core.specs.declared.proposal.Proposal.{Proposal}
-use Rattle.proposal_core.specs.Lists.{len_in}
+use Rattle.proposal_core.specs.Fold.{fits}
+use Rattle.proposal_core.specs.Lists.{state_in, len_in, has_room, entry_fits}
 use Rattle.view_state.specs.declared.packet.ViewPacket.{ViewPacket}
 use Rattle.view_state.specs.declared.packet.ViewPacket.TheVariants as view
 use Rattle.view_state.specs.declared.views.ViewWork.{ViewWork}
@@ -39,6 +40,8 @@ use Rattle.node_state.specs.Step.{NodeEvent, Ticks, Asks, Given, Calls, Garbage,
 use Rattle.run_safety.specs.Past.{earlier}
 use Rattle.run_safety.specs.Group.{member, In, Put, kept}
 use Rattle.run_safety.specs.GroupLists as lists
+use Rattle.run_safety.specs.Bases.{state_of_list}
+use Rattle.run_safety.proofs.HeardLaw.{take_front}
 use Rattle.run_safety.proofs.Prefix.{IsPrefix}
 use Rattle.entry_laws.proofs.closing_rows.Told.{told_of}
 use Rattle.entry_laws.proofs.closing_rows.Lists.{front_of}
@@ -52,10 +55,10 @@ use Rattle.step_refinement.specs.Rules.{acted, Arises}
 use Rattle.step_refinement.specs.Ghost.{Ghost, IsStable}
 use Rattle.step_refinement.proofs.Acks.{used_is, member_self}
 use Rattle.step_refinement.proofs.Leads.{known_leads, leader_inc, leads_known}
-use Rattle.step_refinement.proofs.RowWorks.{len_is, max_one}
+use Rattle.step_refinement.proofs.RowWorks.{keeps_of, len_is, max_one}
 use Rattle.entry_laws.specs.closing_rows.Rows.{start_in, Tells, Acknowledges}
 use Rattle.entry_laws.proofs.closing_rows.Leading.{raised, raised_here, raised_there, acknowledged, acked_here, acked_there}
-use Rattle.entry_laws.proofs.closing_rows.At.{found, leads_row, leads_is, seat, leader_at, holds_at, least_at, PutFact, Floors, Frame, At, at_calm}
+use Rattle.entry_laws.proofs.closing_rows.At.{found, leads_row, leads_is, seat, leader_at, holds_at, least_at, take_all, PutFact, Floors, Frame, At, at_calm}
 use Rattle.entry_laws.proofs.closing_rows.Calms.{calm_on, owed_part_calm, at_tell, at_ring, at_report, at_rings_part, at_call}
 use Rattle.entry_laws.proofs.closing_rows.Ending.{Every, NoGroup, at_step_ended}
 use Rattle.entry_laws.proofs.closing_rows.Works.{Stays, begun_stays, ask_stays, prepare_stays, answer_stays, refuse_stays, install_stays, taken_stays}
@@ -101,6 +104,21 @@ module _ (v : ViewId) (g : List ℕ) (place stable : ℕ) (e : Entry) (w : Scene
       let stands = t.own.0.stands in
       let known : t.ghost.leads s.views.view ≡ Some (member n s.views.inc) = leader_inc g w n s t (record { inc = p.inc; leads = ap t.ghost.leads (sym k.0) ∙ shown.leads ∙ ap (λ m. Some (member m p.inc)) (mine ∙ stands.me) }) in
       all_is_there known
+
+  -- and it fits there, but for the room
+  entry_fits_there : fits (state_in (found s g).list) e ≡ true
+  unfolding o len_of list_of row_of
+  entry_fits_there =
+      let here : v ≡ s.views.view = (used_is s p v used).0 in
+      let puts : List Entry = lists.puts_of n v (kept t.ghost.all) in
+      let held : puts ≡ (t.ghost.nodes n).list = ap (λ u. lists.puts_of n u (kept t.ghost.all)) (here ∙ sym t.own.0.stands.view) ∙ (o.good.past.seated n).list in
+      let end : place ≡ length (t.ghost.nodes n).list = eqb-true place (len_of s g) at ∙ len_is g w n s t in
+      let front : IsPrefix puts (o.log v) = front_of n v g t.ghost.bases o.log t.ghost.all (told_of (opening_of w.config) t.ghost t.life) in
+      let long : place ≡ length puts = end ∙ sym (ap length held) in
+      let le : place ≤ length puts = omega arith in
+      let all : take place (o.log v) ≡ (t.ghost.nodes n).list = take_front place puts (o.log v) front le ∙ ap (take place) held ∙ ap (λ i. take i (t.ghost.nodes n).list) end ∙ take_all (t.ghost.nodes n).list in
+      let shows = keeps_of t.ghost s.views.view (t.ghost.nodes n).list (found s g).list t.own.0.row_is.list in
+      subst (λ z. fits z e ≡ true) (ap (state_of_list t.ghost.bases v) all ∙ ap (λ u. state_of_list t.ghost.bases u (t.ghost.nodes n).list) here ∙ sym shows.state) (o.tallied.fitting v place e get)
 
   -- what was sent someone had put
   pub entry_had_put : (m : ℕ) × Has (happened.Put m s.views.view g (len_in (found s g).list) e) (earlier (reverse s.records) w.before)
@@ -355,27 +373,36 @@ module _ (w : Scene) (n : ℕ) (f : Answering) (s : Core) (all : (h : List ℕ) 
         let one : is_used s p v ≡ true = (λ l. is_used s (sym (same_packet p t.packet t.given) l) (at_view h j t l)) ∙ t.used in
         let clash : true ≡ false = sym one ∙ none in cc
 
-    -- at the end of the list, where it does not fit
-    untaken : is_taken s g i e ≡ false → (h : List ℕ) (j : ℕ) → Tells s (Given p) h j → ⊥
-    untaken none h j t = by (i == len_of s g) refl none
+    fits_with_room : fits (state_in (found s g).list) e ≡ true → has_room (list_of s g) e ≡ true → fits_at_end s g e ≡ true
+    unfolding fits_at_end entry_fits list_of row_of
+    fits_with_room fit room = λ l. fit l && room l
+
+    has_room_there : fits_at_end s g e ≡ true → has_room (list_of s g) e ≡ true
+    unfolding fits_at_end entry_fits
+    has_room_there fit = (and_parts (fits (list_of s g).state e) (has_room (list_of s g) e) fit).1
+
+    -- at the end of the list, where it has no room
+    untaken : ((i == len_of s g) ≡ true → fits (state_in (found s g).list) e ≡ true) → is_taken s g i e ≡ false → (h : List ℕ) (j : ℕ) → Tells s (Given p) h j → ⊥
+    untaken fit none h j t = by (i == len_of s g) refl none
       where
-        fits : i ≡ len_of s g → fits_at_end s g e ≡ true
-        fits q =
+        ends : i ≡ len_of s g → fits_at_end s g e ≡ true
+        ends q =
             let there : t.place ≡ len_of s h = at_place h j t ∙ q ∙ ap (len_of s) (at_group h j t) in
-            (λ l. fits_at_end s (at_group h j t l) (sym (at_entry_of h j t) l)) ∙ t.fits there
+            fits_with_room (fit (eq-eqb i (len_of s g) q)) ((λ l. has_room (list_of s (at_group h j t l)) (sym (at_entry_of h j t) l)) ∙ t.room there)
 
         by : (b : Bool) → (i == len_of s g) ≡ b → elim b as (λ _. Bool) [ true ↦ fits_at_end s g e | false ↦ true ] ≡ false → ⊥
-        by true q z = let clash : true ≡ false = sym (fits (eqb-true i (len_of s g) q)) ∙ z in cc
+        by true q z = let clash : true ≡ false = sym (ends (eqb-true i (len_of s g) q)) ∙ z in cc
         by false q z = cc
 
-    taken_fits : is_taken s g i e ≡ true → i ≡ len_of s g → fits_at_end s g e ≡ true
-    taken_fits takes q = ap (λ b. elim b as (λ _. Bool) [ true ↦ fits_at_end s g e | false ↦ true ]) (sym (eq-eqb i (len_of s g) q)) ∙ takes
+    taken_room : is_taken s g i e ≡ true → i ≡ len_of s g → has_room (list_of s g) e ≡ true
+    taken_room takes q =
+        has_room_there (ap (λ b. elim b as (λ _. Bool) [ true ↦ fits_at_end s g e | false ↦ true ]) (sym (eq-eqb i (len_of s g) q)) ∙ takes)
 
     module _ (to : p.to ≡ s.views.me) (u : is_used s p v ≡ true) (takes : is_taken s g i e ≡ true) where
       tells : Tells s (Given p) g k
       tells =
           let here : v ≡ s.views.view = (used_is s p v u).0 in
-          record { packet = p; given = refl; to = to; place = i; entry = e; says = is ∙ ap (λ z. body.Entry z g i k e) here; used = subst (λ z. is_used s p z ≡ true) here u; fits = taken_fits takes }
+          record { packet = p; given = refl; to = to; place = i; entry = e; says = is ∙ ap (λ z. body.Entry z g i k e) here; used = subst (λ z. is_used s p z ≡ true) here u; room = taken_room takes }
 
       old : (h : List ℕ) (b : Bool) → start_in (found s h).list ≤ (if b then max (start_in (found s h).list) k else start_in (found s h).list)
       old h true = omega arith
@@ -412,7 +439,7 @@ module _ (w : Scene) (n : ℕ) (f : Answering) (s : Core) (all : (h : List ℕ) 
 
         told_by : (u : is_used s p v ≡ true) (b : Bool) → is_taken s g i e ≡ b → At (told_if (frame_of w s) g k b) Every NoGroup (take_entry f s p.from g i k e) → Out (Given p) (take_entry f s p.from g i k e)
         told_by u true q z = inr (raised (floors_of s) g k, goes me u q, z)
-        told_by u false q z = still (Given p) (take_entry f s p.from g i k e) (record { tells = untaken q; acks = mute }) z
+        told_by u false q z = still (Given p) (take_entry f s p.from g i k e) (record { tells = untaken (λ at. entry_fits_there v g i k e w n s p is sent (all g) u at) q; acks = mute }) z
 
         by : (b : Bool) → is_used s p v ≡ b → Out (Given p) (used_if s (take_entry f s p.from g i k e) b)
         by true u = told_by u (is_taken s g i e) refl (given u)

@@ -8,14 +8,14 @@ use Rattle.proposal_core.specs.declared.entry.Entry.TheVariants.{Once, Begin, Ph
 use Rattle.proposal_core.specs.declared.group_state.GroupState.{GroupState}
 use Rattle.proposal_core.specs.Fold.{voters}
 use Rattle.proposal_core.specs.GroupView.{GroupView}
-use Rattle.proposal_core.specs.Lists.{list_or_new}
+use Rattle.proposal_core.specs.Lists.{list_or_new, has_room}
 use Rattle.vote_phases.specs.declared.voter.Voter.{Voter}
 use Rattle.vote_phases.specs.Tally.{TallyView}
 use Rattle.node_state.specs.declared.config.Config.{Config}
 use Rattle.node_state.specs.declared.packet.Body.TheVariants as body
 use Rattle.node_state.specs.declared.packet.Packet.{Packet}
 use Rattle.node_state.specs.declared.state.Core.{Core}
-use Rattle.node_state.specs.State.{row_of, led_of, state_of, len_of, acked_from, least_acked, fits_at_end, leads}
+use Rattle.node_state.specs.State.{row_of, led_of, state_of, list_of, len_of, acked_from, least_acked, leads}
 use Rattle.node_state.specs.HandOn.{Answering}
 use Rattle.node_state.specs.Step.{NodeEvent, Given, is_used, stepped}
 use Rattle.node_state.specs.declared.happened.Happened.{Happened}
@@ -76,7 +76,7 @@ abbrev pub start_of : Core → List ℕ → ℕ
 start_of s g = start_in (row_of s g).list
 
 -- The event gives the node an ENTRY of its view that says that all members hold so many entries of the group, and the node takes
--- it: at the end of its list one that fits there.
+-- it: at the end of its list one for which it has room, since places and bytes are counted in 32 bits.
 pub record Tells (s : Core) (e : NodeEvent) (g : List ℕ) (k : ℕ) : Type 0 where
   pub packet : Packet
   pub given : e ≡ Given packet
@@ -85,7 +85,7 @@ pub record Tells (s : Core) (e : NodeEvent) (g : List ℕ) (k : ℕ) : Type 0 wh
   pub entry : Entry
   pub says : packet.body ≡ body.Entry s.views.view g place k entry
   pub used : is_used s packet s.views.view ≡ true
-  pub fits : place ≡ len_of s g → fits_at_end s g entry ≡ true
+  pub room : place ≡ len_of s g → has_room (list_of s g) entry ≡ true
 
 -- The event gives the node, which leads the group, an ACK of its view in which the member says that it holds so many entries of the
 -- group, and the node takes it.
