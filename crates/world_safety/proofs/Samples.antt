@@ -18,7 +18,7 @@ use Rattle.run_safety.specs.Past.{records_of}
 use Rattle.run_safety.proofs.Tests.{has_any}
 use Rattle.entry_laws.specs.source_order.Meant.{meant, Decided}
 use Rattle.entry_laws.specs.source_order.Sources.{FirstsFollowSources, HasMemberOn, PutBefore}
-use Rattle.world_safety.specs.Samples.{history_after, db, one, one_view, two_join, two_joined, target_joins, target_joined, limited, sourced, src, first_joiner, second_joiner}
+use Rattle.world_safety.specs.Samples.{history_after, db, one, one_view, one_joined, two_join, two_joined, target_joins, target_joined, limited, sourced, src, first_joiner, second_joiner}
 use Rattle.world_safety.specs.Opens.{all_opens}
 
 pub two_joined_is : history_after one two_join ≡ two_joined limited limited
@@ -100,13 +100,13 @@ not_limited : (idle : Bool) (asked own : Attrs) → (idle ≡ true) × (asked �
 not_limited true asked own k e = let u : ◌≡◌ {A = ℕ} 0 5 = ap (λ (a : Attrs). a.limit) (e ∙ k.1) in absurd (cc)
 not_limited false asked own k e = let u : false ≡ true = k.0 in absurd (cc)
 
-pub first_has_no_attributes : FirstsFollowSources (two_joined empty_attrs empty_attrs) → ⊥
+pub first_has_no_attributes : FirstsFollowSources (one_joined empty_attrs) → ⊥
 unfolding all_opens
 first_has_no_attributes k =
-    let b = k.1.1.1.0.1.0 (no_put one_view 0 (records_of (drop 4 (two_joined empty_attrs empty_attrs))) refl) in not_limited b.idle b.asked _ (asked b.first b.idle b.asked b.decided) b.attrs
+    let b = k.0.1.0 (no_put one_view 0 (records_of (drop 1 (one_joined empty_attrs))) refl) in not_limited b.idle b.asked _ (asked b.first b.idle b.asked b.decided) b.attrs
   where
-    asked : (p : ProviderId) (idle : Bool) (a : Attrs) → Decided (drop 3 (two_joined empty_attrs empty_attrs)) 1 one_view db p idle a → (idle ≡ true) × (a ≡ limited)
-    asked p idle a (inl d) = (sym d.state, asked_with limited (records_of (drop 4 (two_joined empty_attrs empty_attrs))) p d.joiners a d.len ((λ e. refl), (tt, (tt, tt))) d.asked)
+    asked : (p : ProviderId) (idle : Bool) (a : Attrs) → Decided (one_joined empty_attrs) 1 one_view db p idle a → (idle ≡ true) × (a ≡ limited)
+    asked p idle a (inl d) = (sym d.state, asked_with limited (records_of (drop 1 (one_joined empty_attrs))) p d.joiners a d.len ((λ e. refl), (tt, (tt, tt))) d.asked)
     asked p idle a (inr (inl d)) = absurd d.given
     asked p idle a (inr (inr (inl d))) = absurd d.given
     asked p idle a (inr (inr (inr (inl d)))) = absurd d.given

@@ -94,9 +94,12 @@ hears p g i e members = happened.Heard p one_view g i e members []
 abbrev pub limited : Attrs
 limited = record (empty_attrs) { limit = 5 }
 
--- two clients join one group, one after the other, and ask for these attributes
+-- a client joins a group, and asks for these attributes; and then a second one
+unfoldable pub one_join : List Event
+one_join = comes 1 (codes "a") ∷ joins 1 (codes "a") db 7 limited ∷ event.Deliver 1 1 1 ∷ []
+
 unfoldable pub two_join : List Event
-two_join = comes 1 (codes "a") ∷ joins 1 (codes "a") db 7 limited ∷ event.Deliver 1 1 1 ∷ comes 1 (codes "b") ∷ joins 1 (codes "b") db 8 limited ∷ event.Deliver 1 1 2 ∷ []
+two_join = one_join ++ comes 1 (codes "b") ∷ joins 1 (codes "b") db 8 limited ∷ event.Deliver 1 1 2 ∷ []
 
 abbrev pub one_in : Attrs → List Happened
 one_in attrs =
@@ -109,16 +112,20 @@ two_in attrs =
     hears second_joiner db 1 e members ∷ hears first_joiner db 1 e members ∷ puts db 1 e ∷ []
 
 -- what is recorded where the entries carry these attributes
+unfoldable pub one_joined : Attrs → History
+one_joined attrs =
+    happening (event.Deliver 1 1 1) (one_in attrs)
+    ∷ happening (joins 1 (codes "a") db 7 limited) (asks first_joiner db limited)
+    ∷ happening (comes 1 (codes "a")) []
+    ∷ begins
+    ∷ []
+
 unfoldable pub two_joined : Attrs → Attrs → History
 two_joined first second =
     happening (event.Deliver 1 1 2) (two_in second)
     ∷ happening (joins 1 (codes "b") db 8 limited) (asks second_joiner db limited)
     ∷ happening (comes 1 (codes "b")) []
-    ∷ happening (event.Deliver 1 1 1) (one_in first)
-    ∷ happening (joins 1 (codes "a") db 7 limited) (asks first_joiner db limited)
-    ∷ happening (comes 1 (codes "a")) []
-    ∷ begins
-    ∷ []
+    ∷ one_joined first
 
 -- the group follows a source
 abbrev pub sourced : Attrs
@@ -365,5 +372,5 @@ start_after c es n g = start_of (core_after c es n) g
 
 -- opens each word of this file, for a computation
 unfoldable pub samples_opens : Unit {0}
-unfolding history_after two_join two_joined target_joins target_joined until_asked after_asked second_leads first_leads two_ask until_named second_led first_led two_sides two_merged more_win fewer_win none_wins until_acked until_told two_entries sent_after core_after start_after
+unfolding history_after one_join one_joined two_join two_joined target_joins target_joined until_asked after_asked second_leads first_leads two_ask until_named second_led first_led two_sides two_merged more_win fewer_win none_wins until_acked until_told two_entries sent_after core_after start_after
 samples_opens = tt

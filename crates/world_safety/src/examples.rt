@@ -9,7 +9,7 @@ ghost use Rattle.entry_laws.specs.source_order.Sources.{FirstsFollowSources};
 ghost use Rattle.world_laws.specs.world_answers.Answers.{all_worded};
 ghost use Rattle.world_safety.specs.Askers.{FirstAsks, RecordLed};
 ghost use Rattle.world_safety.specs.Floors.{ToldToForget, HasAcknowledged, IsGreatest, IsLeastHeld};
-ghost use Rattle.world_safety.specs.Samples.{history_after, db, one, two_join, two_joined, limited, target_joins, target_joined, sourced, two, two_view, second_leads, first_leads, two_ask, second_led, first_led, two_sides, more_win, fewer_win, none_wins, pair, one_view, two_entries, core_after, start_after};
+ghost use Rattle.world_safety.specs.Samples.{history_after, db, one, one_joined, two_join, two_joined, limited, target_joins, target_joined, sourced, two, two_view, second_leads, first_leads, two_ask, second_led, first_led, two_sides, more_win, fewer_win, none_wins, pair, one_view, two_entries, core_after, start_after};
 
 /// Two clients join a group, one after the other: the entry of the first has the attributes that it asked for, since the group
 /// was empty and idle, and that of the second has the group's.
@@ -25,10 +25,10 @@ pub fn other_attributes_are_refused()
     ensures { FirstsFollowSources (two_joined limited empty_attrs) → ⊥ }
 {}
 
-/// So are entries with empty attributes, whatever was asked for.
+/// So is that of the first with empty attributes, whatever it asked for.
 #[tactic(auto, using(crate::proofs::Samples::first_has_no_attributes))]
 pub fn empty_attributes_are_refused()
-    ensures { FirstsFollowSources (two_joined empty_attrs empty_attrs) → ⊥ }
+    ensures { FirstsFollowSources (one_joined empty_attrs) → ⊥ }
 {}
 
 /// A client joins a group whose attributes name a source: its entry carries the length of the source's list.
