@@ -1,8 +1,8 @@
 //! Where the rows of groups stand, in the order of their names.
-ghost use Rattle.std.specs.Prelude.{◌≡◌, ◌≤◌, length, IfOk, OnOk, OnErr, find, slice_get, option_copied};
+ghost use Rattle.std.specs.Prelude.{◌≡◌, ◌≤◌, length, IfOk, OnOk, OnErr, find, insert, slice_get, option_copied};
 ghost use Rattle.std.specs.Borrow.{sem};
 ghost use Rattle.rsct_packet.specs.Search.{front_len};
-ghost use Rattle.node_state.specs.State.{has_name};
+ghost use Rattle.node_state.specs.State.{has_name, new_row};
 ghost use Rattle.node_groups.specs.Places.{stops_at, is_row_of, row_opened, row_reached};
 ghost use Rattle.node_groups.specs.Lending.{LendsRow};
 
@@ -50,6 +50,18 @@ pub fn row_of<'a>(groups: &'a Groups, name: &[u8]) -> Option<&'a GroupRow>
     groups.rows.iter().find(|row| row.name.bytes() == name)
 }
 
+/// Puts the group's empty row at this place. It is a function of its own, since room for a row is filled with zeros as a
+/// function begins, and mostly `open` finds one.
+fn insert_row(groups: &mut Groups, alloc: Global, place: usize, name: &Name) -> Result<(), NoMemory>
+    requires within { place ≤ length groups.old }
+    ensures rows { OnOk result (groups.new ≡ insert groups.old place (new_row name.now)) }
+    ensures err { OnErr result (groups.new ≡ groups.old) }
+{
+    let row = new_row(alloc, name)?;
+    groups.rows.insert(place, row)?;
+    Ok(())
+}
+
 /// The place of the group's row, which is made where there is none.
 #[tactic(auto, using(crate::proofs::RowLaws::opens_found, crate::proofs::RowLaws::opens_missing))]
 pub fn open(groups: &mut Groups, alloc: Global, name: &Name) -> Result<usize, NoMemory>
@@ -59,8 +71,7 @@ pub fn open(groups: &mut Groups, alloc: Global, name: &Name) -> Result<usize, No
 {
     let i = front(groups.rows.as_slice(), name.bytes());
     if !is_row_at(groups.rows.as_slice(), i, name.bytes()) {
-        let row = new_row(alloc, name)?;
-        groups.rows.insert(i, row)?;
+        insert_row(groups, alloc, i, name)?;
     }
     Ok(i)
 }
