@@ -103,6 +103,18 @@ impl Attrs {
         Ok(())
     }
 
+    /// Is their source the same, or has neither one?
+    pub fn has_same_source(&self, other: &Attrs) -> bool
+        ensures value { result ≡ same_source self.now.source other.now.source }
+        ensures equal { IsTrue result ↔ (self.now.source ≡ other.now.source) }
+    {
+        match (&self.source, &other.source) {
+            (None, None) => true,
+            (Some(own), Some(others)) => own.bytes() == others.bytes(),
+            _ => false,
+        }
+    }
+
     /// Are all fields equal?
     #[tactic(auto, unfolding(crate::specs::Agree::agree))]
     pub fn agrees(&self, other: &Attrs) -> bool
@@ -113,7 +125,7 @@ impl Attrs {
             && self.batch == other.batch
             && self.default_vote == other.default_vote
             && self.limit == other.limit
-            && is_same_source(&self.source, &other.source)
+            && self.has_same_source(other)
             && self.source_phases == other.source_phases
             && self.source_limit == other.source_limit
     }
@@ -127,18 +139,6 @@ fn is_bad_source(source: &Option<Name>, group: &[u8]) -> bool
     match source {
         None => false,
         Some(name) => name.bytes() == group || name.bytes() == HOST_MEMBERSHIP,
-    }
-}
-
-/// Are both the same source, or none?
-fn is_same_source(first: &Option<Name>, second: &Option<Name>) -> bool
-    ensures value { result ≡ same_source first.now second.now }
-    ensures equal { IsTrue result ↔ (first.now ≡ second.now) }
-{
-    match (first, second) {
-        (None, None) => true,
-        (Some(first), Some(second)) => first.bytes() == second.bytes(),
-        _ => false,
     }
 }
 

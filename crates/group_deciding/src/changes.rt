@@ -3,7 +3,6 @@ ghost use Rattle.std.specs.Prelude.{◌≡◌, IfOk, OnOk, None, not};
 ghost use Rattle.session_clients.specs.Clients.{KeepsScripts};
 ghost use Rattle.std.specs.List.{list_any};
 ghost use Rattle.rsct_packet.specs.Providers.{among};
-ghost use Rattle.group_attr.specs.Agree.{same_source};
 ghost use Rattle.entry_delivery.specs.Doing.{Does, RuleDoes};
 ghost use Rattle.group_leading.specs.Working.{AtWork};
 ghost use Rattle.node_state.specs.Leading.{begins};
@@ -32,24 +31,13 @@ fn expelled_by(proposal: &Proposal) -> &[ProviderId]
     }
 }
 
-/// Are both the same source, or none?
-fn is_same_source(first: &Option<Name>, second: &Option<Name>) -> bool
-    ensures { result ≡ same_source first.now second.now }
-{
-    match (first, second) {
-        (None, None) => true,
-        (Some(first), Some(second)) => first.bytes() == second.bytes(),
-        _ => false,
-    }
-}
-
 /// Does a proposal give the group another source?
 #[tactic(auto, unfolding(node_state::specs::Deciding::has_other_source))]
 fn has_other_source(old: &Attrs, proposal: &Proposal) -> bool
     ensures { result ≡ has_other_source old.now proposal.now }
 {
     match proposal {
-        Proposal::Attributes { attrs, .. } => !is_same_source(&attrs.source, &old.source),
+        Proposal::Attributes { attrs, .. } => !attrs.has_same_source(old),
         _ => false,
     }
 }

@@ -1,5 +1,6 @@
 //! The joins that wait in a group.
 ghost use Rattle.std.specs.Prelude.{◌≡◌, ◌++◌, [], OnOk};
+ghost use Rattle.std.specs.List.{position};
 ghost use Rattle.rsct_packet.specs.Lists.{drop_where};
 ghost use Rattle.rsct_packet.specs.Search.{place_where};
 ghost use Rattle.batch_rules.specs.Waiting.{has_instance, waits_join};
@@ -34,20 +35,14 @@ pub(crate) fn is_duplicate(
 }
 
 /// Where the attributes of the provider's join are kept.
-#[tactic(auto, using(rsct_packet::proofs::SearchLaws::place_search))]
 fn attrs_place(kept: &[JoinAttrs], provider: ProviderId) -> Option<usize>
-    ensures { result ≡ place_where (are_attrs_of provider) kept.now }
+    ensures { result ≡ position (are_attrs_of provider) kept.now }
 {
-    for (i, j) in kept.iter().enumerate() {
-        if j.p == provider {
-            return Some(i);
-        }
-    }
-    None
+    kept.iter().position(|j| j.p == provider)
 }
 
 /// The attributes of the provider's join are no longer kept.
-#[tactic(auto, using(rsct_packet::proofs::SearchLaws::place_is_in, crate::proofs::QueueLaws::removed_where, crate::proofs::QueueLaws::removed_nowhere, std::proofs::lemmas::Grind::common_steps))]
+#[tactic(auto, using(rsct_packet::proofs::SearchLaws::place_is_position, rsct_packet::proofs::SearchLaws::place_is_in, rsct_packet::proofs::SearchLaws::removed_where, rsct_packet::proofs::SearchLaws::removed_nowhere, std::proofs::lemmas::Grind::common_steps))]
 fn forget_attrs(kept: &mut List<JoinAttrs>, provider: ProviderId)
     ensures { kept.new ≡ drop_where (are_attrs_of provider) kept.old }
 {

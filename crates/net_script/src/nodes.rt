@@ -1,5 +1,6 @@
 //! The nodes of a world that are up, ascending.
 ghost use Rattle.std.specs.Prelude.{◌≡◌, ◌<◌, ◌≤◌, [], length, IfSome, IfOk, OnOk, IsTrue, find, is_some, option_copied, map};
+ghost use Rattle.std.specs.List.{position};
 ghost use Rattle.rsct_packet.specs.Search.{place_where, front_len, insert_before};
 ghost use Rattle.rsct_packet.specs.Lists.{drop_where};
 ghost use Rattle.node_state.specs.Step.{Calls};
@@ -32,19 +33,13 @@ impl<C: Callbacks> Model for Nodes<C> {
 }
 
 /// Where a node stands among those that are up.
-#[tactic(auto, using(rsct_packet::proofs::SearchLaws::place_search))]
 fn place_alone<C: Callbacks>(nodes: &[Node<C>], node: u8) -> Option<usize>
-    ensures { result ≡ place_where (is_me node) nodes.now }
+    ensures { result ≡ position (is_me node) nodes.now }
 {
-    for (i, x) in nodes.iter().enumerate() {
-        if x.core().views.me == node {
-            return Some(i);
-        }
-    }
-    None
+    nodes.iter().position(|x| x.core().views.me == node)
 }
 
-#[tactic(auto, using(rsct_packet::proofs::SearchLaws::place_is_in))]
+#[tactic(auto, using(rsct_packet::proofs::SearchLaws::place_is_position, rsct_packet::proofs::SearchLaws::place_is_in))]
 fn place_of<C: Callbacks>(nodes: &[Node<C>], node: u8) -> Option<usize>
     ensures value { result ≡ place_where (is_me node) nodes.now }
     ensures within { IfSome result (λ i. i < length nodes.now) }
@@ -59,18 +54,20 @@ fn comes_before<C: Callbacks>(number: u8, node: &Node<C>) -> bool
     number < node.core().views.me
 }
 
+/// Where the first node stands whose number is greater.
+fn first_after<C: Callbacks>(nodes: &[Node<C>], node: u8) -> Option<usize>
+    ensures { result ≡ position (comes_before node) nodes.now }
+{
+    nodes.iter().position(|x| comes_before(node, x))
+}
+
 /// How many nodes stand before a number.
-#[tactic(auto, using(rsct_packet::proofs::SearchLaws::front_search, rsct_packet::proofs::SearchLaws::front_is_in))]
+#[tactic(auto, using(rsct_packet::proofs::SearchLaws::front_is_position, rsct_packet::proofs::SearchLaws::front_is_in))]
 fn front<C: Callbacks>(nodes: &[Node<C>], node: u8) -> usize
     ensures value { result ≡ front_len (comes_before node) nodes.now }
     ensures within { result ≤ length nodes.now }
 {
-    for (i, x) in nodes.iter().enumerate() {
-        if comes_before(node, x) {
-            return i;
-        }
-    }
-    nodes.len()
+    first_after(nodes, node).unwrap_or(nodes.len())
 }
 
 impl<C: Callbacks> Nodes<C> {
@@ -120,7 +117,7 @@ impl<C: Callbacks> Nodes<C> {
     }
 
     /// A node stops; answers whether it was up.
-    #[tactic(auto, using(world_packets::proofs::WaitLaws::removed_at_place, world_packets::proofs::WaitLaws::none_removed))]
+    #[tactic(auto, using(rsct_packet::proofs::SearchLaws::removed_where, rsct_packet::proofs::SearchLaws::removed_nowhere))]
     pub fn remove(&mut self, node: u8) -> bool
         ensures up { result ≡ is_some (find (is_me node) self.old) }
         ensures left { self.new ≡ drop_where (is_me node) self.old }

@@ -21,7 +21,8 @@ pub fn put_all<K: Sink>(bytes: &[u8], out: &mut K) -> Result<(), PutFault>
     ensures done { OnOk result (Appends (K.held out.old) (K.held out.new) bytes.now) }
     ensures front { GrowsByFront (K.held out.old) (K.held out.new) bytes.now }
     ensures later { K.faults out.old ≤ K.faults out.new }
-    ensures fault { result ≡ Err PutFault.WriteFault → Rose (K.faults out.old) (K.faults out.new) }
+    ensures fault { result ≡ Err PutFault.WriteFault
+        → Rose (K.faults out.old) (K.faults out.new) }
 {
     match out.put(bytes) {
         Put::Done => Ok(()),
@@ -71,7 +72,8 @@ pub fn write_rest<K: Sink>(text: &[u8], out: &mut K) -> Result<(), PutFault>
     ensures done { OnOk result (Appends (K.held out.old) (K.held out.new) text.now) }
     ensures front { GrowsByFront (K.held out.old) (K.held out.new) text.now }
     ensures later { K.faults out.old ≤ K.faults out.new }
-    ensures fault { result ≡ Err PutFault.WriteFault → Rose (K.faults out.old) (K.faults out.new) }
+    ensures fault { result ≡ Err PutFault.WriteFault
+        → Rose (K.faults out.old) (K.faults out.new) }
 {
     if text.is_empty() {
         Ok(())
@@ -87,7 +89,8 @@ fn write_block<K: Sink>(text: &mut Vec<u8>, out: &mut K) -> Result<(), PutFault>
         (K.held out.new) text.new.items []) }
     ensures front { GrowsByFront (K.held out.old) (K.held out.new) text.old.items }
     ensures later { K.faults out.old ≤ K.faults out.new }
-    ensures fault { result ≡ Err PutFault.WriteFault → Rose (K.faults out.old) (K.faults out.new) }
+    ensures fault { result ≡ Err PutFault.WriteFault
+        → Rose (K.faults out.old) (K.faults out.new) }
 {
     if text.len() < BLOCK {
         return Ok(());
@@ -112,7 +115,8 @@ pub fn write_records<K: Sink>(
     ensures front { GrowsByFront (K.held out.old) (K.held out.new)
         (text.old.items ++ kinds_text kinds records.now) }
     ensures later { K.faults out.old ≤ K.faults out.new }
-    ensures fault { result ≡ Err PutFault.WriteFault → Rose (K.faults out.old) (K.faults out.new) }
+    ensures fault { result ≡ Err PutFault.WriteFault
+        → Rose (K.faults out.old) (K.faults out.new) }
 {
     put_records(text, alloc, kinds, records)?;
     write_block(text, out)

@@ -47,14 +47,6 @@ fn is_used(core: &Core, packet: &PacketRef<'_>, view: ViewId) -> bool
         && is_member(core.views.members.as_slice(), packet.from, packet.inc)
 }
 
-/// The name of a packet's group.
-fn name_of(alloc: Global, group: &GroupRef<'_>) -> Result<Name, NoMemory>
-    requires { IsName group.now.name }
-    ensures { IfOk result (λ n. n ≡ group.now.name) }
-{
-    Ok(Name::of(alloc, group.name())?.unwrap())
-}
-
 /// LOOKUP.
 #[tactic(auto, unfolding(node_state::specs::Step::used_if), using(node_groups::proofs::KeepLaws::keeps_itself))]
 pub fn take_lookup_packet(
@@ -72,7 +64,7 @@ pub fn take_lookup_packet(
     if !is_used(core, packet, group.view()) {
         return Ok(());
     }
-    let name = name_of(alloc, group)?;
+    let name = Name::of_name(alloc, group.name())?;
     take_lookup(core, alloc, packet.from, &name)
 }
 
@@ -95,7 +87,7 @@ pub fn take_name_packet<C: Callbacks>(
     if !is_used(core, packet, leader.group.view()) {
         return Ok(());
     }
-    let name = name_of(alloc, &leader.group)?;
+    let name = Name::of_name(alloc, leader.group.name())?;
     take_name(core, clients, alloc, &name, leader.leader)
 }
 
@@ -124,7 +116,7 @@ pub fn take_request_packet<C: Callbacks>(
     let asked = Request {
         p: body.provider,
         r: body.request,
-        group: name_of(alloc, &body.group)?,
+        group: Name::of_name(alloc, body.group.name())?,
         phases: body.phases,
         proposal: body.proposal.own(alloc)?,
     };
@@ -174,7 +166,7 @@ pub fn take_entry_packet<C: Callbacks>(
     if !is_used(core, packet, body.group.view()) {
         return Ok(());
     }
-    let name = name_of(alloc, &body.group)?;
+    let name = Name::of_name(alloc, body.group.name())?;
     let own = body.entry.own(alloc)?;
     let placed = PlacedEntry {
         group: &name,
@@ -202,7 +194,7 @@ pub fn take_ack_packet(
     if !is_used(core, packet, ack.group.view()) {
         return Ok(());
     }
-    let name = name_of(alloc, &ack.group)?;
+    let name = Name::of_name(alloc, ack.group.name())?;
     take_ack(core, alloc, packet.from, &name, ack.len)
 }
 
@@ -229,7 +221,7 @@ pub fn take_vote_packet<C: Callbacks>(
     if !is_used(core, packet, body.group.view()) {
         return Ok(());
     }
-    let name = name_of(alloc, &body.group)?;
+    let name = Name::of_name(alloc, body.group.name())?;
     let filled = Filled {
         vote: body.vote,
         value: optional_text_of(alloc, body.value)?,
@@ -264,6 +256,6 @@ pub fn take_gone_packet<C: Callbacks>(
     if !is_used(core, packet, gone.group.view()) {
         return Ok(());
     }
-    let name = name_of(alloc, &gone.group)?;
+    let name = Name::of_name(alloc, gone.group.name())?;
     take_gone(core, clients, alloc, &name, gone.p)
 }

@@ -1,5 +1,6 @@
 //! Where the rows of groups stand, in the order of their names.
 ghost use Rattle.std.specs.Prelude.{◌≡◌, ◌≤◌, length, IfOk, OnOk, OnErr, find, insert, slice_get, option_copied};
+ghost use Rattle.std.specs.List.{position};
 ghost use Rattle.std.specs.Borrow.{sem};
 ghost use Rattle.rsct_packet.specs.Search.{front_len};
 ghost use Rattle.node_state.specs.State.{has_name, new_row};
@@ -19,18 +20,20 @@ fn stops_at(name: &[u8], row: &GroupRow) -> bool
     name.cmp(row.name.bytes()).is_le()
 }
 
+/// Where the first row stands that has this name or comes after it.
+fn stop_of(rows: &[GroupRow], name: &[u8]) -> Option<usize>
+    ensures { result ≡ position (stops_at name.now) rows.now }
+{
+    rows.iter().position(|row| stops_at(name, row))
+}
+
 /// How many rows stand before a name.
-#[tactic(auto, using(rsct_packet::proofs::SearchLaws::front_search, rsct_packet::proofs::SearchLaws::front_is_in))]
+#[tactic(auto, using(rsct_packet::proofs::SearchLaws::front_is_position, rsct_packet::proofs::SearchLaws::front_is_in))]
 fn front(rows: &[GroupRow], name: &[u8]) -> usize
     ensures value { result ≡ front_len (stops_at name.now) rows.now }
     ensures within { result ≤ length rows.now }
 {
-    for (i, row) in rows.iter().enumerate() {
-        if stops_at(name, row) {
-            return i;
-        }
-    }
-    rows.len()
+    stop_of(rows, name).unwrap_or(rows.len())
 }
 
 /// Does the row of this name stand at this place?

@@ -1,6 +1,6 @@
 //! What a leader keeps of the members and of the requesters of a group, in the order in which they came.
 ghost use Rattle.std.specs.Prelude.{◌≡◌, OnOk, find, option_copied};
-ghost use Rattle.rsct_packet.specs.Search.{place_where};
+ghost use Rattle.std.specs.List.{position};
 ghost use Rattle.rsct_packet.specs.Providers.{same_provider};
 ghost use Rattle.node_state.specs.declared.group.Acked.{Acked};
 ghost use Rattle.node_state.specs.declared.group.Decision.{Decision};
@@ -16,28 +16,16 @@ fn acked_of(rows: &[Acked], node: u8) -> Option<&Acked>
     rows.iter().find(|a| a.node == node)
 }
 
-#[tactic(auto, using(rsct_packet::proofs::SearchLaws::place_search))]
 fn acked_place(rows: &[Acked], node: u8) -> Option<usize>
-    ensures { result ≡ place_where (is_acked_by node) rows.now }
+    ensures { result ≡ position (is_acked_by node) rows.now }
 {
-    for (i, a) in rows.iter().enumerate() {
-        if a.node == node {
-            return Some(i);
-        }
-    }
-    None
+    rows.iter().position(|a| a.node == node)
 }
 
-#[tactic(auto, using(rsct_packet::proofs::SearchLaws::place_search))]
 fn decision_place(rows: &[Decision], provider: ProviderId) -> Option<usize>
-    ensures { result ≡ place_where (is_decision_on provider) rows.now }
+    ensures { result ≡ position (is_decision_on provider) rows.now }
 {
-    for (i, d) in rows.iter().enumerate() {
-        if d.p == provider {
-            return Some(i);
-        }
-    }
-    None
+    rows.iter().position(|d| d.p == provider)
 }
 
 /// The length that a member has acknowledged; 0 where none is noted.
@@ -52,7 +40,7 @@ pub fn acked_len(table: &Table<Acked>, node: u8) -> u32
 }
 
 /// Raises the length that a member has acknowledged.
-#[tactic(auto, using(crate::proofs::TableLaws::acked_set, crate::proofs::TableLaws::acked_added, rsct_packet::proofs::SearchLaws::place_is_in, std::proofs::lemmas::Grind::common_steps))]
+#[tactic(auto, using(rsct_packet::proofs::SearchLaws::place_is_position, crate::proofs::TableLaws::acked_set, crate::proofs::TableLaws::acked_added, rsct_packet::proofs::SearchLaws::place_is_in, std::proofs::lemmas::Grind::common_steps))]
 pub fn raise_acked(table: &mut Table<Acked>, node: u8, len: u32) -> Result<(), NoMemory>
     ensures { OnOk result (table.new ≡ acked_raised node len table.old) }
 {
@@ -77,7 +65,7 @@ pub fn decision_on(table: &Table<Decision>, provider: ProviderId) -> Option<&Dec
 }
 
 /// Keeps a decision in place of the last one on its requester.
-#[tactic(auto, using(crate::proofs::TableLaws::decision_set, crate::proofs::TableLaws::decision_added, rsct_packet::proofs::SearchLaws::place_is_in, std::proofs::lemmas::Grind::common_steps))]
+#[tactic(auto, using(rsct_packet::proofs::SearchLaws::place_is_position, crate::proofs::TableLaws::decision_set, crate::proofs::TableLaws::decision_added, rsct_packet::proofs::SearchLaws::place_is_in, std::proofs::lemmas::Grind::common_steps))]
 pub fn keep_decision(table: &mut Table<Decision>, decision: Decision) -> Result<(), NoMemory>
     ensures { OnOk result (table.new ≡ decisions_with decision table.old) }
 {

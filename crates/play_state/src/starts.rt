@@ -1,5 +1,6 @@
 //! In which incarnations nodes started last.
 ghost use Rattle.std.specs.Prelude.{◌≡◌, [], map, find, OnOk, option_copied};
+ghost use Rattle.std.specs.List.{position};
 ghost use Rattle.rsct_packet.specs.Search.{place_where};
 ghost use Rattle.world_model.specs.World.{inc_in, starts_with};
 ghost use Rattle.play_state.specs.Starts.{started_in, is_start_of, is_start};
@@ -36,16 +37,10 @@ fn start_of(starts: &[Started], node: u8) -> Option<&Started>
     starts.iter().find(|x| x.node == node)
 }
 
-#[tactic(auto, using(rsct_packet::proofs::SearchLaws::place_search))]
 fn place_of(starts: &[Started], node: u8) -> Option<usize>
-    ensures { result ≡ place_where (is_start_of node) starts.now }
+    ensures { result ≡ position (is_start_of node) starts.now }
 {
-    for (i, x) in starts.iter().enumerate() {
-        if x.node == node {
-            return Some(i);
-        }
-    }
-    None
+    starts.iter().position(|x| x.node == node)
 }
 
 impl Starts {
@@ -70,7 +65,7 @@ impl Starts {
     }
 
     /// Notes that a node started in an incarnation.
-    #[tactic(auto, using(crate::proofs::StartLaws::noted_again, crate::proofs::StartLaws::noted_first, rsct_packet::proofs::SearchLaws::place_is_in, std::proofs::lemmas::Grind::common_steps))]
+    #[tactic(auto, using(rsct_packet::proofs::SearchLaws::place_is_position, crate::proofs::StartLaws::noted_again, crate::proofs::StartLaws::noted_first, rsct_packet::proofs::SearchLaws::place_is_in, std::proofs::lemmas::Grind::common_steps))]
     pub fn note(&mut self, node: u8, inc: u32) -> Result<(), NoMemory>
         ensures { OnOk result (map started_in self.new
             ≡ starts_with (map started_in self.old) node inc) }

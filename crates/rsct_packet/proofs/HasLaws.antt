@@ -1,8 +1,9 @@
--- What is in a list that was filtered, joined or made from another, and what a search finds.
-use Rattle.std.proofs.Common.{◌≡◌, ℕ, zero, suc, ◌⊎◌, Bool, true, false, List, [], ◌∷◌, ◌++◌, Some, refl, sym, ap, ◌∙◌, inl, inr, ⊎_elim}
-use Rattle.std.specs.Prelude.{filter, map, find, is_none, slice_get, if◌then◌else◌}
+-- What is in a list that was filtered, joined, turned, cut or made from another, and what a search finds.
+use Rattle.std.proofs.Common.{◌≡◌, ℕ, zero, suc, ◌<◌, ◌⊎◌, Bool, true, false, List, [], ◌∷◌, ◌++◌, length, take, drop, Some, refl, sym, ap, subst, ◌∙◌, inl, inr, ⊎_elim, arith}
+use Rattle.std.specs.Prelude.{filter, map, find, is_none, slice_get, reverse, if◌then◌else◌}
 use Rattle.std.specs.List.{list_all}
 use Rattle.std.proofs.lemmas.Bool.{and_parts}
+use Rattle.std.proofs.lemmas.List.{reverse-append, reverse-reverse}
 use Rattle.rsct_packet.specs.Search.{Has}
 
 pub has_filter : {A : Type 0} (test : A → Bool) (x : A) (xs : List A) → Has x (filter test xs) → Has x xs × (test x ≡ true)
@@ -44,6 +45,11 @@ has_map f y [] h = absurd h
 has_map f y (x ∷ xs) (inl e) = (x, inl refl, e)
 has_map f y (x ∷ xs) (inr h) = let r = has_map f y xs h in (r.0, inr r.1, r.2)
 
+pub map_has : {A B : Type 0} (f : A → B) (x : A) (xs : List A) → Has x xs → Has (f x) (map f xs)
+map_has f x [] h = absurd h
+map_has f x (y ∷ ys) (inl e) = inl (ap f e)
+map_has f x (y ∷ ys) (inr h) = inr (map_has f x ys h)
+
 -- a test that holds of a list holds of what is in it
 pub all_has : {A : Type 0} (test : A → Bool) (xs : List A) (x : A) → list_all test xs ≡ true → Has x xs → test x ≡ true
 all_has test [] x e h = absurd h
@@ -75,3 +81,31 @@ pub get_has : {A : Type 0} (xs : List A) (i : ℕ) (x : A) → slice_get xs i �
 get_has [] i x e = absurd (cc)
 get_has (y ∷ ys) zero x e = let s : x ≡ y = cc in inl s
 get_has (y ∷ ys) (suc i) x e = inr (get_has ys i x e)
+
+-- what is in a list stands at a place of it
+pub has_get : {A : Type 0} (x : A) (xs : List A) → Has x xs → (i : ℕ) × (i < length xs) × (slice_get xs i ≡ Some x)
+has_get x [] h = absurd h
+has_get x (y ∷ ys) (inl e) = (0, omega arith, ap Some (sym e))
+has_get x (y ∷ ys) (inr h) = let r = has_get x ys h in (suc r.0, omega (arith, r.1), r.2)
+
+pub has_drop : {A : Type 0} (n : ℕ) (xs : List A) (x : A) → Has x (drop n xs) → Has x xs
+has_drop zero xs x i = i
+has_drop (suc n) [] x i = absurd i
+has_drop (suc n) (y ∷ xs) x i = inr (has_drop n xs x i)
+
+pub has_take : {A : Type 0} (n : ℕ) (xs : List A) (x : A) → Has x (take n xs) → Has x xs
+has_take zero xs x i = absurd i
+has_take (suc n) [] x i = absurd i
+has_take (suc n) (y ∷ xs) x (inl e) = inl e
+has_take (suc n) (y ∷ xs) x (inr i) = inr (has_take n xs x i)
+
+pub has_reverse : {A : Type 0} (x : A) (xs : List A) → Has x (reverse xs) → Has x xs
+has_reverse x [] h = h
+has_reverse x (y ∷ ys) h = ⊎_elim (λ (a : Has x (reverse ys)). inr (has_reverse x ys a)) (λ (a : Has x (y ∷ [])). last a) (has_append x (reverse ys) (y ∷ []) (subst (Has x) (reverse-append (y ∷ []) ys) h))
+  where
+    last : Has x (y ∷ []) → Has x (y ∷ ys)
+    last (inl e) = inl e
+    last (inr z) = absurd z
+
+pub reverse_has : {A : Type 0} (x : A) (xs : List A) → Has x xs → Has x (reverse xs)
+reverse_has x xs h = has_reverse x (reverse xs) (subst (Has x) (sym (reverse-reverse xs)) h)

@@ -1,6 +1,7 @@
 -- Lists of providers that differ stay such lists.
-use Rattle.std.proofs.Common.{◌≡◌, ◌+◌, ◌≤◌, ◌<◌, Bool, true, false, cond, List, [], ◌∷◌, ◌++◌, length, refl, ap, arith, length-append}
+use Rattle.std.proofs.Common.{◌≡◌, ◌+◌, ◌≤◌, ◌<◌, Bool, true, false, cond, List, [], ◌∷◌, ◌++◌, length, refl, sym, ap, ◌∙◌, arith, length-append}
 use Rattle.std.specs.Prelude.{not, ◌||◌, ◌&&◌, IsTrue, filter}
+use Rattle.std.proofs.lemmas.Bool.Decides.{nat_tests}
 use Rattle.std.proofs.lemmas.List.Folds.{list_any-append}
 use Rattle.rsct_packet.specs.declared.ids.ProviderId.{ProviderId}
 use Rattle.rsct_packet.specs.Providers.{same_provider, among, none_among, without, without_all, differ, AreProviders}
@@ -34,13 +35,13 @@ among-filter f (x ∷ xs) q h =
       | false ↦ among-filter f xs q parts.1
     ]
 
-differ-filter : (f : ProviderId → Bool) (xs : List ProviderId) → IsTrue (differ xs) → IsTrue (differ (filter f xs))
-differ-filter f [] h = refl
-differ-filter f (x ∷ xs) h =
+pub filter_differs : (f : ProviderId → Bool) (xs : List ProviderId) → IsTrue (differ xs) → IsTrue (differ (filter f xs))
+filter_differs f [] h = refl
+filter_differs f (x ∷ xs) h =
     let parts = and_true (not (among xs x)) (differ xs) h in
     elim (f x) as (λ b. IsTrue (differ (cond b (x ∷ filter f xs) (filter f xs)))) [
-      | true ↦ both_true (not (among (filter f xs) x)) (differ (filter f xs)) (not_of_false _ (among-filter f xs x (not_true _ parts.0))) (differ-filter f xs parts.1)
-      | false ↦ differ-filter f xs parts.1
+      | true ↦ both_true (not (among (filter f xs) x)) (differ (filter f xs)) (not_of_false _ (among-filter f xs x (not_true _ parts.0))) (filter_differs f xs parts.1)
+      | false ↦ filter_differs f xs parts.1
     ]
 
 length-filter_le : (f : ProviderId → Bool) (xs : List ProviderId) → length (filter f xs) ≤ length xs
@@ -55,13 +56,13 @@ length-filter_le f (x ∷ xs) =
 pub AreProviders-without : (xs : List ProviderId) (p : ProviderId) → AreProviders xs → AreProviders (without xs p)
 AreProviders-without xs p h = record {
   few = omega (arith, length-filter_le (λ q. not (same_provider q p)) xs, h.few);
-  apart = differ-filter (λ q. not (same_provider q p)) xs h.apart;
+  apart = filter_differs (λ q. not (same_provider q p)) xs h.apart;
 }
 
 pub AreProviders-without_all : (xs ps : List ProviderId) → AreProviders xs → AreProviders (without_all xs ps)
 AreProviders-without_all xs ps h = record {
   few = omega (arith, length-filter_le (λ q. not (among ps q)) xs, h.few);
-  apart = differ-filter (λ q. not (among ps q)) xs h.apart;
+  apart = filter_differs (λ q. not (among ps q)) xs h.apart;
 }
 
 same_sym : (a b : ProviderId) → same_provider a b ≡ same_provider b a
@@ -108,3 +109,26 @@ without_all-append (x ∷ xs) ps qs =
       | true ↦ h
       | false ↦ ap (λ (ys : List ProviderId). cond (not (among qs x)) (x ∷ ys) ys) h
     ])
+
+same_is : (a b : ProviderId) → same_provider a b ≡ true → a ≡ b
+same_is a b z = grind (arith, nat_tests)
+
+and_none : (a : Bool) → (a && false) ≡ false
+and_none true = refl
+and_none false = refl
+
+-- who is among those that are left
+pub among_without : (ps xs : List ProviderId) (p : ProviderId) → among (without_all xs ps) p ≡ (among xs p && not (among ps p))
+among_without ps [] p = refl
+among_without ps (x ∷ xs) p = at (same_provider x p) refl (not (among ps x)) refl (among_without ps xs p)
+  where
+    rest : List ProviderId
+    rest = without_all xs ps
+
+    at : (b : Bool) → same_provider x p ≡ b → (t : Bool) → not (among ps x) ≡ t → among rest p ≡ (among xs p && not (among ps p)) → among (cond t (x ∷ rest) rest) p ≡ ((b || among xs p) && not (among ps p))
+    at true e true q k = ap (λ z. z || among rest p) e ∙ sym (ap (λ z. not (among ps z)) (sym (same_is x p e)) ∙ q)
+    at true e false q k =
+        let off : not (among ps p) ≡ false = ap (λ z. not (among ps z)) (sym (same_is x p e)) ∙ q in
+        k ∙ ap (λ z. among xs p && z) off ∙ and_none (among xs p) ∙ sym off
+    at false e true q k = ap (λ z. z || among rest p) e ∙ k
+    at false e false q k = k

@@ -1,39 +1,28 @@
--- A search from the front, as a loop does it, and what is found there.
-use Rattle.std.proofs.Common.{◌≡◌, ℕ, zero, suc, ◌+◌, ◌≤◌, ◌<◌, Bool, true, false, cond, List, [], ◌∷◌, length, get_or, set, drop, Option, Some, None, refl, sym, ap, ◌∙◌, arith}
-use Rattle.std.specs.Option.{option_map}
-use Rattle.std.specs.Prelude.{slice_get, insert, find}
-use Rattle.std.proofs.lemmas.List.{drop_more}
+-- A search from the front, and what is found there.
+use Rattle.std.proofs.Common.{◌≡◌, ℕ, suc, ◌+◌, ◌≤◌, ◌<◌, not, Bool, true, false, cond, List, [], ◌∷◌, length, get_or, set, Option, Some, None, refl, sym, ap, ◌∙◌, arith}
+use Rattle.std.specs.Option.{option_map, unwrap_or}
+use Rattle.std.specs.Prelude.{slice_get, insert, remove, find, nat_lt}
+use Rattle.std.specs.List.{position, position_or_len}
+use Rattle.rsct_packet.specs.Lists.{drop_where}
 use Rattle.rsct_packet.specs.Search.{place_where, edit_where, front_len, insert_before}
 
--- what is left of the search at a place
-abbrev pub place_from : {A : Type 0} → (A → Bool) → ℕ → List A → Option ℕ
-place_from test i xs = option_map (λ k. i + k) (place_where test (drop i xs))
+-- what `position` of std finds
+pub place_is_position : {A : Type 0} (test : A → Bool) (xs : List A) → place_where test xs ≡ position test xs
+place_is_position test [] = refl
+place_is_position test (x ∷ xs) =
+    rw (place_is_position test xs, place_where, position, position_or_len)
+    elim (test x) as (λ b. cond b (Some 0) (option_map suc (position test xs)) ≡ cond (nat_lt (cond (not b) (1 + position_or_len test xs) 0) (suc (length xs))) (Some (cond (not b) (1 + position_or_len test xs) 0)) None) [
+      | true ↦ grind arith
+      | false ↦ grind arith
+    ]
 
-same_map : (o : Option ℕ) → o ≡ option_map (λ k. 0 + k) o
-same_map (Some k) = ap Some (omega arith)
-same_map None = refl
+front_is_place : {A : Type 0} (test : A → Bool) (xs : List A) → front_len test xs ≡ unwrap_or (place_where test xs) (length xs)
+front_is_place test [] = refl
+front_is_place test (x ∷ xs) = elim (test x) as (λ b. cond b 0 (suc (front_len test xs)) ≡ unwrap_or (cond b (Some 0) (option_map suc (place_where test xs))) (suc (length xs))) [ true ↦ refl | false ↦ rw (front_is_place test xs) grind arith ]
 
-pub place_begins : {A : Type 0} (test : A → Bool) (xs : List A) → place_where test xs ≡ place_from test 0 xs
-place_begins test xs = same_map (place_where test xs)
-
-shift : (o : Option ℕ) (i : ℕ) → option_map (λ k. i + k) (option_map suc o) ≡ option_map (λ k. (i + 1) + k) o
-shift (Some k) i = ap Some (omega arith)
-shift None i = refl
-
-pub place_goes_on : {A : Type 0} (test : A → Bool) (xs : List A) (i : ℕ) (d : A) → i < length xs → test (get_or xs i d) ≡ false → place_from test i xs ≡ place_from test (i + 1) xs
-place_goes_on test xs i d lt h = rw (drop_more xs i d lt, h) (shift (place_where test (drop (i + 1) xs)) i)
-
-pub place_found : {A : Type 0} (test : A → Bool) (xs : List A) (i : ℕ) (d : A) → i < length xs → test (get_or xs i d) ≡ true → place_from test i xs ≡ Some i
-place_found test xs i d lt h = rw (drop_more xs i d lt, h) (ap Some (omega arith))
-
-nothing_left : {A : Type 0} (xs : List A) (i : ℕ) → length xs ≤ i → drop i xs ≡ []
-nothing_left [] zero le = refl
-nothing_left [] (suc i) le = refl
-nothing_left (x ∷ xs) zero le = absurd (omega arith)
-nothing_left (x ∷ xs) (suc i) le = nothing_left xs i (omega arith)
-
-pub place_missing : {A : Type 0} (test : A → Bool) (xs : List A) (i : ℕ) → length xs ≤ i → place_from test i xs ≡ None
-place_missing test xs i le = rw (nothing_left xs i le) refl
+-- the place of the first that passes, or else the end
+pub front_is_position : {A : Type 0} (test : A → Bool) (xs : List A) → front_len test xs ≡ unwrap_or (position test xs) (length xs)
+front_is_position test xs = front_is_place test xs ∙ ap (λ o. unwrap_or o (length xs)) (place_is_position test xs)
 
 -- one element more in front
 get_at_head : {A : Type 0} (b : Bool) (o : Option ℕ) (x : A) (xs : List A) (rest : Option A) → ((k : ℕ) → o ≡ Some k → slice_get xs k ≡ rest) → (i : ℕ) → cond b (Some 0) (option_map suc o) ≡ Some i → slice_get (x ∷ xs) i ≡ cond b (Some x) rest
@@ -77,22 +66,6 @@ place_is_in test (x ∷ xs) i e = place_in_head (test x) (place_where test xs) x
 pub set_is_edit : {A : Type 0} (test : A → Bool) (f : A → A) (xs : List A) (i : ℕ) (x y : A) → Some i ≡ place_where test xs → x ≡ get_or xs i x → y ≡ f x → set xs i y ≡ edit_where test f xs
 set_is_edit test f xs i x y e read changed = ap (set xs i) (changed ∙ ap f read) ∙ set_at_place test f x xs i (sym e)
 
--- what is left to count at a place
-abbrev pub front_from : {A : Type 0} → (A → Bool) → ℕ → List A → ℕ
-front_from test i xs = i + front_len test (drop i xs)
-
-pub front_begins : {A : Type 0} (test : A → Bool) (xs : List A) → front_len test xs ≡ front_from test 0 xs
-front_begins test xs = omega arith
-
-pub front_goes_on : {A : Type 0} (test : A → Bool) (xs : List A) (i : ℕ) (d : A) → i < length xs → test (get_or xs i d) ≡ false → front_from test i xs ≡ front_from test (i + 1) xs
-front_goes_on test xs i d lt h = rw (drop_more xs i d lt, h) (omega arith)
-
-pub front_found : {A : Type 0} (test : A → Bool) (xs : List A) (i : ℕ) (d : A) → i < length xs → test (get_or xs i d) ≡ true → front_from test i xs ≡ i
-front_found test xs i d lt h = rw (drop_more xs i d lt, h) (omega arith)
-
-pub front_missing : {A : Type 0} (test : A → Bool) (xs : List A) (i : ℕ) → length xs ≤ i → front_from test i xs ≡ i
-front_missing test xs i le = rw (nothing_left xs i le) (omega arith)
-
 pub front_is_in : {A : Type 0} (test : A → Bool) (xs : List A) → front_len test xs ≤ length xs
 front_is_in test [] = omega arith
 front_is_in test (x ∷ xs) =
@@ -124,8 +97,28 @@ pub read_at_place : {A : Type 0} (test : A → Bool) (xs : List A) (i : ℕ) (d 
 read_at_place test [] i d e = absurd cc
 read_at_place test (x ∷ xs) i d e = read_at_head (test x) (place_where test xs) x xs (find test xs) d (λ k h. read_at_place test xs k d h) i e
 
--- what a loop that looks for a place takes
-pub ruleset place_search = (place_begins, place_goes_on, place_found, place_missing)
+removed_head : {A : Type 0} (b : Bool) (o : Option ℕ) (x : A) (xs rest : List A) → ((k : ℕ) → o ≡ Some k → remove xs k ≡ rest) → (i : ℕ) → cond b (Some 0) (option_map suc o) ≡ Some i → remove (x ∷ xs) i ≡ elim b [ true ↦ xs | false ↦ x ∷ rest ]
+removed_head true o x xs rest ih i e = let k : 0 ≡ i = cc in rw (← k) refl
+removed_head false None x xs rest ih i e = absurd cc
+removed_head false (Some k) x xs rest ih i e = let s : suc k ≡ i = cc in rw (← s) (ap (λ (ys : List _). x ∷ ys) (ih k refl))
 
--- what a loop that counts a front takes
-pub ruleset front_search = (front_begins, front_goes_on, front_found, front_missing)
+removed_at : {A : Type 0} (test : A → Bool) (xs : List A) (i : ℕ) → place_where test xs ≡ Some i → remove xs i ≡ drop_where test xs
+removed_at test [] i e = absurd cc
+removed_at test (x ∷ xs) i e = removed_head (test x) (place_where test xs) x xs (drop_where test xs) (λ k h. removed_at test xs k h) i e
+
+-- the first that passes, taken out at its place
+pub removed_where : {A : Type 0} (test : A → Bool) (xs : List A) (i : ℕ) → Some i ≡ place_where test xs → remove xs i ≡ drop_where test xs
+removed_where test xs i e = removed_at test xs i (sym e)
+
+none_head : {A : Type 0} (b : Bool) (o : Option ℕ) (x : A) (xs rest : List A) → (o ≡ None → rest ≡ xs) → cond b (Some 0) (option_map suc o) ≡ None → elim b [ true ↦ xs | false ↦ x ∷ rest ] ≡ x ∷ xs
+none_head true o x xs rest ih e = absurd cc
+none_head false None x xs rest ih e = ap (λ (ys : List _). x ∷ ys) (ih refl)
+none_head false (Some k) x xs rest ih e = absurd cc
+
+none_dropped : {A : Type 0} (test : A → Bool) (xs : List A) → place_where test xs ≡ None → drop_where test xs ≡ xs
+none_dropped test [] e = refl
+none_dropped test (x ∷ xs) e = none_head (test x) (place_where test xs) x xs (drop_where test xs) (λ h. none_dropped test xs h) e
+
+-- where none passes
+pub removed_nowhere : {A : Type 0} (test : A → Bool) (xs : List A) → None ≡ place_where test xs → xs ≡ drop_where test xs
+removed_nowhere test xs e = sym (none_dropped test xs (sym e))

@@ -115,9 +115,17 @@ impl Name {
         if !is_name(bytes) {
             return Ok(None);
         }
-        Ok(Some(Name {
+        Ok(Some(Name::of_name(alloc, bytes)?))
+    }
+
+    /// The name of bytes that are one.
+    pub fn of_name(alloc: Global, bytes: &[u8]) -> Result<Name, NoMemory>
+        requires { IsName bytes.now }
+        ensures { IfOk result (λ n. n ≡ bytes.now) }
+    {
+        Ok(Name {
             bytes: Vec::from_slice(alloc, bytes)?,
-        }))
+        })
     }
 
     pub fn bytes(&self) -> &[u8]
@@ -130,8 +138,6 @@ impl Name {
     pub fn copy(&self, alloc: Global) -> Result<Name, NoMemory>
         ensures { IfOk result (λ t. t ≡ self.now) }
     {
-        Ok(Name {
-            bytes: Vec::from_slice(alloc, self.bytes.as_slice())?,
-        })
+        Name::of_name(alloc, self.bytes())
     }
 }

@@ -14,17 +14,6 @@ use session_state::{GsFault, KeptBallot, MemberToken, Provider, Request, Session
 use std::alloc::Global;
 use subscribe_core::ClientToken;
 
-/// The name of these bytes.
-fn name_of(alloc: Global, group: &[u8]) -> Result<Name, NoMemory>
-    requires { IsName group.now }
-    ensures { IfOk result (λ n. n ≡ group.now) }
-{
-    match Name::of(alloc, group)? {
-        None => Err(NoMemory),
-        Some(name) => Ok(name),
-    }
-}
-
 /// Puts a request with the next number at the end.
 pub fn put_request(sessions: &mut SessionState, request: Request) -> Result<(), NoMemory>
     ensures ok { OnOk result (sessions.new ≡ record
@@ -86,7 +75,7 @@ fn join_request(
     Ok(Request {
         p: provider,
         r: provider.join,
-        group: name_of(alloc, group)?,
+        group: Name::of_name(alloc, group)?,
         phases: Phases::One,
         proposal: Proposal::Join {
             ps: Providers::one(alloc, provider)?,
@@ -119,7 +108,7 @@ pub fn join(
         instance,
         join: r,
     };
-    let group = name_of(alloc, name)?;
+    let group = Name::of_name(alloc, name)?;
     let q = join_request(alloc, p, name, attrs)?;
     let x = Provider {
         p,

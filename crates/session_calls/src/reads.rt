@@ -1,5 +1,6 @@
 //! What a node reads of its sessions.
 ghost use Rattle.std.specs.Prelude.{◌≡◌, find, option_copied};
+ghost use Rattle.std.specs.List.{position};
 ghost use Rattle.rsct_packet.specs.Search.{place_where};
 ghost use Rattle.subscribe_core.specs.Subs.{is_of};
 ghost use Rattle.session_state.specs.State.{is_named, is_in_group, client_token, member_token, sub_token};
@@ -13,16 +14,10 @@ fn session_named<'a>(rows: &'a [Session], name: &[u8]) -> Option<&'a Session>
     rows.iter().find(|x| x.name.as_slice() == name)
 }
 
-#[tactic(auto, using(rsct_packet::proofs::SearchLaws::place_search))]
 fn place_named(rows: &[Session], name: &[u8]) -> Option<usize>
-    ensures { result ≡ place_where (is_named name.now) rows.now }
+    ensures { result ≡ position (is_named name.now) rows.now }
 {
-    for (i, row) in rows.iter().enumerate() {
-        if row.name.as_slice() == name {
-            return Some(i);
-        }
-    }
-    None
+    rows.iter().position(|row| row.name.as_slice() == name)
 }
 
 fn provider_in<'a>(rows: &'a [Provider], client: ClientToken, group: &[u8]) -> Option<&'a Provider>
@@ -44,6 +39,7 @@ fn subscription_of<'a>(
 }
 
 /// The place of the live session of a name, at which its client stands too.
+#[tactic(auto, using(rsct_packet::proofs::SearchLaws::place_is_position))]
 pub fn session_place(sessions: &SessionState, name: &[u8]) -> Option<usize>
     ensures { result ≡ place_where (is_named name.now) sessions.now.sessions }
 {

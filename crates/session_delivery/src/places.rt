@@ -1,5 +1,6 @@
 //! Where clients stand, and whose providers are.
 ghost use Rattle.std.specs.Prelude.{◌≡◌, ◌<◌, length, IfSome};
+ghost use Rattle.std.specs.List.{position};
 ghost use Rattle.rsct_packet.specs.Search.{place_where};
 ghost use Rattle.session_state.specs.State.{is_session, client_place, place_of};
 
@@ -7,19 +8,13 @@ use rsct_packet::ProviderId;
 use session_state::{Session, SessionState};
 use subscribe_core::ClientToken;
 
-#[tactic(auto, using(rsct_packet::proofs::SearchLaws::place_search))]
 fn place_alone(rows: &[Session], client: ClientToken) -> Option<usize>
-    ensures { result ≡ place_where (is_session client) rows.now }
+    ensures { result ≡ position (is_session client) rows.now }
 {
-    for (i, row) in rows.iter().enumerate() {
-        if row.token == client {
-            return Some(i);
-        }
-    }
-    None
+    rows.iter().position(|row| row.token == client)
 }
 
-#[tactic(auto, using(rsct_packet::proofs::SearchLaws::place_is_in))]
+#[tactic(auto, using(rsct_packet::proofs::SearchLaws::place_is_position, rsct_packet::proofs::SearchLaws::place_is_in))]
 fn place(rows: &[Session], client: ClientToken) -> Option<usize>
     ensures value { result ≡ place_where (is_session client) rows.now }
     ensures within { IfSome result (λ i. i < length rows.now) }

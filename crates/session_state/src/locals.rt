@@ -1,5 +1,6 @@
 //! The table of local providers.
 ghost use Rattle.std.specs.Prelude.{◌≡◌, ◌++◌, ◌∷◌, ◌<◌, [], length, not, find, filter, take, OnOk, OnErr, IfSome, IfNone, None, option_copied};
+ghost use Rattle.std.specs.List.{position};
 ghost use Rattle.rsct_packet.specs.Providers.{among};
 ghost use Rattle.rsct_packet.specs.Search.{place_where, edit_where};
 ghost use Rattle.session_state.specs.State.{is_provider, is_client_of};
@@ -27,19 +28,13 @@ impl Model for Locals {
     ghost view = { λ l. l.rows.items };
 }
 
-#[tactic(auto, using(rsct_packet::proofs::SearchLaws::place_search))]
 fn place_alone(rows: &[Provider], provider: ProviderId) -> Option<usize>
-    ensures { result ≡ place_where (is_provider provider) rows.now }
+    ensures { result ≡ position (is_provider provider) rows.now }
 {
-    for (i, row) in rows.iter().enumerate() {
-        if row.p == provider {
-            return Some(i);
-        }
-    }
-    None
+    rows.iter().position(|row| row.p == provider)
 }
 
-#[tactic(auto, using(rsct_packet::proofs::SearchLaws::place_is_in, rsct_packet::proofs::SearchLaws::missing_at_place))]
+#[tactic(auto, using(rsct_packet::proofs::SearchLaws::place_is_position, rsct_packet::proofs::SearchLaws::place_is_in, rsct_packet::proofs::SearchLaws::missing_at_place))]
 fn place(rows: &[Provider], provider: ProviderId) -> Option<usize>
     ensures value { result ≡ place_where (is_provider provider) rows.now }
     ensures within { IfSome result (λ i. i < length rows.now) }

@@ -1,5 +1,6 @@
 //! Answers that are added to a gathering.
 ghost use Rattle.std.specs.Prelude.{◌≡◌, ◌≤◌, length, IfOk, OnOk};
+ghost use Rattle.std.specs.List.{position};
 ghost use Rattle.rsct_packet.specs.Format.{EachFits};
 ghost use Rattle.rsct_packet.specs.Search.{front_len};
 ghost use Rattle.view_state.specs.Answers.{may_answer, is_member_above, with_member, with_answer, add_answer};
@@ -12,25 +13,19 @@ use rsct_packet::{List, Member, Members, NoMemory};
 use std::alloc::Global;
 use view_state::Exchange;
 
-#[tactic(auto, using(rsct_packet::proofs::SearchLaws::front_search))]
-fn member_front_alone(members: &[Member], node: u8) -> usize
-    ensures { result ≡ front_len (is_member_above node) members.now }
+fn first_member_after(members: &[Member], node: u8) -> Option<usize>
+    ensures { result ≡ position (is_member_above node) members.now }
 {
-    for (i, x) in members.iter().enumerate() {
-        if node < x.node {
-            return i;
-        }
-    }
-    members.len()
+    members.iter().position(|x| node < x.node)
 }
 
 /// Where a node comes in.
-#[tactic(auto, using(rsct_packet::proofs::SearchLaws::front_is_in))]
+#[tactic(auto, using(rsct_packet::proofs::SearchLaws::front_is_position, rsct_packet::proofs::SearchLaws::front_is_in))]
 fn member_front(members: &[Member], node: u8) -> usize
     ensures value { result ≡ front_len (is_member_above node) members.now }
     ensures within { result ≤ length members.now }
 {
-    member_front_alone(members, node)
+    first_member_after(members, node).unwrap_or(members.len())
 }
 
 #[tactic(auto, using(rsct_packet::proofs::SearchLaws::insert_at_front, std::proofs::lemmas::Grind::common_steps))]

@@ -213,7 +213,7 @@ impl<'a> PartRef<'a> {
         ensures { IfOk result (λ p. p ≡ part_in self.now) }
     {
         Ok(Part {
-            name: Name::of(alloc, self.name)?.unwrap(),
+            name: Name::of_name(alloc, self.name)?,
             start: self.start,
             entries: self.entries.own(alloc)?,
             state: self.state.own(alloc)?,

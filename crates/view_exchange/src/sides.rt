@@ -1,5 +1,6 @@
 //! What an answer brings to the sides of a gathering.
 ghost use Rattle.std.specs.Prelude.{◌≡◌, ◌≤◌, ◌<◌, length, map, IfOk, IfSome, OnOk};
+ghost use Rattle.std.specs.List.{position};
 ghost use Rattle.rsct_packet.specs.Text.{IsName};
 ghost use Rattle.rsct_packet.specs.Search.{place_where, front_len};
 ghost use Rattle.view_state.specs.Answers.{kept_of, is_beaten, better_of, is_kept_of, is_kept_above, with_kept, with_parts, side_with, side_from, is_side_of, is_side_above, with_side};
@@ -13,20 +14,14 @@ use std::alloc::Global;
 use std::mem;
 use view_state::{Kept, KeptParts, Side, Sides, is_less};
 
-#[tactic(auto, using(rsct_packet::proofs::SearchLaws::place_search))]
 fn kept_place_alone(kept: &[Kept], name: &[u8]) -> Option<usize>
-    ensures { result ≡ place_where (is_kept_of name.now) kept.now }
+    ensures { result ≡ position (is_kept_of name.now) kept.now }
 {
-    for (i, x) in kept.iter().enumerate() {
-        if x.part.name.bytes() == name {
-            return Some(i);
-        }
-    }
-    None
+    kept.iter().position(|x| x.part.name.bytes() == name)
 }
 
 /// The place of the list of this group.
-#[tactic(auto, using(rsct_packet::proofs::SearchLaws::place_is_in))]
+#[tactic(auto, using(rsct_packet::proofs::SearchLaws::place_is_position, rsct_packet::proofs::SearchLaws::place_is_in))]
 fn kept_place(kept: &[Kept], name: &[u8]) -> Option<usize>
     ensures value { result ≡ place_where (is_kept_of name.now) kept.now }
     ensures within { IfSome result (λ i. i < length kept.now) }
@@ -34,25 +29,19 @@ fn kept_place(kept: &[Kept], name: &[u8]) -> Option<usize>
     kept_place_alone(kept, name)
 }
 
-#[tactic(auto, using(rsct_packet::proofs::SearchLaws::front_search))]
-fn kept_front_alone(kept: &[Kept], name: &[u8]) -> usize
-    ensures { result ≡ front_len (is_kept_above name.now) kept.now }
+fn first_kept_after(kept: &[Kept], name: &[u8]) -> Option<usize>
+    ensures { result ≡ position (is_kept_above name.now) kept.now }
 {
-    for (i, x) in kept.iter().enumerate() {
-        if is_less(name, x.part.name.bytes()) {
-            return i;
-        }
-    }
-    kept.len()
+    kept.iter().position(|x| is_less(name, x.part.name.bytes()))
 }
 
 /// Where a group that has none yet comes in.
-#[tactic(auto, using(rsct_packet::proofs::SearchLaws::front_is_in))]
+#[tactic(auto, using(rsct_packet::proofs::SearchLaws::front_is_position, rsct_packet::proofs::SearchLaws::front_is_in))]
 fn kept_front(kept: &[Kept], name: &[u8]) -> usize
     ensures value { result ≡ front_len (is_kept_above name.now) kept.now }
     ensures within { result ≤ length kept.now }
 {
-    kept_front_alone(kept, name)
+    first_kept_after(kept, name).unwrap_or(kept.len())
 }
 
 /// Is a list of this length longer than the kept one, or as long and of a lesser node?
@@ -151,20 +140,14 @@ fn side_of(alloc: Global, node: u8, inc: u32, answer: &AnswerRef) -> Result<Side
     })
 }
 
-#[tactic(auto, using(rsct_packet::proofs::SearchLaws::place_search))]
 fn side_place_alone(sides: &[Side], view: ViewId) -> Option<usize>
-    ensures { result ≡ place_where (is_side_of view) sides.now }
+    ensures { result ≡ position (is_side_of view) sides.now }
 {
-    for (i, x) in sides.iter().enumerate() {
-        if x.view == view {
-            return Some(i);
-        }
-    }
-    None
+    sides.iter().position(|x| x.view == view)
 }
 
 /// The place of the side of this view.
-#[tactic(auto, using(rsct_packet::proofs::SearchLaws::place_is_in))]
+#[tactic(auto, using(rsct_packet::proofs::SearchLaws::place_is_position, rsct_packet::proofs::SearchLaws::place_is_in))]
 fn side_place(sides: &[Side], view: ViewId) -> Option<usize>
     ensures value { result ≡ place_where (is_side_of view) sides.now }
     ensures within { IfSome result (λ i. i < length sides.now) }
@@ -172,25 +155,19 @@ fn side_place(sides: &[Side], view: ViewId) -> Option<usize>
     side_place_alone(sides, view)
 }
 
-#[tactic(auto, using(rsct_packet::proofs::SearchLaws::front_search))]
-fn side_front_alone(sides: &[Side], view: ViewId) -> usize
-    ensures { result ≡ front_len (is_side_above view) sides.now }
+fn first_side_after(sides: &[Side], view: ViewId) -> Option<usize>
+    ensures { result ≡ position (is_side_above view) sides.now }
 {
-    for (i, x) in sides.iter().enumerate() {
-        if is_earlier(view, x.view) {
-            return i;
-        }
-    }
-    sides.len()
+    sides.iter().position(|x| is_earlier(view, x.view))
 }
 
 /// Where a view that has none yet comes in.
-#[tactic(auto, using(rsct_packet::proofs::SearchLaws::front_is_in))]
+#[tactic(auto, using(rsct_packet::proofs::SearchLaws::front_is_position, rsct_packet::proofs::SearchLaws::front_is_in))]
 fn side_front(sides: &[Side], view: ViewId) -> usize
     ensures value { result ≡ front_len (is_side_above view) sides.now }
     ensures within { result ≤ length sides.now }
 {
-    side_front_alone(sides, view)
+    first_side_after(sides, view).unwrap_or(sides.len())
 }
 
 #[tactic(auto, unfolding(view_state::specs::Answers::with_side), using(rsct_packet::proofs::SearchLaws::set_is_edit, rsct_packet::proofs::SearchLaws::insert_at_front, std::proofs::lemmas::Grind::common_steps))]

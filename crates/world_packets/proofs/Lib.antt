@@ -1,4 +1,3 @@
 pub mod ApartLaws
 pub mod DatagramLaws
 pub mod PairLaws
-pub mod WaitLaws

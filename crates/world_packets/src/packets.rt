@@ -1,5 +1,6 @@
 //! What is kept of the packets of a world.
 ghost use Rattle.std.specs.Prelude.{◌≡◌, ◌<◌, ◌++◌, ◌∷◌, [], IfOk, OnOk, filter, not, option_copied, drop};
+ghost use Rattle.std.specs.List.{position};
 ghost use Rattle.rsct_packet.specs.Search.{place_where};
 ghost use Rattle.rsct_packet.specs.Lists.{drop_where};
 ghost use Rattle.node_state.specs.Bytes.{packet_len};
@@ -60,18 +61,10 @@ fn is_between(waiting: &Waiting, from: u8, to: u8) -> bool
 }
 
 /// The place of the k-th packet of two nodes among those that wait.
-#[tactic(auto, using(rsct_packet::proofs::SearchLaws::place_begins, crate::proofs::WaitLaws::place_here, crate::proofs::WaitLaws::place_on, crate::proofs::WaitLaws::place_past, std::proofs::lemmas::Option::slice_get_within))]
 fn place_of(waiting: &VecDeque<Waiting>, from: u8, to: u8, number: u32) -> Option<usize>
-    ensures { result ≡ place_where (is_waiting from to number) waiting.now.items }
+    ensures { result ≡ position (is_waiting from to number) waiting.now.items }
 {
-    let mut i: usize = 0;
-    while let Some(x) = waiting.get(i) {
-        if is_waiting(x, from, to, number) {
-            return Some(i);
-        }
-        i += 1;
-    }
-    None
+    waiting.iter().position(|x| is_waiting(x, from, to, number))
 }
 
 /// What waits between other nodes.
@@ -156,7 +149,7 @@ impl WorldPackets {
     }
 
     /// The k-th packet of two nodes waits no more.
-    #[tactic(auto, using(crate::proofs::WaitLaws::removed_at_place, crate::proofs::WaitLaws::none_removed, std::proofs::lemmas::Grind::common_steps))]
+    #[tactic(auto, using(rsct_packet::proofs::SearchLaws::place_is_position, rsct_packet::proofs::SearchLaws::removed_where, rsct_packet::proofs::SearchLaws::removed_nowhere, std::proofs::lemmas::Grind::common_steps))]
     pub fn take(&mut self, from: u8, to: u8, number: u32)
         ensures { self.new ≡ record self.old {
           waiting = drop_where

@@ -1,5 +1,6 @@
 //! All packets from one node to another. Where a pair may stand a hint says, which need not be right.
 ghost use Rattle.std.specs.Prelude.{◌≡◌, ◌+◌, find, slice_get, option_copied, IfOk, OnOk};
+ghost use Rattle.std.specs.List.{position};
 ghost use Rattle.rsct_packet.specs.Search.{place_where};
 ghost use Rattle.world_model.specs.World.{kth_in, count_in, pairs_with};
 ghost use Rattle.world_packets.specs.Packets.{is_from, is_right, AreApart, world_pairs, find_pair};
@@ -34,20 +35,14 @@ fn is_right(pairs: &[Pair], hint: usize, from: u8, to: u8) -> bool
 }
 
 /// The place of the pair of two nodes, by a search.
-#[tactic(auto, using(rsct_packet::proofs::SearchLaws::place_search))]
 fn search(pairs: &[Pair], from: u8, to: u8) -> Option<usize>
-    ensures { result ≡ place_where (is_from from to) pairs.now }
+    ensures { result ≡ position (is_from from to) pairs.now }
 {
-    for (i, p) in pairs.iter().enumerate() {
-        if is_from(p, from, to) {
-            return Some(i);
-        }
-    }
-    None
+    pairs.iter().position(|p| is_from(p, from, to))
 }
 
 /// The place of the pair of two nodes: that of the hint where it is right, else by a search.
-#[tactic(auto, using(crate::proofs::ApartLaws::right_place))]
+#[tactic(auto, using(rsct_packet::proofs::SearchLaws::place_is_position, crate::proofs::ApartLaws::right_place))]
 fn place_of(pairs: &[Pair], hint: usize, from: u8, to: u8) -> Option<usize>
     requires { AreApart pairs.now }
     ensures { result ≡ place_where (is_from from to) pairs.now }

@@ -1,8 +1,0 @@
-use Rattle.std.proofs.Common.{◌≡◌}
-use Rattle.rsct_packet.specs.Search.{front_len}
-use Rattle.rsct_packet.proofs.SearchLaws.{front_from}
-use Rattle.view_state.specs.Answers.{is_side_above}
-use Rattle.view_exchange.proofs.sides.side_front_alone.Given as goal
-
-abbrev pub invariant-loop-i : goal.invariant-loop-i
-invariant-loop-i l = front_len (is_side_above l.view) l.sides ≡ front_from (is_side_above l.view) l.i l.sides
