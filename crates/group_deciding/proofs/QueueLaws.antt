@@ -10,4 +10,3 @@ use Rattle.batch_rules.specs.Waiting.{same_instance, has_instance}
 
 pub here_or_waits : (present joins : List ProviderId) (p : ProviderId) → (has_instance present p || has_instance joins p) ≡ has_instance (present ++ joins) p
 here_or_waits present joins p = sym (list_any-append (λ q. same_instance q p) present joins)
-

@@ -3,7 +3,7 @@ use Rattle.std.proofs.Common.{◌≡◌, ◌<◌, ◌-◌, ℕ, suc, List, [], �
 use Rattle.std.specs.Prelude.{◌==◌, ◌&&◌, find, fold, nat_lt, nat_le, slice_get}
 use Rattle.std.proofs.lemmas.Bool.{eq-eqb, le-leb, lt-ltb}
 use Rattle.rsct_packet.specs.Search.{Has}
-use Rattle.rsct_packet.proofs.HasLaws.{find_has}
+use Rattle.rsct_packet.proofs.HasLaws.{find_has, has_get}
 use Rattle.rsct_packet.proofs.FieldLaws.{both_true}
 use Rattle.node_state.specs.declared.packet.Packet.{Packet}
 use Rattle.world_model.specs.World.{Pair, World, is_pair, pair_with, pairs_with, posted, kth_in, kth_between}
@@ -103,11 +103,6 @@ posted_paired (p ∷ ps) w k = posted_paired ps (posted w p) (record { counted =
 
 -- ---- its number
 
-has_place : {A : Type 0} (x : A) (xs : List A) → Has x xs → (i : ℕ) × (i < length xs) × (slice_get xs i ≡ Some x)
-has_place x [] h = absurd h
-has_place x (y ∷ ys) (inl e) = (0, omega arith, ap Some (sym e))
-has_place x (y ∷ ys) (inr h) = let r = has_place x ys h in (suc r.0, omega (arith, r.1), r.2)
-
 got : (xs : List Packet) (p : Packet) (b : Bool) (i j : ℕ) → b ≡ true → i ≡ j → slice_get xs j ≡ Some p → elim b [ true ↦ slice_get xs i | false ↦ None ] ≡ Some p
 got xs p true i j e f g = ap (slice_get xs) f ∙ g
 got xs p false i j e f g = absurd (cc)
@@ -115,7 +110,7 @@ got xs p false i j e f g = absurd (cc)
 numbered : (p : Packet) (x : Pair) → x.count ≡ length x.packets → Has p x.packets → (k : ℕ) × (kth_in k (Some x) ≡ Some p)
 unfolding kth_in
 numbered p x counted h =
-    let r = has_place p x.packets h in
+    let r = has_get p x.packets h in
     let lt : r.0 < length x.packets = r.1 in
     let low : nat_lt 0 (x.count - r.0) ≡ true = lt-ltb 0 (x.count - r.0) (omega (arith, lt, counted)) in
     let high : nat_le (x.count - r.0) x.count ≡ true = le-leb (x.count - r.0) x.count (omega arith) in

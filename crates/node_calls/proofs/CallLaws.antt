@@ -4,6 +4,7 @@ use Rattle.std.specs.Prelude.{slice_get, not, ◌||◌}
 use Rattle.std.specs.List.{last_or, list_any}
 use Rattle.std.specs.Option.{option_map}
 use Rattle.rsct_packet.specs.Search.{place_where}
+use Rattle.rsct_packet.proofs.SearchLaws.{place_nowhere}
 use Rattle.subscribe_core.specs.declared.subs.ClientToken.{ClientToken}
 use Rattle.client_callbacks.specs.declared.ballot.Filled.{Filled}
 use Rattle.session_state.specs.declared.fault.GsFault.{GsFault}
@@ -95,17 +96,9 @@ said_leaves s t u client ended r taken rest e = e ∙ (ap (λ (x : Core). send_a
 
 -- ---- a goodbye that is refused
 
-none_placed_if : (b : Bool) (any : Bool) (place : Option ℕ) → (any ≡ false → place ≡ None) → b || any ≡ false → cond b (Some 0) (option_map suc place) ≡ None
-none_placed_if true any place ih e = absurd cc
-none_placed_if false any place ih e = ap (option_map suc) (ih e)
-
-none_placed : {A : Type 0} (test : A → Bool) (xs : List A) → list_any test xs ≡ false → place_where test xs ≡ None
-none_placed test [] e = refl
-none_placed test (x ∷ xs) e = none_placed_if (test x) (list_any test xs) (place_where test xs) (none_placed test xs) e
-
 no_place_by : (any : Bool) (xs : List Session) (t : ClientToken) (done : SessionState) (f : GsFault) → list_any (is_session t) xs ≡ any → unless_fault (fault_if (not any) fault.BadClientToken) done ≡ Err f → place_where (is_session t) xs ≡ None
 no_place_by true xs t done f is e = absurd cc
-no_place_by false xs t done f is e = none_placed (is_session t) xs is
+no_place_by false xs t done f is e = place_nowhere (is_session t) xs is
 
 no_session : (xs : List Session) (t : ClientToken) → is_empty xs ≡ true → place_where (is_session t) xs ≡ None
 no_session [] t e = refl

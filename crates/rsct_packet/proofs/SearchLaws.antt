@@ -1,10 +1,10 @@
 -- A search from the front, and what is found there.
-use Rattle.std.proofs.Common.{◌≡◌, ℕ, suc, ◌+◌, ◌≤◌, ◌<◌, not, Bool, true, false, cond, List, [], ◌∷◌, length, get_or, set, Option, Some, None, refl, sym, ap, ◌∙◌, arith}
+use Rattle.std.proofs.Common.{◌≡◌, ℕ, suc, ◌+◌, ◌≤◌, ◌<◌, ◌⊎◌, not, Bool, true, false, cond, List, [], ◌∷◌, length, get_or, set, Option, Some, None, refl, sym, ap, ◌∙◌, inl, inr, arith}
 use Rattle.std.specs.Option.{option_map, unwrap_or}
-use Rattle.std.specs.Prelude.{slice_get, insert, remove, find, nat_lt}
-use Rattle.std.specs.List.{position, position_or_len}
+use Rattle.std.specs.Prelude.{◌||◌, slice_get, insert, remove, find, nat_lt}
+use Rattle.std.specs.List.{list_any, position, position_or_len}
 use Rattle.rsct_packet.specs.Lists.{drop_where}
-use Rattle.rsct_packet.specs.Search.{place_where, edit_where, front_len, insert_before}
+use Rattle.rsct_packet.specs.Search.{Has, place_where, edit_where, front_len, insert_before}
 
 -- what `position` of std finds
 pub place_is_position : {A : Type 0} (test : A → Bool) (xs : List A) → place_where test xs ≡ position test xs
@@ -122,3 +122,22 @@ none_dropped test (x ∷ xs) e = none_head (test x) (place_where test xs) x xs (
 -- where none passes
 pub removed_nowhere : {A : Type 0} (test : A → Bool) (xs : List A) → None ≡ place_where test xs → xs ≡ drop_where test xs
 removed_nowhere test xs e = sym (none_dropped test xs (sym e))
+
+-- what is found is in the list, and passes
+pub place_has : {A : Type 0} (test : A → Bool) (xs : List A) (i : ℕ) → place_where test xs ≡ Some i → (x : A) × Has x xs × (test x ≡ true)
+place_has test [] i e = absurd cc
+place_has {A = A} test (y ∷ ys) i e = by (test y) refl (place_where test ys) (place_has test ys) e
+  where
+    by : (t : Bool) → test y ≡ t → (o : Option ℕ) → ((j : ℕ) → o ≡ Some j → (x : A) × Has x ys × (test x ≡ true)) → cond t (Some 0) (option_map suc o) ≡ Some i → (x : A) × ((x ≡ y) ⊎ Has x ys) × (test x ≡ true)
+    by true p o more e = (y, inl refl, p)
+    by false p None more e = absurd cc
+    by false p (Some j) more e = let r = more j refl in (r.0, inr r.1, r.2)
+
+nowhere_head : (b any : Bool) (o : Option ℕ) → (any ≡ false → o ≡ None) → b || any ≡ false → cond b (Some 0) (option_map suc o) ≡ None
+nowhere_head true any o ih e = absurd cc
+nowhere_head false any o ih e = ap (option_map suc) (ih e)
+
+-- where none passes, none is found
+pub place_nowhere : {A : Type 0} (test : A → Bool) (xs : List A) → list_any test xs ≡ false → place_where test xs ≡ None
+place_nowhere test [] e = refl
+place_nowhere test (x ∷ xs) e = nowhere_head (test x) (list_any test xs) (place_where test xs) (place_nowhere test xs) e

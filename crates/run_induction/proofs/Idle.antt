@@ -8,7 +8,7 @@ use Rattle.std.proofs.lemmas.List.{reverse-append}
 use Rattle.rsct_packet.specs.declared.ids.Member.{Member}
 use Rattle.rsct_packet.specs.declared.ids.ViewId.{ViewId}
 use Rattle.rsct_packet.specs.Search.{Has}
-use Rattle.rsct_packet.proofs.HasLaws.{has_append, has_map}
+use Rattle.rsct_packet.proofs.HasLaws.{has_append, has_map, has_reverse}
 use Rattle.adapter_ring.specs.declared.ring.Ring.{Ring}
 use Rattle.proposal_core.specs.Fold.{empty_state}
 use Rattle.node_state.specs.declared.config.Config.{Config}
@@ -56,14 +56,6 @@ note_elsewhere m (happened.Refused n client fault) a = tt
 note_elsewhere m (happened.Shown n line) a = tt
 note_elsewhere m _ a = absurd a
 
-pub reverse_has : {A : Type 0} (x : A) (xs : List A) → Has x (reverse xs) → Has x xs
-reverse_has x [] h = h
-reverse_has x (y ∷ ys) h = ⊎_elim (λ (a : Has x (reverse ys)). inr (reverse_has x ys a)) (λ (a : Has x (y ∷ [])). last a) (has_append x (reverse ys) (y ∷ []) (subst (Has x) (reverse-append (y ∷ []) ys) h))
-  where
-    last : Has x (y ∷ []) → Has x (y ∷ ys)
-    last (inl e) = inl e
-    last (inr z) = absurd z
-
 -- ---- a node that starts
 
 pub each_started : (P : Happened → Type 0) (c : Config) (n j : ℕ) → P (happened.Up n j) → ((x : Ring) → P (ring_record n x)) → ((v : ViewId) (ms : List Member) → P (happened.In n v ms)) → (r : Happened) → Has r (started c n j).records → P r
@@ -82,12 +74,12 @@ each_started P c n j up ring enters r (inr i) = by (has_append r (map (ring_reco
 pub started_idle : (c : Config) (n j : ℕ) → AllIdle (reverse (started c n j).records)
 unfolding ring_record
 started_idle c n j r i =
-    each_started Idle c n j tt (λ x. tt) (λ v ms. tt) r (reverse_has r (started c n j).records i)
+    each_started Idle c n j tt (λ x. tt) (λ v ms. tt) r (has_reverse r (started c n j).records i)
 
 pub started_elsewhere : (c : Config) (n j m : ℕ) → n ≢ m → AllElsewhere m (reverse (started c n j).records)
 unfolding ring_record
 started_elsewhere c n j m ne r i =
-    each_started (Elsewhere m) c n j ne (λ x. tt) (λ v ms. ne) r (reverse_has r (started c n j).records i)
+    each_started (Elsewhere m) c n j ne (λ x. tt) (λ v ms. ne) r (has_reverse r (started c n j).records i)
 
 -- ---- what holds of records where each that is idle has it
 
@@ -157,7 +149,7 @@ module _ (c : Config) (n j : ℕ) where
   rings_elsewhere : (m : ℕ) → AllElsewhere m (reverse rings)
   unfolding ring_record
   rings_elsewhere m r i =
-      let z = has_map (ring_record n) r (own_rings c c.mode n j) (reverse_has r rings i) in subst (Elsewhere m) (sym z.2) tt
+      let z = has_map (ring_record n) r (own_rings c c.mode n j) (has_reverse r rings i) in subst (Elsewhere m) (sym z.2) tt
 
   -- it is in this incarnation, and has one stay
   started_inc : (xs : List Happened) → inc_now n (reverse (started c n j).records ++ xs) ≡ j

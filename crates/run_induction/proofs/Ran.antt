@@ -5,7 +5,7 @@ use Rattle.std.specs.Prelude.{fold, reverse}
 use Rattle.std.proofs.lemmas.Bool.{cases_eq}
 use Rattle.rsct_packet.specs.Search.{Has}
 use Rattle.rsct_packet.specs.Mask.{nodes_of}
-use Rattle.rsct_packet.proofs.HasLaws.{has_append}
+use Rattle.rsct_packet.proofs.HasLaws.{has_append, has_reverse}
 use Rattle.node_state.specs.declared.config.Config.{Config}
 use Rattle.node_state.specs.declared.happened.Happened.{Happened}
 use Rattle.node_state.specs.declared.happened.Happened.TheVariants as happened
@@ -21,7 +21,7 @@ use Rattle.step_refinement.specs.Rules.{at_node, over, nothing_yet, all_started,
 use Rattle.step_refinement.specs.Runs.{IsNote, noted, Reached}
 use Rattle.step_refinement.specs.Runs as runs
 use Rattle.step_refinement.proofs.Changed.{each_set, set_here, set_there}
-use Rattle.run_induction.proofs.Idle.{Idle, AllIdle, Elsewhere, AllElsewhere, note_idle, note_elsewhere, reverse_has, started_idle, started_elsewhere, Came, came_more}
+use Rattle.run_induction.proofs.Idle.{Idle, AllIdle, Elsewhere, AllElsewhere, note_idle, note_elsewhere, started_idle, started_elsewhere, Came, came_more}
 
 -- ---- runs
 
@@ -231,7 +231,7 @@ module _ (k : Telling) (c : Config) (w : Scene) where
       record {
         from = r;
         to = Notes w e rs r notes told;
-        idle = λ x i. note_idle x (notes x (reverse_has x rs i));
+        idle = λ x i. note_idle x (notes x (has_reverse x rs i));
         moves = λ m. Stays (w.incs m) (w.cores m) (aside m);
         told = told_of k w e told;
         sent = refl;
@@ -239,4 +239,4 @@ module _ (k : Telling) (c : Config) (w : Scene) where
       }
     where
       aside : (m : ℕ) → AllElsewhere m (reverse rs)
-      aside m x i = note_elsewhere m x (notes x (reverse_has x rs i))
+      aside m x i = note_elsewhere m x (notes x (has_reverse x rs i))

@@ -81,13 +81,3 @@ note_entered y n x v ms ss b all h =
     at (inr (inl q)) = absurd (cc)
     at (inr (inr k)) = inr (note_lines y n x.view (length x.list) (drop (length x.list) (ss x.view)) all k)
 
--- what is in a list stands at a place of it
-pub has_place : (e : Entry) (xs : List Entry) → Has e xs → (i : ℕ) × (slice_get xs i ≡ Some e)
-has_place e [] h = absurd h
-has_place e (x ∷ xs) (inl q) = (0, ap (λ z. Some z) (sym q))
-has_place e (x ∷ xs) (inr h) = let k = has_place e xs h in (suc k.0, k.1)
-
-pub has_drop : (e : Entry) (k : ℕ) (xs : List Entry) → Has e (drop k xs) → Has e xs
-has_drop e zero xs h = h
-has_drop e (suc k) [] h = h
-has_drop e (suc k) (x ∷ xs) h = inr (has_drop e k xs h)

@@ -23,11 +23,12 @@ use Rattle.run_safety.proofs.Appends.{Extends, extends_grows}
 use Rattle.run_safety.proofs.Past.{reply_member, born_number}
 use Rattle.std.specs.Prelude.{find}
 use Rattle.rsct_packet.specs.Providers.{among}
+use Rattle.rsct_packet.proofs.HasLaws.{has_get, has_drop}
 use Rattle.run_safety.proofs.Moves.{Good, move_lead, move_follow, move_start, move_enter, move_name}
 use Rattle.run_safety.proofs.Founds.{move_found, found_unled, gave_front, within, own_front}
 use Rattle.run_safety.proofs.PastIn.{start_unled}
 use Rattle.run_safety.proofs.Firsts.{Firsts, at_longer, firsts_other, firsts_name, firsts_lead, firsts_many}
-use Rattle.run_safety.proofs.Lines.{kept_entered, has_entered, note_entered, has_place, has_drop}
+use Rattle.run_safety.proofs.Lines.{kept_entered, has_entered, note_entered}
 use Rattle.run_safety.proofs.OnceLaw.{OnceOk, asked_lines, well_put, logged_well, once_move}
 use Rattle.run_safety.proofs.BasesLaw.{bases_move, bases_enter, bases_found, leads_member}
 use Rattle.run_safety.proofs.HeardLaw.{heard_on}
@@ -292,8 +293,8 @@ module _ (o : Opening) (nodes : ℕ → Standing) (ps : List Packet) (all : List
 
       well : (e : Entry) → Has e (drop (length (nodes n).list) (ss (nodes n).view)) → AskedAndUntold all n e
       well e h =
-          let k = has_place e (ss (nodes n).view) (has_drop e (length (nodes n).list) (ss (nodes n).view) h) in
-          well_put o nodes ps all w.log leads w.good w.once n e up (logged_well o nodes ps all w.log leads w.good w.once n e k.0 (prefix_get (ss (nodes n).view) (w.log (nodes n).view) inside k.0 e k.1))
+          let k = has_get e (ss (nodes n).view) (has_drop (length (nodes n).list) (ss (nodes n).view) e h) in
+          well_put o nodes ps all w.log leads w.good w.once n e up (logged_well o nodes ps all w.log leads w.good w.once n e k.0 (prefix_get (ss (nodes n).view) (w.log (nodes n).view) inside k.0 e k.2))
 
       longer : (m : ℕ) (u : ViewId) → length (puts_of m u tr) ≤ length (puts_of m u (kept (entered n (nodes n) v ms ss b all)))
       longer m u = subst (λ t. length (puts_of m u tr) ≤ length (puts_of m u t)) (sym same) (puts_many m u n (nodes n).view (length (nodes n).list) (drop (length (nodes n).list) (ss (nodes n).view)) tr)

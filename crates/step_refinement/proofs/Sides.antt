@@ -12,6 +12,7 @@ use Rattle.rsct_packet.specs.Mask.{is_node, no_nodes, has_node, with_node}
 use Rattle.rsct_packet.specs.Search.{Has, place_where, edit_where, insert_before}
 use Rattle.rsct_packet.proofs.HasLaws.{has_append, append_has_left, append_has_right, has_map}
 use Rattle.rsct_packet.proofs.MaskLaws.{has_with, has_no_nodes}
+use Rattle.rsct_packet.proofs.SearchLaws.{place_has}
 use Rattle.view_state.specs.declared.answer.Answer.{Answer}
 use Rattle.view_state.specs.declared.exchange.Exchange.{Exchange}
 use Rattle.view_state.specs.declared.sides.Kept.{Kept}
@@ -24,7 +25,7 @@ use Rattle.view_state.specs.Bases.{source_at}
 use Rattle.view_state.specs.Codec.{views_ascend_from, views_ascend}
 use Rattle.view_exchange.specs.Longest.{all_counted, NamesDiffer}
 use Rattle.view_state.proofs.ViewOrder.{not_before_itself, before_trans, same_view_is}
-use Rattle.view_exchange.proofs.Edits.{inserted_has, has_inserted, Once, edited_has, has_edited, none_placed, some_placed}
+use Rattle.view_exchange.proofs.Edits.{inserted_has, has_inserted, Once, edited_has, has_edited, none_placed}
 use Rattle.node_state.proofs.NameOrder.{text_same, text_self}
 
 -- ---- names of kept lists
@@ -297,7 +298,7 @@ module _ (given : List Answer) (ss : List Side) (a : Answer) (names : NamesDiffe
       record {
         ascend = edit_ascend a ss h.ascend;
         from = λ s m. ⊎_elim (λ (r : Old s). let z = h.from s r.0 in (z.0, kept_on z.0 z.1, z.2)) (λ (r : New s). let z = h.from r.0 r.1 in (z.0, kept_on z.0 z.1, z.2 ∙ sym (ap s_view r.3 ∙ with_view a r.0))) (split s m);
-        each = λ b j. ⊎_elim (λ (r : Has b given). let z = h.each b r in let k = found z.0 z.1 in (k.0, k.1, k.2 ∙ z.2)) (λ (r : b ≡ a). let z = some_placed test ss i e in let k = found z.0 z.1 in (k.0, k.1, k.2 ∙ view_is a.view z.0 z.2 ∙ sym (ap (λ (z : Answer). z.view) r))) (last_one a b given j);
+        each = λ b j. ⊎_elim (λ (r : Has b given). let z = h.each b r in let k = found z.0 z.1 in (k.0, k.1, k.2 ∙ z.2)) (λ (r : b ≡ a). let z = place_has test ss i e in let k = found z.0 z.1 in (k.0, k.1, k.2 ∙ view_is a.view z.0 z.2 ∙ sym (ap (λ (z : Answer). z.view) r))) (last_one a b given j);
         nodes = λ s m k q. ⊎_elim (λ (r : Old s). let z = h.nodes s r.0 k q in (z.0, kept_on z.0 z.1, z.2, z.3)) (λ (r : New s). new_nodes s k r q) (split s m);
         holds = λ b j s m q. ⊎_elim (λ (r : Old s). old_holds b (last_one a b given j) s r q) (λ (r : New s). new_holds b (last_one a b given j) s r q) (split s m);
         differ = λ s m. ⊎_elim (λ (r : Old s). h.differ s r.0) (λ (r : New s). subst (λ (z : Side). Differ z.parts) (sym r.3) (with_differ a r.0 (h.differ r.0 r.1))) (split s m);

@@ -9,7 +9,7 @@ use Rattle.rsct_packet.specs.declared.ids.ProviderId.{ProviderId}
 use Rattle.rsct_packet.specs.declared.ids.ProtoId.{ProtoId}
 use Rattle.rsct_packet.specs.Providers.{among}
 use Rattle.rsct_packet.specs.Search.{Has}
-use Rattle.rsct_packet.proofs.HasLaws.{has_map, append_has_left, append_has_right}
+use Rattle.rsct_packet.proofs.HasLaws.{has_map, append_has_left, append_has_right, has_drop}
 use Rattle.proposal_core.specs.declared.proposal.Cause.TheVariants.{Died, Gone}
 use Rattle.proposal_core.specs.declared.entry.Entry.{Entry}
 use Rattle.proposal_core.specs.declared.group_state.GroupState.{GroupState}
@@ -61,18 +61,13 @@ forgotten_state m (Some l) = by (nat_le m l.len)
     by true = refl
     by false = refl
 
-pub has_dropped : {A : Type 0} (n : ℕ) (xs : List A) (x : A) → Has x (drop n xs) → Has x xs
-has_dropped zero xs x i = i
-has_dropped (suc n) [] x i = absurd i
-has_dropped (suc n) (y ∷ xs) x i = inr (has_dropped n xs x i)
-
 forgotten_has : (m : ℕ) (l : Option GroupView) (e : Entry) → Has e (list_or_new (list_forgotten m l)).entries → Has e (list_or_new l).entries
 unfolding forgotten
 forgotten_has m None e i = i
 forgotten_has m (Some l) e i = by (nat_le m l.len) i
   where
     by : (b : Bool) → Has e (if b then record l { start = max l.start m; entries = drop (m - l.start) l.entries } else l).entries → Has e l.entries
-    by true j = has_dropped (m - l.start) l.entries e j
+    by true j = has_drop (m - l.start) l.entries e j
     by false j = j
 
 pub at_either : (P : Core → Type 0) {s t : Core} (b : Bool) → P s → P t → P (elim b as (λ _. Core) [ true ↦ s | false ↦ t ])

@@ -2,7 +2,6 @@
 use Rattle.std.proofs.Common.{zero, suc}
 use Rattle.proposal_core.specs.Fold.{joins_of}
 use Rattle.proposal_core.specs.Lists.{list_or_new}
-use Rattle.step_walk.proofs.Asides.{has_dropped}
 use Rattle.std.proofs.Common.{◌++◌}
 use Rattle.std.specs.Prelude.{not, length}
 use Rattle.group_attr.specs.Agree.{agree}
@@ -59,6 +58,7 @@ use Rattle.node_state.specs.Ticks.{is_lost, lost_told, tick_owed, announced, tic
 use Rattle.std.specs.Prelude.{fold}
 use Rattle.rsct_packet.specs.declared.ids.ViewId.{ViewId}
 use Rattle.rsct_packet.specs.Search.{Has}
+use Rattle.rsct_packet.proofs.HasLaws.{has_drop, has_take}
 use Rattle.step_walk.proofs.Waiting.{fails_apart, dropped_apart, fails_few, dropped_few}
 use Rattle.step_walk.proofs.Changes.{Any, Fairly, Telling}
 use Rattle.step_walk.proofs.Evidence.{IsLed, KeepsBeside, Keeping, KeepsPackets}
@@ -116,12 +116,6 @@ other_fair s g q x = by (is_no_member (state_of s g) (led_of s g).gone q x) (has
     by true b = refl
     by false true = refl
     by false false = full_fair s g (state_of s g).running
-
-has_taken : {A : Type 0} (n : ℕ) (xs : List A) (x : A) → Has x (take n xs) → Has x xs
-has_taken zero xs x i = absurd i
-has_taken (suc n) [] x i = absurd i
-has_taken (suc n) (y ∷ xs) x (inl e) = inl e
-has_taken (suc n) (y ∷ xs) x (inr i) = inr (has_taken n xs x i)
 
 -- what sends a kept ballot leaves those that are kept
 kept_again_same : (s : Core) (b : KeptBallot) → (kept_sent_again s b).sessions ≡ s.sessions
@@ -210,7 +204,7 @@ module _ (P : Core → Type 0) (k : KeepsBeside P Any) where
   at_again {s} g n p = by (row_of s g).list refl
     where
       there : (l : GroupView) → (row_of s g).list ≡ Some l → (m : ℕ) (e : Entry) → Has e (take 16 (drop m l.entries)) → Has e (list_of s g).entries
-      there l q m e i = subst (λ o. Has e (list_or_new o).entries) (sym q) (has_dropped m l.entries e (has_taken 16 (drop m l.entries) e i))
+      there l q m e i = subst (λ o. Has e (list_or_new o).entries) (sym q) (has_drop m l.entries e (has_take 16 (drop m l.entries) e i))
 
       by : (o : Option GroupView) → (row_of s g).list ≡ o → P (list_sent_again s g n (acked_by s (row_of s g) n) o)
       by None q = p

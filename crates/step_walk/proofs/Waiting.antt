@@ -4,6 +4,7 @@ use Rattle.std.specs.Prelude.{◌||◌, ◌&&◌, not, filter, nat_lt, if◌then
 use Rattle.std.proofs.lemmas.Bool.{ltb-true}
 use Rattle.rsct_packet.specs.declared.ids.ProviderId.{ProviderId}
 use Rattle.rsct_packet.specs.Providers.{same_provider, among, without, differ}
+use Rattle.rsct_packet.proofs.ProviderLaws.{filter_differs}
 use Rattle.std.proofs.lemmas.Bool.{and_parts, or_parts}
 use Rattle.group_attr.specs.declared.attrs.Batch.{Batch}
 use Rattle.proposal_core.specs.declared.proposal.Cause.{Cause}
@@ -68,18 +69,6 @@ filter_among f (x ∷ xs) q e = let k = or_parts (same_provider x q) (among xs q
   where
     by : (b : Bool) → same_provider x q ≡ false → among (filter f xs) q ≡ false → among (if b then x ∷ filter f xs else filter f xs) q ≡ false
     by true d rest = ap (λ c. c || among (filter f xs) q) d ∙ rest
-    by false d rest = rest
-
-pub filter_differs : (f : ProviderId → Bool) (xs : List ProviderId) → differ xs ≡ true → differ (filter f xs) ≡ true
-filter_differs f [] e = refl
-filter_differs f (x ∷ xs) e = let k = and_parts (not (among xs x)) (differ xs) e in by (f x) (out (among xs x) refl k.0) (filter_differs f xs k.1)
-  where
-    out : (b : Bool) → among xs x ≡ b → not b ≡ true → among xs x ≡ false
-    out true q z = absurd (cc)
-    out false q z = q
-
-    by : (b : Bool) → among xs x ≡ false → differ (filter f xs) ≡ true → differ (if b then x ∷ filter f xs else filter f xs) ≡ true
-    by true d rest = ap (λ c. not c && differ (filter f xs)) (filter_among f xs x d) ∙ rest
     by false d rest = rest
 
 -- those that are left, and those that are chosen

@@ -12,7 +12,7 @@ use Rattle.rsct_packet.specs.declared.ids.ProviderId.{ProviderId}
 use Rattle.rsct_packet.specs.Ids.{view_lt}
 use Rattle.rsct_packet.specs.Lists.{best_from, best_of}
 use Rattle.rsct_packet.specs.Search.{Has}
-use Rattle.rsct_packet.proofs.HasLaws.{has_filter, filter_has, has_append, append_has_left, append_has_right, has_map}
+use Rattle.rsct_packet.proofs.HasLaws.{has_filter, filter_has, has_append, append_has_left, append_has_right, has_map, map_has}
 use Rattle.rsct_packet.proofs.FieldLaws.{and_true}
 use Rattle.view_state.specs.declared.install.Part.{Part}
 use Rattle.view_state.specs.declared.install.Source.{Source}
@@ -107,11 +107,6 @@ best_leads seen (c ∷ cs) b w sb leads above asc e =
         e)
 
 -- ---- who is a candidate
-
-map_has : {A B : Type 0} (f : A → B) (x : A) (xs : List A) → Has x xs → Has (f x) (map f xs)
-map_has f x [] h = absurd h
-map_has f x (y ∷ ys) (inl e) = inl (ap f e)
-map_has f x (y ∷ ys) (inr h) = inr (map_has f x ys h)
 
 found_has : (i : Install) (g : List ℕ) (s : Source) (p : Part) (ps : List Part) → Has p ps → is_candidate g p ≡ true → Has (candidate_of i s p) (found_in i g s ps)
 found_has i g s p ps h e = map_has (candidate_of i s) p (filter (is_candidate g) ps) (filter_has (is_candidate g) p ps h e)

@@ -65,12 +65,3 @@ none_placed test xs x e h = by (test x) refl
     by true p = absurd (find_none test xs x (ap is_none (missing_at_place test xs e)) h p)
     by false p = p
 
--- what is found passes
-pub some_placed : {A : Type 0} (test : A → Bool) (xs : List A) (i : ℕ) → place_where test xs ≡ Some i → (x : A) × Has x xs × (test x ≡ true)
-some_placed test [] i e = absurd cc
-some_placed {A = A} test (y ∷ ys) i e = by (test y) refl (place_where test ys) (some_placed test ys) e
-  where
-    by : (t : Bool) → test y ≡ t → (o : Option ℕ) → ((j : ℕ) → o ≡ Some j → (x : A) × Has x ys × (test x ≡ true)) → cond t (Some 0) (option_map suc o) ≡ Some i → (x : A) × ((x ≡ y) ⊎ Has x ys) × (test x ≡ true)
-    by true p o more e = (y, inl refl, p)
-    by false p None more e = absurd cc
-    by false p (Some j) more e = let r = more j refl in (r.0, inr r.1, r.2)

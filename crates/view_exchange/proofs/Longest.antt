@@ -9,7 +9,8 @@ use Rattle.rsct_packet.specs.declared.ids.ViewId.{ViewId}
 use Rattle.rsct_packet.specs.declared.mask.Mask.{Mask}
 use Rattle.rsct_packet.specs.Ids.{same_view}
 use Rattle.rsct_packet.specs.Search.{Has, place_where, edit_where, insert_before}
-use Rattle.rsct_packet.proofs.HasLaws.{has_append, append_has_left, append_has_right, has_map}
+use Rattle.rsct_packet.proofs.HasLaws.{has_append, append_has_left, append_has_right, has_map, map_has}
+use Rattle.rsct_packet.proofs.SearchLaws.{place_has}
 use Rattle.view_state.specs.declared.answer.Answer.{Answer}
 use Rattle.view_state.specs.declared.exchange.Exchange.{Exchange}
 use Rattle.view_state.specs.declared.sides.Kept.{Kept}
@@ -21,7 +22,7 @@ use Rattle.view_state.specs.Parts.{part_len}
 use Rattle.view_state.specs.Answers.{opened, kept_of, is_beaten, better_of, is_kept_of, is_kept_above, with_kept_at, with_kept, with_parts, side_with, side_from, is_side_of, is_side_above, with_side_at, with_side, with_answer, source_of, install_of}
 use Rattle.view_exchange.specs.Longest.{all_counted, Brings, NoWorse, IsLongest, IsCarried, CarriesLongest, NamesDiffer, LongestAreCarried}
 use Rattle.view_state.proofs.ViewOrder.{same_view_is}
-use Rattle.view_exchange.proofs.Edits.{inserted_has, has_inserted, Once, edited_has, has_edited, none_placed, some_placed}
+use Rattle.view_exchange.proofs.Edits.{inserted_has, has_inserted, Once, edited_has, has_edited, none_placed}
 
 -- ---- what is no worse
 
@@ -191,7 +192,7 @@ kept_holds_at offers ks new (Some i) e h =
       each = λ o y.
           ⊎_elim (λ (r : offers o). let x = h.each o r in let k = kept x.0 x.1 in (k.0, k.1, k.2 ∙ x.2))
           (λ (r : o ≡ new).
-          let x = some_placed test ks i e in
+          let x = place_has test ks i e in
           let k = kept x.0 x.1 in
           (k.0, k.1, k.2 ∙ (named_is new.part.name x.0 x.2 ∙ sym (ap i_name r)))) y;
       differ = edit_differ new ks h.differ;
@@ -284,17 +285,12 @@ offered_last given a v e k o =
     subst (λ (u : ViewId). Brings (given ++ a ∷ []) u k.node k.part) e
     (subst (λ (z : Kept). Brings (given ++ a ∷ []) a.view z.node z.part) (sym m.2) (brings_last given a m.0 m.1))) o
 
-map_has : (n : ℕ) (p : Part) (ps : List Part) → Has p ps → Has (kept_of n p) (map (kept_of n) ps)
-map_has n p [] h = absurd h
-map_has n p (q ∷ qs) (inl e) = inl (ap (kept_of n) e)
-map_has n p (q ∷ qs) (inr h) = inr (map_has n p qs h)
-
 last_offered : (given : List Answer) (a : Answer) (v : ViewId) → (k : Kept) → Offered (given ++ a ∷ []) v k → Offered given v k ⊎ Has k (map (kept_of a.node) a.parts)
 last_offered given a v k b =
     ⊎_elim (λ (h : Brings given v k.node k.part). inl h)
     (λ (h : ByLast a v k.node k.part).
     let same : kept_of a.node k.part ≡ k = ap (λ (n : ℕ). kept_of n k.part) h.node in
-    inr (subst (λ (z : Kept). Has z (map (kept_of a.node) a.parts)) same (map_has a.node k.part a.parts h.part)))
+    inr (subst (λ (z : Kept). Has z (map (kept_of a.node) a.parts)) same (map_has (kept_of a.node) k.part a.parts h.part)))
     (brings_split given a v k.node k.part b)
 
 -- a side of another view has the same offers
@@ -407,7 +403,7 @@ side_holds_at given ss a (Some i) e d h =
           (edited_has test (side_with a) s ss once m);
       each = λ v n p b.
           ⊎_elim (λ (r : Brings given v n p). let x = h.each v n p r in let s = kept x.0 x.1 in (s.0, s.1, s.2 ∙ x.2))
-          (λ (r : ByLast a v n p). let x = some_placed test ss i e in let s = kept x.0 x.1 in (s.0, s.1, s.2 ∙ (view_is a.view x.0 x.2 ∙ r.view)))
+          (λ (r : ByLast a v n p). let x = place_has test ss i e in let s = kept x.0 x.1 in (s.0, s.1, s.2 ∙ (view_is a.view x.0 x.2 ∙ r.view)))
           (brings_split given a v n p b);
       differ = views_edited a ss h.differ;
     }

@@ -8,7 +8,7 @@ use Rattle.rsct_packet.specs.Ids.{last_u32}
 use Rattle.rsct_packet.specs.Search.{Has, insert_before}
 use Rattle.rsct_packet.specs.Mask.{nodes_of}
 use Rattle.view_state.specs.Views.{views_new}
-use Rattle.rsct_packet.proofs.HasLaws.{append_has_right}
+use Rattle.rsct_packet.proofs.HasLaws.{append_has_right, reverse_has}
 use Rattle.node_state.specs.declared.config.Config.{Config}
 use Rattle.node_state.specs.declared.config.Mode.{Mode}
 use Rattle.node_state.specs.declared.config.Mode.TheVariants.{Fixed, Asked, Rings}
@@ -42,7 +42,7 @@ use Rattle.world_safety.proofs.Finding.{with_here, put_here, put_there}
 use Rattle.world_safety.proofs.Following.{IsNamed, StartOf, StepOf, CameTo}
 use Rattle.world_safety.proofs.Posting.{posted_nodes, kth_is}
 use Rattle.world_safety.proofs.Runs.{every_run_is_reached}
-use Rattle.world_safety.proofs.HeardStates.{answered_last, has_turned}
+use Rattle.world_safety.proofs.HeardStates.{answered_last}
 use Rattle.world_safety.proofs.Turned.{onto_is}
 use Rattle.world_safety.proofs.Further.{goes_further, Turned, turned_at}
 
@@ -261,7 +261,7 @@ module _ (c : Config) where
           let y : Core = stepped f s what in
           let k : Reached c (ended t.scene n e.event y) = Steps t.scene n f s what e.event t.reached up arises in
           let mine : y.views.me ≡ n = itself (ended t.scene n e.event y) k n y (set_here t.scene.cores n (Some y)) in
-          let none : length (puts_of y.views.me y.views.view g (records_of t.scene.before)) ≤ 0 = entered_anew c (ended t.scene n e.event y) k (over e.event y) t.scene.before refl y.views.me y.views.view anew.members (has_turned (happened.In y.views.me y.views.view anew.members) y.records anew.enters) g in
+          let none : length (puts_of y.views.me y.views.view g (records_of t.scene.before)) ≤ 0 = entered_anew c (ended t.scene n e.event y) k (over e.event y) t.scene.before refl y.views.me y.views.view anew.members (reverse_has (happened.In y.views.me y.views.view anew.members) y.records anew.enters) g in
           subst (λ (z : ℕ × List Happened). length (puts_of z.0 y.views.view g z.1) ≤ 0) (λ i. (mine i, t.trace i)) none
 
       module _ (held : Held done) (old : Greatest done) (n : ℕ) (s : Core) (up : core_at (answered_after c (done ++ e ∷ [])).nodes n ≡ Some s) (here : Here s) where
@@ -320,7 +320,7 @@ module _ (c : Config) where
 
             none : length (puts_of n s.views.view g (records_of t.scene.before)) ≤ 0
             none =
-                entered_anew c t.next.scene t.next.reached (record { event = Some e.event; records = reverse t.next.records }) t.scene.before t.next.before n s.views.view enters.0 (subst (λ z. Has (happened.In z s.views.view enters.0) (reverse t.next.records)) mine (x.records (happened.In s.views.me s.views.view enters.0) (has_turned (happened.In s.views.me s.views.view enters.0) s.records enters.1))) g
+                entered_anew c t.next.scene t.next.reached (record { event = Some e.event; records = reverse t.next.records }) t.scene.before t.next.before n s.views.view enters.0 (subst (λ z. Has (happened.In z s.views.view enters.0) (reverse t.next.records)) mine (x.records (happened.In s.views.me s.views.view enters.0) (reverse_has (happened.In s.views.me s.views.view enters.0) s.records enters.1))) g
 
         moved : StepOf t.scene w e.event (reverse t.next.records) n s → Out
         moved x = by (steps t.scene t.reached n x.answers x.core x.what x.up x.arises (subst Here x.is here))

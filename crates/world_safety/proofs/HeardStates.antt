@@ -5,6 +5,7 @@ use Rattle.std.proofs.lemmas.List.{reverse-reverse}
 use Rattle.std.proofs.lemmas.List.Sums.{fold-append}
 use Rattle.rsct_packet.specs.Lists.{reverse_onto}
 use Rattle.rsct_packet.specs.Search.{Has}
+use Rattle.rsct_packet.proofs.HasLaws.{has_reverse, reverse_has}
 use Rattle.proposal_core.specs.declared.group_state.GroupState.{GroupState}
 use Rattle.node_state.specs.declared.config.Config.{Config}
 use Rattle.node_state.specs.declared.happened.Happened.{Happened}
@@ -27,7 +28,6 @@ use Rattle.step_refinement.specs.Runs.{Reached}
 use Rattle.step_refinement.proofs.Begins.{begin_tied}
 use Rattle.step_refinement.proofs.RunLaw.{reached_rests}
 use Rattle.row_laws.specs.hearing.Hearing.{HeardInARow}
-use Rattle.run_induction.proofs.Idle.{reverse_has}
 use Rattle.row_laws.proofs.hearing.Listening.{steps_change, providers_hear}
 use Rattle.entry_laws.proofs.source_order.Tied.{states_tied}
 use Rattle.run_laws.proofs.seen_runs.Steps.{Mine, step_mine}
@@ -150,9 +150,6 @@ module _ (c : Config) (es : List Answered) (e : Answered) (may : AllMayHappen c 
 
 -- ---- the laws
 
-pub has_turned : (r : Happened) (xs : List Happened) → Has r xs → Has r (reverse xs)
-has_turned r xs h = reverse_has r (reverse xs) (subst (Has r) (sym (reverse-reverse xs)) h)
-
 pub heard_states_are_folds : HeardStatesAreFolds
 unfolding node_at
 heard_states_are_folds c es e n x rs may same at recorded =
@@ -166,8 +163,8 @@ heard_states_are_folds c es e n x rs may same at recorded =
     let step : new ≡ t.records = same_records w (goes_on w e) new t.records z.next.trace t.recorded in
     let up : z.scene.cores n ≡ Some x.core = z.mirrors.cores n ∙ ap core_in at in
     let heard : HeardInARow (record { event = Some e.event; records = reverse new } ∷ z.scene.before) = subst HeardInARow z.next.before (providers_hear c z.next.scene z.next.reached) in
-    let its : (r : Happened) → Has r (reverse new) → Mine n r = λ r h. mine c z.scene z.reached n x.core up e.answers t.records t.of_step r (subst (Has r) step (reverse_has r new h)) in
-    let own : (r : Happened) → Has r new → Own n r = λ r h. step_own n (reverse new) z.scene.before its heard.0 r (has_turned r new h) in
+    let its : (r : Happened) → Has r (reverse new) → Mine n r = λ r h. mine c z.scene z.reached n x.core up e.answers t.records t.of_step r (subst (Has r) step (has_reverse r new h)) in
+    let own : (r : Happened) → Has r new → Own n r = λ r h. step_own n (reverse new) z.scene.before its heard.0 r (reverse_has r new h) in
     let tracks : Tracks n w.trace states = subst (λ tr. Tracks n tr states) z.trace (stands_at c z.scene z.reached n x.core up) in
     let folds : AreFolds (reverse_onto new w.trace) (logged_in new states) = told_folds n new w.trace states own z.steady tracks in
     subst (λ (y : List Happened × List Happened). AreFolds y.0 (logged_in y.1 states)) (λ i. (sym (ap (λ (v : World). v.trace) last ∙ z.next.trace) i, all i)) folds

@@ -6,7 +6,7 @@ use Rattle.std.specs.Str.{bytes_eq}
 use Rattle.std.proofs.lemmas.Bool.{eq-eqb}
 use Rattle.rsct_packet.specs.declared.ids.Member.{Member}
 use Rattle.rsct_packet.specs.Search.{Has}
-use Rattle.rsct_packet.proofs.HasLaws.{append_has_left}
+use Rattle.rsct_packet.proofs.HasLaws.{append_has_left, has_reverse, reverse_has}
 use Rattle.view_state.specs.Views.{views_new}
 use Rattle.node_state.specs.declared.config.Config.{Config}
 use Rattle.node_state.specs.declared.group.GroupRow.{GroupRow}
@@ -29,7 +29,7 @@ use Rattle.step_refinement.specs.Runs.{Reached, Nothing, AllStart, Starts, Stops
 use Rattle.step_refinement.proofs.Begins.{begin_tied}
 use Rattle.step_refinement.proofs.Turns.{has_turned}
 use Rattle.step_refinement.proofs.RunLaw.{reached_rests}
-use Rattle.run_induction.proofs.Idle.{Idle, Elsewhere, other_node, stay_elsewhere, enters_elsewhere, reverse_has, within_idle, Came, started_turned, first_stay, came_is, came_stays}
+use Rattle.run_induction.proofs.Idle.{Idle, Elsewhere, other_node, stay_elsewhere, enters_elsewhere, within_idle, Came, started_turned, first_stay, came_is, came_stays}
 use Rattle.run_induction.proofs.Ran as runs
 use Rattle.run_induction.proofs.Ran.{Telling, Ran, ran_reached, config_of}
 use Rattle.run_induction.proofs.Laws.{UpClaim, UpDone, UpLaw, ups_hold}
@@ -136,9 +136,6 @@ next_aside c m h e s all b =
         let q : ticks_with m g e.event (e.records ++ []) (ticks_of m g h) ≡ tick_of m e.event + ticks_of m g h = ticks_aside m g e.event e.records [] (ticks_of m g h) all in
         let p : ticks_with m g e.event e.records (ticks_of m g h) ≡ tick_of m e.event + ticks_of m g h = ap (λ l. ticks_with m g e.event l (ticks_of m g h)) (sym (append-nil e.records)) ∙ q in omega arith
 
-has_turned_on : (r : Happened) (xs : List Happened) → Has r xs → Has r (reverse xs)
-has_turned_on r xs i = subst (Has r) (append-nil (reverse xs)) (has_turned r xs [] (append_has_left r xs [] i))
-
 -- records that put nothing
 idle_late : (event : Option Event) (r : Happened) (now : List Happened) (before : History) → Idle r → RecordLate event now before r
 idle_late event (happened.Put m v g i e) now before p = absurd p
@@ -180,7 +177,7 @@ step_done w n f s e v begins arises noted k was =
     record {
       sends = λ p i. tt;
       node = core;
-      others = λ m ne d up b. next_aside w.config m w.before (over v t) d (λ r i. mine_aside n m (λ q. ne (sym q)) r (a.mine r (has_turned_on r t.records (reverse_has r t.records i)))) b;
+      others = λ m ne d up b. next_aside w.config m w.before (over v t) d (λ r i. mine_aside n m (λ q. ne (sym q)) r (a.mine r (reverse_has r t.records (has_reverse r t.records i)))) b;
       lines = ((a.puts, k.0), (a.told, k.1));
     }
   where

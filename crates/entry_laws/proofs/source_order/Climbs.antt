@@ -5,7 +5,7 @@ use Rattle.rsct_packet.specs.declared.ids.ViewId.{ViewId}
 use Rattle.rsct_packet.specs.declared.ids.ProtoId.{ProtoId}
 use Rattle.rsct_packet.specs.Ids.{proto_lt}
 use Rattle.rsct_packet.specs.Search.{Has}
-use Rattle.rsct_packet.proofs.HasLaws.{append_has_left, append_has_right}
+use Rattle.rsct_packet.proofs.HasLaws.{append_has_left, append_has_right, has_get}
 use Rattle.proposal_core.specs.declared.entry.Entry.{Entry}
 use Rattle.proposal_core.specs.declared.group_state.GroupState.{GroupState}
 use Rattle.proposal_core.specs.declared.group_state.Running.{Running}
@@ -42,11 +42,6 @@ pub get_there : (xs : List Entry) (k : ℕ) → k < length xs → (x : Entry) ×
 get_there [] k l = absurd (omega arith)
 get_there (y ∷ xs) zero l = (y, refl)
 get_there (y ∷ xs) (suc k) l = get_there xs k (omega arith)
-
-has_get : (xs : List Entry) (f : Entry) → Has f xs → (k : ℕ) × (slice_get xs k ≡ Some f)
-has_get [] f i = absurd i
-has_get (x ∷ xs) f (inl e) = (0, ap (λ z. Some z) (sym e))
-has_get (x ∷ xs) f (inr i) = let k = has_get xs f i in (suc k.0, k.1)
 
 -- ---- a list whose entries fit, and whose reflections rise
 
@@ -139,10 +134,10 @@ module _ (bases : List ℕ → Bases) (log : List ℕ → ViewId → List Entry)
       over_list f a there p =
           let ys : List Entry = lists.puts_of n v (kept all) in
           let front : IsPrefix ys (log g v) = puts_front n v (log g v) (kept all) (λ j x h. k.puts n v j x (inr h)) k.places.1 in
-          let j = has_get ys f (subst (Has f) (puts_here n v g now before) there) in
-          let l : j.0 < length ys = get_within j.0 f ys j.1 in
+          let j = has_get f ys (subst (Has f) (puts_here n v g now before) there) in
+          let l : j.0 < length ys = j.1 in
           let place : i ≡ length ys = k.places.0 in
-          greater (base_state (bases g v)) v (log g v) (good g v) j.0 i f e a c (omega arith) (prefix_get ys (log g v) front j.0 f j.1) (k.puts n v i e (inl refl)) p q
+          greater (base_state (bases g v)) v (log g v) (good g v) j.0 i f e a c (omega arith) (prefix_get ys (log g v) front j.0 f j.2) (k.puts n v i e (inl refl)) p q
 
       over_base : (old : ViewId) (len : ℕ) (s : GroupState) (a : ProtoId) → Has (happened.Base n v g old len s) (earlier now before) → HasReached s a → proto_lt a c ≡ true
       over_base old len s a there p =

@@ -7,7 +7,7 @@ use Rattle.rsct_packet.specs.declared.ids.ViewId.{ViewId}
 use Rattle.rsct_packet.specs.declared.ids.ProviderId.{ProviderId}
 use Rattle.rsct_packet.specs.Providers.{among}
 use Rattle.rsct_packet.specs.Search.{Has}
-use Rattle.rsct_packet.proofs.HasLaws.{has_append, has_map, append_has_right}
+use Rattle.rsct_packet.proofs.HasLaws.{has_append, has_map, append_has_right, reverse_has}
 use Rattle.group_attr.specs.Attrs.{host_membership}
 use Rattle.proposal_core.specs.declared.proposal.Cause.TheVariants.{Died}
 use Rattle.proposal_core.specs.Fold.{present}
@@ -63,9 +63,6 @@ has_mapped f x [] i = absurd i
 has_mapped f x (y ∷ xs) (inl e) = inl (ap f e)
 has_mapped f x (y ∷ xs) (inr i) = inr (has_mapped f x xs i)
 
-turned_has : (r : Happened) (rs : List Happened) → Has r rs → Has r (reverse rs)
-turned_has r rs i = subst (Has r) (append-nil (reverse rs)) (has_turned r rs [] (subst (Has r) (sym (append-nil rs)) i))
-
 module _ (h : Turn) (none_sent : h.sent ≡ []) where
   abbrev Full : Core → Type 0
   Full s = At h ⊥ s
@@ -101,7 +98,7 @@ module _ (h : Turn) (none_sent : h.sent ≡ []) where
             old = b.0.from;
             len = b.0.len;
             base = b.0.state;
-            there = turned_has (happened.Base s.views.me i.view g b.0.from b.0.len b.0.state) (s.records ++ enters ∷ map (base_noted s.views.me i.view) (bases_of i)) (append_has_right (happened.Base s.views.me i.view g b.0.from b.0.len b.0.state) s.records (enters ∷ map (base_noted s.views.me i.view) (bases_of i)) (inr (subst (λ n. Has (happened.Base s.views.me i.view n b.0.from b.0.len b.0.state) (map (base_noted s.views.me i.view) (bases_of i))) b.2 (has_mapped (base_noted s.views.me i.view) b.0 (bases_of i) b.1))));
+            there = reverse_has (happened.Base s.views.me i.view g b.0.from b.0.len b.0.state) (s.records ++ enters ∷ map (base_noted s.views.me i.view) (bases_of i)) (append_has_right (happened.Base s.views.me i.view g b.0.from b.0.len b.0.state) s.records (enters ∷ map (base_noted s.views.me i.view) (bases_of i)) (inr (subst (λ n. Has (happened.Base s.views.me i.view n b.0.from b.0.len b.0.state) (map (base_noted s.views.me i.view) (bases_of i))) b.2 (has_mapped (base_noted s.views.me i.view) b.0 (bases_of i) b.1))));
           }
 
   -- (3)

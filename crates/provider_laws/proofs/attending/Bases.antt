@@ -4,6 +4,7 @@ use Rattle.std.proofs.Common.{◌≡◌, ◌⊎◌, ℕ, List, [], ◌∷◌, Op
 use Rattle.std.specs.Prelude.{slice_get}
 use Rattle.rsct_packet.specs.declared.ids.ViewId.{ViewId}
 use Rattle.rsct_packet.specs.Search.{Has}
+use Rattle.rsct_packet.proofs.HasLaws.{has_get}
 use Rattle.proposal_core.specs.declared.entry.Entry.{Entry}
 use Rattle.proposal_core.specs.Fold.{present}
 use Rattle.run_safety.specs.Group.{Standing, Reply, Origin, Packet, Answer, Record, Put, Line, Kept, Noted, kept}
@@ -12,7 +13,7 @@ use Rattle.run_safety.specs.Moves.{Leads, Opening, Collected, Life, Dawn, NextEv
 use Rattle.run_safety.specs.Group as group
 use Rattle.run_safety.proofs.Order.{cases_view}
 use Rattle.run_safety.proofs.Prefix.{IsPrefix, prefix_get}
-use Rattle.run_safety.proofs.Lines.{has_entered, has_inserted, has_place}
+use Rattle.run_safety.proofs.Lines.{has_entered, has_inserted}
 use Rattle.run_safety.proofs.Whole.{Whole}
 use Rattle.run_safety.proofs.Lives.{whole}
 use Rattle.provider_laws.specs.attending.Places.{Alone, Named}
@@ -34,8 +35,8 @@ entry_is e = cc
 -- what begins the list of a view was put
 pub listed_named : (o : Opening) (nodes : ℕ → Standing) (ps : List Packet) (all : List Line) (leads : Leads) (bases : Bases) (w : Whole o nodes ps all leads bases) → AllNamed all → (u : ViewId) (xs : List Entry) → IsPrefix xs (w.log u) → (e : Entry) → Has e xs → Named e
 listed_named o nodes ps all leads bases w named u xs front e h =
-    let at = has_place e xs h in
-    let there : slice_get (w.log u) at.0 ≡ Some e = prefix_get xs (w.log u) front at.0 e at.1 in
+    let at = has_get e xs h in
+    let there : slice_get (w.log u) at.0 ≡ Some e = prefix_get xs (w.log u) front at.0 e at.2 in
     let put = w.firsts.put u at.0 e there in
     let is : slice_get (w.log u) at.0 ≡ Some put.1 = w.good.inv.records (Put put.0 u at.0 put.1) put.2 in
     subst Named (entry_is (sym is ∙ there)) (named put.0 u at.0 put.1 (kept_line (Put put.0 u at.0 put.1) all put.2))

@@ -8,7 +8,7 @@ use Rattle.rsct_packet.specs.declared.ids.ViewId.{ViewId}
 use Rattle.rsct_packet.specs.declared.ids.ProviderId.{ProviderId}
 use Rattle.rsct_packet.specs.Providers.{among}
 use Rattle.rsct_packet.specs.Search.{Has, place_where}
-use Rattle.rsct_packet.proofs.HasLaws.{has_append}
+use Rattle.rsct_packet.proofs.HasLaws.{has_append, map_has}
 use Rattle.proposal_core.specs.declared.proposal.Proposal.{Proposal}
 use Rattle.proposal_core.specs.declared.proposal.Proposal.TheVariants.{Join, Leave, Fail, Expel, State, Message, Attributes, Reflect}
 use Rattle.proposal_core.specs.declared.entry.Entry.{Entry}
@@ -120,13 +120,8 @@ none_first p (x ∷ older) all =
 
 -- ---- who is named was asked
 
-map_has : (p : ProviderId) (ps : List ProviderId) → Has p ps → Has {A = ProviderId × ℕ} (p, p.join) (map (λ (q : ProviderId). (q, q.join)) ps)
-map_has p [] h = absurd h
-map_has p (q ∷ ps) (inl e) = inl (ap (λ (z : ProviderId). (z, z.join)) e)
-map_has p (q ∷ ps) (inr h) = inr (map_has p ps h)
-
 names_carried : (p : ProviderId) (x : Proposal) → among (joins_of x) p ≡ true → Has {A = ProviderId × ℕ} (p, p.join) (requests_of x)
-names_carried p (Join ps attrs n) h = map_has p ps (among_is ps p h)
+names_carried p (Join ps attrs n) h = map_has (λ (q : ProviderId). (q, q.join)) p ps (among_is ps p h)
 names_carried p (Leave q r) h = absurd (cc)
 names_carried p (Fail out) h = absurd (cc)
 names_carried p (Expel q r out) h = absurd (cc)

@@ -11,7 +11,7 @@ use Rattle.rsct_packet.specs.declared.ids.ProviderId.{ProviderId}
 use Rattle.rsct_packet.specs.Ids.{same_view}
 use Rattle.rsct_packet.specs.Providers.{among}
 use Rattle.rsct_packet.specs.Search.{Has}
-use Rattle.rsct_packet.proofs.HasLaws.{has_append, append_has_left, append_has_right, has_filter, filter_has, has_map}
+use Rattle.rsct_packet.proofs.HasLaws.{has_append, append_has_left, append_has_right, has_filter, filter_has, has_map, has_reverse}
 use Rattle.proposal_core.specs.declared.entry.Entry.{Entry}
 use Rattle.proposal_core.specs.declared.group_state.GroupState.{GroupState}
 use Rattle.proposal_core.specs.Fold.{present}
@@ -42,7 +42,6 @@ use Rattle.step_refinement.proofs.Changed.{set_here}
 use Rattle.step_refinement.proofs.RunLaw.{reached_rests}
 use Rattle.step_refinement.proofs.Turns.{has_turned}
 use Rattle.row_laws.proofs.hearing.Handing.{among_is, has_among}
-use Rattle.run_induction.proofs.Idle.{reverse_has}
 use Rattle.row_laws.proofs.hearing.Listening.{steps_change}
 use Rattle.provider_laws.proofs.attending.Bases.{kept_line}
 use Rattle.provider_laws.proofs.attending.States.{none_told, line_later, base_in}
@@ -225,7 +224,7 @@ module _ (c : Config) (w : Scene) (n : ℕ) (f : Answering) (s : Core) (e : Node
         where
           low : Has (happened.In n x fr.was.0) (reverse t.records) ⊎ Has (Kept (In n (w.incs n) x fr.was.0)) (lines_of g w.before) → Le x old
           low (inl h) =
-              let same : x ≡ u = ins n x fr.was.0 (reverse_has (happened.In n x fr.was.0) t.records h) ∙ sym u_is in
+              let same : x ≡ u = ins n x fr.was.0 (has_reverse (happened.In n x fr.was.0) t.records h) ∙ sym u_is in
               absurd (lt_not_same x u fr.less same)
           low (inr h) =
               let z : Entered (r0.ghost.nodes n) (w.incs n) x = o0.good.inv.records (In n (w.incs n) x fr.was.0) (line_kept (In n (w.incs n) x fr.was.0) r0.ghost.all (subst (Has (Kept (In n (w.incs n) x fr.was.0))) (sym r0.lines) h)) in

@@ -5,6 +5,7 @@ use Rattle.std.specs.List.{list_any}
 use Rattle.rsct_packet.specs.declared.ids.ProviderId.{ProviderId}
 use Rattle.rsct_packet.specs.Providers.{same_provider}
 use Rattle.rsct_packet.specs.Search.{Has}
+use Rattle.rsct_packet.proofs.HasLaws.{has_reverse, reverse_has}
 use Rattle.session_state.specs.declared.fault.GsFault.{GsFault}
 use Rattle.session_state.specs.declared.state.Session.{Session}
 use Rattle.session_state.specs.declared.state.Provider.{Provider}
@@ -33,7 +34,6 @@ use Rattle.step_refinement.proofs.RunLaw.{reached_rests}
 use Rattle.step_refinement.proofs.SessionLaws.{provider_same}
 use Rattle.step_refinement.proofs.Turns.{has_turned}
 use Rattle.row_laws.proofs.hearing.Rules.{call_onward}
-use Rattle.run_induction.proofs.Idle.{reverse_has}
 use Rattle.row_laws.specs.failed_rows.Scenes.{Names}
 use Rattle.row_laws.proofs.failed_rows.Joining.{call_now}
 use Rattle.row_laws.proofs.failed_rows.Living.{IsLive}
@@ -103,9 +103,6 @@ heard_law a t now h (happened.Shown n line) k s = tt
 pub within_all : (P : List Happened → History → Happened → Type 0) (rs : List Happened) (h : History) → ((now : List Happened) (r : Happened) → Has r rs → P now h r) → Within P rs h
 within_all P [] h all = tt
 within_all P (r ∷ rs) h all = (all rs r (inl refl), within_all P rs h (λ now x i. all now x (inr i)))
-
-has_back : (r : Happened) (xs : List Happened) → Has r xs → Has r (reverse xs)
-has_back r xs i = subst (Has r) (append-nil (reverse xs)) (has_turned r xs [] (subst (Has r) (sym (append-nil xs)) i))
 
 -- ---- a step
 
@@ -182,14 +179,14 @@ module _ (c : Config) (w : Scene) (n : ℕ) (f : Answering) (s : Core) (e : Node
           k.unused p (inr (subst (λ m. Late p (w.incs m) (w.cores m)) (sym o.0) (subst (Late p (w.incs n)) (sym up) (o.1, lt))))
 
   spares : (p : ProviderId) (inc : ℕ) → (Known root.sessions p → IsLive t.sessions p) → (r : Happened) → Has r (reverse t.records) → ends p inc r ≡ false
-  spares p inc live r i = by (left.fresh r (reverse_has r t.records i))
+  spares p inc live r i = by (left.fresh r (has_reverse r t.records i))
     where
       by : Has r root.records ⊎ Says root.sessions t.sessions r → ends p inc r ≡ false
       by (inl j) = call_spares root.sessions p inc r (fit.says r j)
       by (inr z) = says_spares root.sessions t.sessions p inc r live z
 
   none_asks : (p : ProviderId) → (Known root.sessions p → ⊥) → list_any (asks_join p) (reverse t.records) ≡ false
-  none_asks p un = left.slim.asks p ∙ any_none (asks_join p) (reverse root.records) (λ r i. call_asks root.sessions p r un (fit.says r (reverse_has r root.records i)))
+  none_asks p un = left.slim.asks p ∙ any_none (asks_join p) (reverse root.records) (λ r i. call_asks root.sessions p r un (fit.says r (has_reverse r root.records i)))
 
   rooted : (e : NodeEvent) → Names n e v → Owned (λ p. if list_any (asks_join p) (reverse (root_of (at_work s) e).records) then joining_client (Some v) else client_of p w.before) (root_of (at_work s) e).sessions
   rooted Ticks says = were.owners
@@ -215,7 +212,7 @@ module _ (c : Config) (w : Scene) (n : ℕ) (f : Answering) (s : Core) (e : Node
       name false z = sym (text_same d (o.0).name (ap (is_named d) (sym z) ∙ named))
 
       by : ((f : GsFault) × Has (happened.Refused s.views.me d f) root.records) ⊎ ((y : Session) → Has y root.sessions.sessions → y.name ≡ d → ⊥) → ⊥
-      by (inl r) = let z : false ≡ true = sym taken ∙ any_one is_refused (happened.Refused s.views.me d r.0) (reverse t.records) (has_back (happened.Refused s.views.me d r.0) t.records (left.grown (happened.Refused s.views.me d r.0) r.1)) refl in cc
+      by (inl r) = let z : false ≡ true = sym taken ∙ any_one is_refused (happened.Refused s.views.me d r.0) (reverse t.records) (reverse_has (happened.Refused s.views.me d r.0) t.records (left.grown (happened.Refused s.views.me d r.0) r.1)) refl in cc
       by (inr un) = un o.0 (subst (Has o.0) left.slim.sessions.names o.1) (name (list_any (asks_join x.p) (reverse t.records)) o.3)
 
   own : Kept (over v t ∷ w.before) t
@@ -260,7 +257,7 @@ module _ (c : Config) (w : Scene) (n : ℕ) (f : Answering) (s : Core) (e : Node
       record {
         nodes = each_set (λ m o. KeptIf (over v t ∷ w.before) o) w.cores n (Some t) own (λ m ne. others m ne (w.cores m) ((rests []).nodes m) (k.nodes m));
         unused = λ p un. spared p v (reverse t.records) w.before (spares p (inc_now p.node (records_of w.before)) (λ a. absurd (not_known p un a))) (λ m d q at named taken. not_named p (was_unused p un) d named) (k.unused p (was_unused p un));
-        law = (within_all NotLetGo (reverse t.records) w.before (λ now r i. heard_law root.sessions t.sessions now w.before r unlet_live (said r (left.fresh r (reverse_has r t.records i)))), k.law);
+        law = (within_all NotLetGo (reverse t.records) w.before (λ now r i. heard_law root.sessions t.sessions now w.before r unlet_live (said r (left.fresh r (has_reverse r t.records i)))), k.law);
       }
     where
       said : (r : Happened) → Has r root.records ⊎ Says root.sessions t.sessions r → CallSays root.sessions r ⊎ Says root.sessions t.sessions r

@@ -2,6 +2,7 @@
 use Rattle.std.proofs.Common.{◌≡◌, ℕ, ◌+◌, List, Some, false, refl, sym, ap, ◌∙◌, subst}
 use Rattle.std.specs.Prelude.{find}
 use Rattle.rsct_packet.specs.Search.{Has}
+use Rattle.rsct_packet.proofs.HasLaws.{has_reverse}
 use Rattle.view_state.specs.Views.{is_frozen}
 use Rattle.node_state.specs.declared.call.CallLine.TheVariants.{Goodbye}
 use Rattle.node_state.specs.declared.config.Config.{Config}
@@ -19,7 +20,7 @@ use Rattle.run_safety.specs.Past.{History, EachEvent}
 use Rattle.step_refinement.specs.Tied.{Scene}
 use Rattle.step_refinement.specs.Rules.{over}
 use Rattle.step_refinement.specs.Runs.{Reached}
-use Rattle.run_induction.proofs.Idle.{Idle, reverse_has}
+use Rattle.run_induction.proofs.Idle.{Idle}
 use Rattle.run_induction.proofs.Ran.{anyhow, ran_reached, reached_ran}
 use Rattle.run_induction.proofs.Laws.{UpClaim, UpLaw, up_holds, PastLaw, past_holds}
 use Rattle.provider_laws.proofs.leaving.Law.{recounting, recounted_ran}
@@ -116,7 +117,7 @@ step_quiet : (n : ℕ) (f : Answering) (s : Core) (e : NodeEvent) (v : Event) �
 step_quiet n f s e v is k m client q taken l u g i x h =
     let c : v ≡ event.Call m (Goodbye client) = cc in
     let b = is m (Goodbye client) c in
-    subst (λ (y : NodeEvent). (r : Happened) → Has r (stepped f s y).records → NoPut r) (sym b.1) (goodbye_quiet f s client k) (happened.Put l u g i x) (reverse_has (happened.Put l u g i x) (stepped f s e).records h)
+    subst (λ (y : NodeEvent). (r : Happened) → Has r (stepped f s y).records → NoPut r) (sym b.1) (goodbye_quiet f s client k) (happened.Put l u g i x) (has_reverse (happened.Put l u g i x) (stepped f s e).records h)
 
 quiet_law : (c : Config) → PastLaw recounting c Quiet
 quiet_law c =

@@ -8,7 +8,7 @@ use Rattle.rsct_packet.specs.declared.ids.ViewId.{ViewId}
 use Rattle.rsct_packet.specs.declared.ids.Member.{Member}
 use Rattle.rsct_packet.specs.Ids.{same_view}
 use Rattle.rsct_packet.specs.Search.{Has}
-use Rattle.rsct_packet.proofs.HasLaws.{has_append, append_has_left, append_has_right, find_has, find_none}
+use Rattle.rsct_packet.proofs.HasLaws.{has_append, append_has_left, append_has_right, find_has, find_none, has_reverse}
 use Rattle.proposal_core.specs.declared.entry.Entry.{Entry}
 use Rattle.proposal_core.specs.declared.group_state.GroupState.{GroupState}
 use Rattle.proposal_core.specs.Fold.{empty_state}
@@ -39,7 +39,6 @@ use Rattle.step_refinement.proofs.Turns.{has_turned}
 use Rattle.row_laws.specs.hearing.Changes.{Inner, entering, Does, Enters}
 use Rattle.row_laws.proofs.hearing.Viewing.{Once, Stayed, Entered, sides_stand}
 use Rattle.row_laws.proofs.hearing.Doing.{Hearing, hearing_does}
-use Rattle.run_induction.proofs.Idle.{reverse_has}
 use Rattle.row_laws.proofs.hearing.Added.{does_grow}
 use Rattle.provider_laws.proofs.single_casts.Lines.{ghost_of, in_line, line_read, runs_on, bases_in, noted_is, based_is, base_entered, put_entered, fitted_is, Seat, seat_of, single_is, entered_is}
 use Rattle.provider_laws.proofs.single_casts.Adding.{Own, entering_view, does_me, quiet_adds, entering_adds, entered_records}
@@ -120,7 +119,7 @@ module _ (c : Config) (w w' : Scene) (k : Reached c w) (k' : Reached c w') (n : 
 
   came : (r : Happened) → Has r rs → Has r t.records ⊎ Has r (records_of w.before)
   came r h =
-      ⊎_elim (λ (a : Has r (reverse t.records)). inl (reverse_has r t.records a)) (λ (a : Has r (records_of w.before)). inr a) (has_append r (reverse t.records) (records_of w.before) (subst (Has r) is h))
+      ⊎_elim (λ (a : Has r (reverse t.records)). inl (has_reverse r t.records a)) (λ (a : Has r (records_of w.before)). inr a) (has_append r (reverse t.records) (records_of w.before) (subst (Has r) is h))
 
   -- of a base the step records none but of the view that it enters
   base_new : Once (at_work s) t → (m : ℕ) (u : ViewId) (g : List ℕ) (old : ViewId) (len : ℕ) (st : GroupState) → Has (happened.Base m u g old len st) t.records → Lt s.views.view u
@@ -215,7 +214,7 @@ module _ (c : Config) (w w' : Scene) (k : Reached c w) (k' : Reached c w') (n : 
 
     no_puts : (g : List ℕ) (j : ℕ) (x : Entry) → Has (happened.Put n i.view g j x) (earlier (reverse (entering a i).records) w.before) → ⊥
     no_puts g j x h =
-        ⊎_elim (λ (z : Has r (reverse (entering a i).records)). new (entering_adds a i r (reverse_has r (entering a i).records z))) (λ (z : Has r (records_of w.before)). let m = put_entered c w k g n i.view j x z in fresh m.0 m.1) (has_append r (reverse (entering a i).records) (records_of w.before) h)
+        ⊎_elim (λ (z : Has r (reverse (entering a i).records)). new (entering_adds a i r (has_reverse r (entering a i).records z))) (λ (z : Has r (records_of w.before)). let m = put_entered c w k g n i.view j x z in fresh m.0 m.1) (has_append r (reverse (entering a i).records) (records_of w.before) h)
       where
         r : Happened
         r = happened.Put n i.view g j x

@@ -10,7 +10,7 @@ use Rattle.rsct_packet.specs.declared.mask.Mask.{Mask}
 use Rattle.rsct_packet.specs.Mask.{nodes_of}
 use Rattle.rsct_packet.specs.Providers.{among}
 use Rattle.rsct_packet.specs.Search.{Has}
-use Rattle.rsct_packet.proofs.HasLaws.{has_append}
+use Rattle.rsct_packet.proofs.HasLaws.{has_append, map_has, has_get}
 use Rattle.proposal_core.specs.declared.proposal.Proposal.{Proposal}
 use Rattle.proposal_core.specs.declared.proposal.Proposal.TheVariants.{Join, Leave, Fail, Expel, State, Message, Attributes, Reflect}
 use Rattle.proposal_core.specs.declared.entry.Entry.{Entry}
@@ -45,7 +45,7 @@ use Rattle.run_safety.specs.Bases.{Bases, base_state, state_of_list, side_state,
 use Rattle.run_safety.specs.Moves.{Leads, Opening, Collected, Quiet, Life, Dawn, NextEvent, Promises, Answers, Appends, Follows, Starts, Enters, Founds, Names, Hears, Asks, Requests, Refuses, IsTold, Acknowledges, Settles}
 use Rattle.run_safety.proofs.Order.{cases_view}
 use Rattle.run_safety.proofs.Prefix.{IsPrefix, prefix_get}
-use Rattle.run_safety.proofs.Lines.{has_entered, has_inserted, has_place}
+use Rattle.run_safety.proofs.Lines.{has_entered, has_inserted}
 use Rattle.run_safety.proofs.Tests.{has_any}
 use Rattle.run_safety.proofs.Whole.{Whole}
 use Rattle.run_safety.proofs.Lives.{whole}
@@ -64,13 +64,8 @@ use Rattle.row_laws.proofs.failed_rows.Grows.{after_has}
 
 -- ---- an entry that names a provider in a join carries its request
 
-map_has : (p : ProviderId) (ps : List ProviderId) → Has p ps → Has {A = ProviderId × ℕ} (p, p.join) (map (λ (q : ProviderId). (q, q.join)) ps)
-map_has p [] h = absurd h
-map_has p (q ∷ ps) (inl e) = inl (ap (λ (z : ProviderId). (z, z.join)) e)
-map_has p (q ∷ ps) (inr h) = inr (map_has p ps h)
-
 names_carried : (p : ProviderId) (x : Proposal) → among (joins_of x) p ≡ true → Has {A = ProviderId × ℕ} (p, p.join) (requests_of x)
-names_carried p (Join ps attrs n) h = map_has p ps (among_is ps p h)
+names_carried p (Join ps attrs n) h = map_has (λ (q : ProviderId). (q, q.join)) p ps (among_is ps p h)
 names_carried p (Leave q r) h = absurd (cc)
 names_carried p (Fail out) h = absurd (cc)
 names_carried p (Expel q r out) h = absurd (cc)
@@ -112,8 +107,8 @@ module _ (P : ProviderId → Type 0) where
   -- what begins the list of a view was put
   listed_join : (o : Opening) (nodes : ℕ → Standing) (ps : List Packet) (all : List Line) (leads : Leads) (bases : Bases) (w : Whole o nodes ps all leads bases) → AllJoin all → (u : ViewId) (xs : List Entry) → IsPrefix xs (w.log u) → (e : Entry) → Has e xs → Joins e
   listed_join o nodes ps all leads bases w named u xs front e h =
-      let at = has_place e xs h in
-      let there : slice_get (w.log u) at.0 ≡ Some e = prefix_get xs (w.log u) front at.0 e at.1 in
+      let at = has_get e xs h in
+      let there : slice_get (w.log u) at.0 ≡ Some e = prefix_get xs (w.log u) front at.0 e at.2 in
       let put = w.firsts.put u at.0 e there in
       let is : slice_get (w.log u) at.0 ≡ Some put.1 = w.good.inv.records (Put put.0 u at.0 put.1) put.2 in
       subst Joins (entry_is (sym is ∙ there)) (named put.0 u at.0 put.1 (kept_line (Put put.0 u at.0 put.1) all put.2))

@@ -9,7 +9,7 @@ use Rattle.rsct_packet.specs.declared.ids.ProviderId.{ProviderId}
 use Rattle.rsct_packet.specs.Ids.{same_view}
 use Rattle.rsct_packet.specs.Providers.{among, none_among}
 use Rattle.rsct_packet.specs.Search.{Has}
-use Rattle.rsct_packet.proofs.HasLaws.{has_append, append_has_right, has_map, has_filter, all_has, find_has}
+use Rattle.rsct_packet.proofs.HasLaws.{has_append, append_has_right, has_map, has_filter, all_has, find_has, has_reverse}
 use Rattle.group_attr.specs.Attrs.{host_membership}
 use Rattle.proposal_core.specs.declared.proposal.Cause.TheVariants.{Died}
 use Rattle.proposal_core.specs.declared.proposal.Proposal.{Proposal}
@@ -48,7 +48,6 @@ use Rattle.node_state.proofs.NameOrder.{row_here, text_same}
 use Rattle.step_refinement.proofs.SessionLaws.{provider_same}
 use Rattle.step_refinement.proofs.BaseOrder.{bases_ordered, row_of_base, base_noted}
 use Rattle.row_laws.proofs.hearing.Handing.{among_is, has_among}
-use Rattle.run_induction.proofs.Idle.{reverse_has}
 use Rattle.row_laws.proofs.honest_votes.At.{found}
 use Rattle.row_laws.proofs.honest_votes.Changes.{Every, NoGroup}
 use Rattle.row_laws.specs.failed_rows.Failures.{FromElsewhere, IsCut, EachPut}
@@ -307,7 +306,7 @@ module _ (h : History) (said : ProviderId → Type 0) (origin : Origin) (P L M :
               older = reverse (first ++ map (base_noted me i.view) k.before) ++ records_of h;
               is = ap (λ z. reverse (s.records ++ entering ∷ map (base_noted me i.view) z) ++ records_of h) k.is ∙ ap (λ z. reverse (s.records ++ entering ∷ z) ++ records_of h) (map_split k.before b k.after) ∙ ap (λ z. reverse z ++ records_of h) (sym (append_assoc s.records (entering ∷ []) (map (base_noted me i.view) k.before ++ base_noted me i.view b ∷ map (base_noted me i.view) k.after)) ∙ sym (append_assoc first (map (base_noted me i.view) k.before) (base_noted me i.view b ∷ map (base_noted me i.view) k.after))) ∙ turned_split (base_noted me i.view b) (first ++ map (base_noted me i.view) k.before) (map (base_noted me i.view) k.after) (records_of h);
               stayed = λ g. still g k.before first (here g);
-              inc = stepped_incs me me (reverse (first ++ map (base_noted me i.view) k.before)) (records_of h) (λ r j. own k.before r (reverse_has r (first ++ map (base_noted me i.view) k.before) j)) ∙ was.counted;
+              inc = stepped_incs me me (reverse (first ++ map (base_noted me i.view) k.before)) (records_of h) (λ r j. own k.before r (has_reverse r (first ++ map (base_noted me i.view) k.before) j)) ∙ was.counted;
             }
 
     -- it is not in the base, or the base is from another view than the last

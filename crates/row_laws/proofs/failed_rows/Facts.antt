@@ -7,7 +7,7 @@ use Rattle.rsct_packet.specs.declared.ids.ViewId.{ViewId}
 use Rattle.rsct_packet.specs.declared.ids.ProviderId.{ProviderId}
 use Rattle.rsct_packet.specs.Search.{Has}
 use Rattle.rsct_packet.specs.Providers.{among}
-use Rattle.rsct_packet.proofs.HasLaws.{append_has_left, append_has_right}
+use Rattle.rsct_packet.proofs.HasLaws.{append_has_left, append_has_right, has_reverse}
 use Rattle.proposal_core.specs.declared.proposal.Cause.{Cause}
 use Rattle.proposal_core.specs.declared.proposal.Cause.TheVariants.{Died, Gone, Cast}
 use Rattle.proposal_core.specs.declared.proposal.Failure.{Failure}
@@ -32,7 +32,7 @@ use Rattle.node_state.specs.declared.packet.Body.TheVariants as body
 use Rattle.node_state.specs.declared.state.Core.{Core}
 use Rattle.run_safety.specs.Past.{History, records_of, inc_after, inc_now}
 use Rattle.run_safety.specs.Stays.{Stay, stays, stays_after, is_join_of, asks_join, is_refused}
-use Rattle.run_induction.proofs.Idle.{reverse_has, Elsewhere}
+use Rattle.run_induction.proofs.Idle.{Elsewhere}
 use Rattle.row_laws.specs.failed_rows.Failures.{state_of_stay, state_held, WasTold, TakenOff, StoodThere, RowFails, EachPut}
 use Rattle.row_laws.proofs.failed_rows.Queues.{Stays}
 use Rattle.row_laws.proofs.failed_rows.Living.{IsLive}
@@ -370,7 +370,7 @@ off_heard before rs new p v g i e ms value quiet heard k =
       between = reverse at.before;
       older = k.older;
       moment = ap (λ z. z ++ before) (reverse-append rs new) ∙ append_assoc (reverse new) (reverse rs) before ∙ ap (λ z. reverse z ++ (reverse rs ++ before)) at.is ∙ turned_split it at.before at.after (reverse rs ++ before) ∙ ap (λ z. reverse at.after ++ it ∷ (reverse at.before ++ z)) k.moment;
-      still = quiet_all p.node g (reverse at.before) (happened.Put p.node v g i e ∷ k.older) (λ r h. quiet r (subst (Has r) (sym at.is) (append_has_left r at.before (it ∷ at.after) (reverse_has r at.before h))));
+      still = quiet_all p.node g (reverse at.before) (happened.Put p.node v g i e ∷ k.older) (λ r h. quiet r (subst (Has r) (sym at.is) (append_has_left r at.before (it ∷ at.after) (has_reverse r at.before h))));
       was = k.was;
       off = k.off;
     }
@@ -419,7 +419,7 @@ none_asked p (r ∷ rs) xs all = ap (λ b. b || list_any (asks_join p) (rs ++ xs
 -- more is recorded, and nobody asks
 pub own_pushed : (h : History) (said : ProviderId → Type 0) (born : ℕ) (t : SessionState) (s : Core) (rs : List Happened) → ((r : Happened) → Has r rs → (p : ProviderId) → asks_join p r ≡ false) → OwnFor h said born t s → OwnFor h said born t (record s { records = s.records ++ rs })
 own_pushed h said born t s rs none k p node inc asked =
-    subst (λ z. Lives said t z p) (sym turned) (lives_on said t (reverse rs) (reverse s.records ++ records_of h) p (k p node inc (sym (none_asked p (reverse rs) (reverse s.records ++ records_of h) (λ r i. none r (reverse_has r rs i) p)) ∙ ap (list_any (asks_join p)) (sym turned) ∙ asked)))
+    subst (λ z. Lives said t z p) (sym turned) (lives_on said t (reverse rs) (reverse s.records ++ records_of h) p (k p node inc (sym (none_asked p (reverse rs) (reverse s.records ++ records_of h) (λ r i. none r (has_reverse r rs i) p)) ∙ ap (list_any (asks_join p)) (sym turned) ∙ asked)))
   where
     turned : reverse (s.records ++ rs) ++ records_of h ≡ reverse rs ++ (reverse s.records ++ records_of h)
     turned = ap (λ z. z ++ records_of h) (reverse-append s.records rs) ∙ append_assoc (reverse rs) (reverse s.records) (records_of h)

@@ -10,6 +10,7 @@ use Rattle.rsct_packet.specs.declared.ids.ProtoId.{ProtoId}
 use Rattle.rsct_packet.specs.Providers.{among, same_provider}
 use Rattle.rsct_packet.specs.Search.{Has}
 use Rattle.rsct_packet.proofs.HasLaws.{append_has_left, find_has, has_filter}
+use Rattle.proposal_core.proofs.FoldLaws.{among_both}
 use Rattle.group_attr.specs.declared.attrs.Phases.{Phases}
 use Rattle.proposal_core.specs.declared.proposal.Cause.TheVariants.{Gone}
 use Rattle.proposal_core.specs.declared.proposal.Failure.{Failure}
@@ -53,7 +54,6 @@ use Rattle.row_laws.proofs.honest_votes.At.{found, leads_row, leads_is}
 use Rattle.step_walk.proofs.Asides.{handed_longer}
 use Rattle.row_laws.proofs.honest_votes.Changes.{Every, NoGroup}
 use Rattle.row_laws.specs.failed_rows.Failures.{IsRefused, GoneCause}
-use Rattle.row_laws.proofs.failed_rows.Queues.{among_both}
 use Rattle.row_laws.proofs.failed_rows.Facts.{NotDissolved, Whys, TallyFails, TallyIs, QueueIs, BasesFit, Track}
 use Rattle.row_laws.proofs.failed_rows.Origin.{Origin}
 use Rattle.row_laws.proofs.failed_rows.At.{At, at_for, at_fold, at_sent, at_row_for, at_told}

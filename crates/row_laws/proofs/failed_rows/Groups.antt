@@ -3,7 +3,7 @@ use Rattle.std.proofs.Common.{◌≡◌, ◌⊎◌, ◌≤◌, ℕ, ◌+◌, Lis
 use Rattle.std.specs.Prelude.{reverse}
 use Rattle.rsct_packet.specs.declared.ids.ProviderId.{ProviderId}
 use Rattle.rsct_packet.specs.Search.{Has}
-use Rattle.rsct_packet.proofs.HasLaws.{has_append}
+use Rattle.rsct_packet.proofs.HasLaws.{has_append, has_reverse}
 use Rattle.proposal_core.specs.declared.proposal.Proposal.{Proposal}
 use Rattle.node_state.specs.declared.config.Config.{Config}
 use Rattle.node_state.specs.declared.happened.Happened.{Happened}
@@ -28,7 +28,6 @@ use Rattle.row_laws.proofs.failed_rows.Between.{who_is}
 use Rattle.row_laws.proofs.failed_rows.Starting.{idle_asks}
 use Rattle.row_laws.proofs.failed_rows.Facts.{Unasked}
 use Rattle.row_laws.proofs.hearing.Incarnations.{incs_of}
-use Rattle.run_induction.proofs.Idle.{reverse_has}
 use Rattle.run_induction.proofs.Ran.{Ran, ran_reached}
 use Rattle.run_induction.proofs.Laws.{PastLaw, past_holds}
 use Rattle.row_laws.proofs.failed_rows.Law.{playing, played_ran, rests_in, fails_hold, asked_by_call, asked_here}
@@ -97,9 +96,9 @@ module _ (c : Config) (w : Scene) (n : ℕ) (f : Answering) (s : Core) (e : Node
 
       by : Has (happened.Asked p r g x) (reverse t.records) ⊎ Has (happened.Asked p r g x) (records_of w.before) → Has (happened.Asked p r h y) (reverse t.records) ⊎ Has (happened.Asked p r h y) (records_of w.before) → g ≡ h
       by (inl i) (inl j) =
-          both (sym (new p r g x (reverse_has (happened.Asked p r g x) t.records i)).0 ∙ (new p r h y (reverse_has (happened.Asked p r h y) t.records j)).0)
-      by (inl i) (inr j) = absurd (apart p r g h x y (reverse_has (happened.Asked p r g x) t.records i) j)
-      by (inr i) (inl j) = absurd (apart p r h g y x (reverse_has (happened.Asked p r h y) t.records j) i)
+          both (sym (new p r g x (has_reverse (happened.Asked p r g x) t.records i)).0 ∙ (new p r h y (has_reverse (happened.Asked p r h y) t.records j)).0)
+      by (inl i) (inr j) = absurd (apart p r g h x y (has_reverse (happened.Asked p r g x) t.records i) j)
+      by (inr i) (inl j) = absurd (apart p r h g y x (has_reverse (happened.Asked p r h y) t.records j) i)
       by (inr i) (inr j) = old p r g h x y i j
 
 -- ---- every scene

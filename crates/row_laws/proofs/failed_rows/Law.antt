@@ -5,7 +5,7 @@ use Rattle.std.specs.List.{list_any}
 use Rattle.std.proofs.lemmas.Bool.{eq-eqb}
 use Rattle.rsct_packet.specs.declared.ids.ProviderId.{ProviderId}
 use Rattle.rsct_packet.specs.Search.{Has}
-use Rattle.rsct_packet.proofs.HasLaws.{append_has_left, has_filter}
+use Rattle.rsct_packet.proofs.HasLaws.{append_has_left, has_filter, has_reverse}
 use Rattle.proposal_core.specs.Lists.{state_in}
 use Rattle.session_state.specs.declared.state.Provider.{Provider}
 use Rattle.session_state.specs.State.{is_client_of, client_token}
@@ -34,7 +34,6 @@ use Rattle.step_refinement.proofs.Turns.{has_turned}
 use Rattle.row_laws.proofs.honest_votes.At.{found, leads_row}
 use Rattle.row_laws.proofs.honest_votes.Changes.{Every, NoGroup}
 use Rattle.row_laws.proofs.hearing.Incarnations.{incs_of}
-use Rattle.run_induction.proofs.Idle.{reverse_has}
 use Rattle.run_induction.proofs.Ran as runs
 use Rattle.run_induction.proofs.Ran.{Telling, Ran, ran_reached}
 use Rattle.run_induction.proofs.Laws.{IfUp, if_up, Holds, UpDone, UpLaw, ups_hold}
@@ -176,7 +175,7 @@ module _ (w : Scene) (n : ℕ) (f : Answering) (s : Core) (e : NodeEvent) (v : E
         older = w.before;
         moment = refl;
         said = ap (λ z. goodbye_of p.node (client_of p w.before) (Some z)) (says (call.Goodbye (c.0).0) (c.0).1) ∙ (λ i. eq-eqb n p.node (sym c.1) i && c.2 i);
-        taken = none_refused (reverse t.records) (λ r i. at.accepted c.0 r (reverse_has r t.records i));
+        taken = none_refused (reverse t.records) (λ r i. at.accepted c.0 r (has_reverse r t.records i));
       }
   goodbye_said p (inr k) = goodbye_on (over v t) w.before p k
 
@@ -219,7 +218,7 @@ module _ (w : Scene) (n : ℕ) (f : Answering) (s : Core) (e : NodeEvent) (v : E
       record {
         sends = λ p i. sent_gone p.body (at.sends p i);
         node = own;
-        others = λ m ne d is b. core_on m (over v t) w.before d (who_is w (rests []) m d is) (λ r i. stepped_elsewhere t.views.me m r (λ q. ne (sym q ∙ me)) (at.whose r (reverse_has r t.records i))) b;
+        others = λ m ne d is b. core_on m (over v t) w.before d (who_is w (rests []) m d is) (λ r i. stepped_elsewhere t.views.me m r (λ q. ne (sym q ∙ me)) (at.whose r (has_reverse r t.records i))) b;
         lines = (at.puts tt fit, k.lines);
       }
     where

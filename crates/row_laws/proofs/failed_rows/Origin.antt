@@ -5,7 +5,7 @@ use Rattle.std.specs.List.{list_any}
 use Rattle.std.proofs.lemmas.List.{reverse-append}
 use Rattle.rsct_packet.specs.declared.ids.ProviderId.{ProviderId}
 use Rattle.rsct_packet.specs.Search.{Has}
-use Rattle.rsct_packet.proofs.HasLaws.{has_append}
+use Rattle.rsct_packet.proofs.HasLaws.{has_append, has_reverse}
 use Rattle.proposal_core.specs.declared.proposal.Proposal.{Proposal}
 use Rattle.session_state.specs.declared.state.SessionState.{SessionState}
 use Rattle.node_state.specs.declared.happened.Happened.{Happened}
@@ -14,7 +14,6 @@ use Rattle.node_state.specs.declared.state.Core.{Core}
 use Rattle.node_state.specs.Calls.{take_call}
 use Rattle.node_state.specs.Step.{NodeEvent, Ticks, Asks, Given, Calls, Garbage}
 use Rattle.run_safety.specs.Stays.{asks_join}
-use Rattle.run_induction.proofs.Idle.{reverse_has}
 use Rattle.row_laws.proofs.failed_rows.Living.{Slimmer, slim_same, slim_then}
 use Rattle.row_laws.proofs.failed_rows.Facts.{Unasked, unasked_join, none_asked}
 
@@ -41,7 +40,7 @@ slim_more None t rs new none k = tt
 slim_more (Some root) t rs new none k =
     record {
       sessions = k.sessions;
-      asks = λ p. ap (list_any (asks_join p)) (reverse-append rs new) ∙ none_asked p (reverse new) (reverse rs) (λ r i. unasked_join r (none r (reverse_has r new i)) p) ∙ k.asks p;
+      asks = λ p. ap (list_any (asks_join p)) (reverse-append rs new) ∙ none_asked p (reverse new) (reverse rs) (λ r i. unasked_join r (none r (has_reverse r new i)) p) ∙ k.asks p;
       asked = λ p r g x i. before p r g x (has_append (happened.Asked p r g x) rs new i);
     }
   where

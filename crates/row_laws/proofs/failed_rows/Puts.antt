@@ -12,7 +12,7 @@ use Rattle.rsct_packet.proofs.HasLaws.{has_append, append_has_left}
 use Rattle.proposal_core.specs.declared.entry.Entry.{Entry}
 use Rattle.proposal_core.specs.declared.group_state.GroupState.{GroupState}
 use Rattle.proposal_core.specs.Fold.{fits, after, after_if, joiners_fit, present, joiners_in}
-use Rattle.proposal_core.proofs.FoldLaws.{joiners_fit_after}
+use Rattle.proposal_core.proofs.FoldLaws.{joiners_fit_after, among_both}
 use Rattle.proposal_core.specs.Lists.{list_or_new, state_in, len_in, with_entry}
 use Rattle.node_state.specs.declared.group.GroupRow.{GroupRow}
 use Rattle.node_state.specs.declared.happened.Happened.{Happened}
@@ -31,7 +31,6 @@ use Rattle.row_laws.proofs.failed_rows.Facts.{Whys, takers_pushed, TallyIs, Queu
 use Rattle.row_laws.proofs.failed_rows.Origin.{Origin, slim_more}
 use Rattle.row_laws.proofs.failed_rows.At.{At}
 use Rattle.session_state.specs.HandOn.{hearers, is_present}
-use Rattle.row_laws.proofs.failed_rows.Queues.{among_both}
 use Rattle.row_laws.proofs.failed_rows.Living.{hearer_was}
 use Rattle.row_laws.proofs.failed_rows.Hands.{at_handed}
 

@@ -2,10 +2,11 @@
 use Rattle.std.proofs.Common.{◌≡◌, ℕ, List, [], ◌∷◌, ◌++◌, Option, Some, None, Bool, true, false, refl, sym, ap, ◌∙◌, subst, arith}
 use Rattle.std.specs.Prelude.{not, ◌&&◌, ◌||◌, is_none, cond}
 use Rattle.std.proofs.lemmas.Bool.{and_parts}
-use Rattle.std.proofs.lemmas.Bool.Decides.{nat_tests}
 use Rattle.rsct_packet.specs.declared.ids.ViewId.{ViewId}
 use Rattle.rsct_packet.specs.declared.ids.ProviderId.{ProviderId}
 use Rattle.rsct_packet.specs.Providers.{among, same_provider, without_all}
+use Rattle.rsct_packet.proofs.ProviderLaws.{among_without}
+use Rattle.proposal_core.proofs.FoldLaws.{among_both}
 use Rattle.group_attr.specs.declared.attrs.Attrs.{Attrs}
 use Rattle.proposal_core.specs.declared.proposal.Proposal.{Proposal}
 use Rattle.proposal_core.specs.declared.proposal.Proposal.TheVariants.{Join, Leave, Fail, Expel, State, Message, Attributes, Reflect}
@@ -23,36 +24,6 @@ abbrev pub Stays : GroupState → ProviderId → Bool
 Stays st p = most (among st.failed p) (among st.members p) (among (joiners_in st.running) p)
 
 -- ---- lists of providers
-
-same_is : (a b : ProviderId) → same_provider a b ≡ true → a ≡ b
-same_is a b z = grind (arith, nat_tests)
-
-and_none : (a : Bool) → (a && false) ≡ false
-and_none true = refl
-and_none false = refl
-
-pub among_without : (ps xs : List ProviderId) (p : ProviderId) → among (without_all xs ps) p ≡ (among xs p && not (among ps p))
-among_without ps [] p = refl
-among_without ps (x ∷ xs) p = at (same_provider x p) refl (not (among ps x)) refl (among_without ps xs p)
-  where
-    rest : List ProviderId
-    rest = without_all xs ps
-
-    at : (b : Bool) → same_provider x p ≡ b → (t : Bool) → not (among ps x) ≡ t → among rest p ≡ (among xs p && not (among ps p)) → among (cond t (x ∷ rest) rest) p ≡ ((b || among xs p) && not (among ps p))
-    at true e true q k = ap (λ z. z || among rest p) e ∙ sym (ap (λ z. not (among ps z)) (sym (same_is x p e)) ∙ q)
-    at true e false q k =
-        let off : not (among ps p) ≡ false = ap (λ z. not (among ps z)) (sym (same_is x p e)) ∙ q in
-        k ∙ ap (λ z. among xs p && z) off ∙ and_none (among xs p) ∙ sym off
-    at false e true q k = ap (λ z. z || among rest p) e ∙ k
-    at false e false q k = k
-
-or_next : (a b c : Bool) → ((a || b) || c) ≡ (a || (b || c))
-or_next true b c = refl
-or_next false b c = refl
-
-pub among_both : (xs ys : List ProviderId) (p : ProviderId) → among (xs ++ ys) p ≡ (among xs p || among ys p)
-among_both [] ys p = refl
-among_both (x ∷ xs) ys p = ap (λ z. same_provider x p || z) (among_both xs ys p) ∙ sym (or_next (same_provider x p) (among xs p) (among ys p))
 
 -- ---- tests
 

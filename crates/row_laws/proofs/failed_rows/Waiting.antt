@@ -3,32 +3,21 @@ use Rattle.std.proofs.Common.{◌≡◌, ◌⊎◌, ℕ, zero, suc, ◌≤◌, L
 use Rattle.std.specs.Prelude.{if◌then◌else◌}
 use Rattle.rsct_packet.specs.declared.ids.ProviderId.{ProviderId}
 use Rattle.rsct_packet.specs.Search.{Has}
-use Rattle.rsct_packet.proofs.HasLaws.{has_append}
+use Rattle.rsct_packet.proofs.HasLaws.{has_append, has_drop, has_take}
 use Rattle.proposal_core.specs.declared.proposal.Cause.{Cause}
 use Rattle.proposal_core.specs.declared.proposal.Failure.{Failure}
 use Rattle.proposal_core.specs.declared.group_state.GroupState.{GroupState}
 use Rattle.batch_rules.specs.Waiting.{WaitingView, takes_failure, add_failure, chosen_of, left_of}
 use Rattle.row_laws.proofs.failed_rows.Facts.{Waits, AllWait}
 
-pub has_dropped : {A : Type 0} (n : ℕ) (xs : List A) (x : A) → Has x (drop n xs) → Has x xs
-has_dropped zero xs x i = i
-has_dropped (suc n) [] x i = absurd i
-has_dropped (suc n) (y ∷ xs) x i = inr (has_dropped n xs x i)
-
-has_taken : {A : Type 0} (n : ℕ) (xs : List A) (x : A) → Has x (take n xs) → Has x xs
-has_taken zero xs x i = absurd i
-has_taken (suc n) [] x i = absurd i
-has_taken (suc n) (y ∷ xs) x (inl e) = inl e
-has_taken (suc n) (y ∷ xs) x (inr i) = inr (has_taken n xs x i)
-
 -- those who are chosen, and those who are left, were there
 pub chosen_has : {A : Type 0} (b : Bool) (xs : List A) (x : A) → Has x (chosen_of b xs) → Has x xs
 chosen_has true xs x i = i
-chosen_has false xs x i = has_taken 1 xs x i
+chosen_has false xs x i = has_take 1 xs x i
 
 pub left_has : {A : Type 0} (b : Bool) (xs : List A) (x : A) → Has x (left_of b xs) → Has x xs
 left_has true xs x i = absurd i
-left_has false xs x i = has_dropped 1 xs x i
+left_has false xs x i = has_drop 1 xs x i
 
 -- one less, at least
 pub left_fewer : {A : Type 0} (b : Bool) (n : ℕ) (xs : List A) → length xs ≤ suc n → length (left_of b xs) ≤ n

@@ -6,7 +6,7 @@ use Rattle.rsct_packet.specs.declared.ids.ViewId.{ViewId}
 use Rattle.rsct_packet.specs.declared.ids.ProviderId.{ProviderId}
 use Rattle.rsct_packet.specs.Providers.{among, differ}
 use Rattle.rsct_packet.specs.Search.{Has}
-use Rattle.rsct_packet.proofs.HasLaws.{has_append, append_has_left, has_map, has_filter, find_has}
+use Rattle.rsct_packet.proofs.HasLaws.{has_append, append_has_left, has_map, has_filter, find_has, has_drop}
 use Rattle.group_attr.specs.declared.attrs.Phases.{Phases}
 use Rattle.proposal_core.specs.declared.proposal.Proposal.{Proposal}
 use Rattle.proposal_core.specs.declared.entry.Entry.{Entry}
@@ -40,6 +40,7 @@ use Rattle.node_state.specs.Deciding.{keep_decision, lacks_source, source_len, i
 use Rattle.node_state.specs.Following.{vote_cast}
 use Rattle.node_state.proofs.NameOrder.{row_here}
 use Rattle.rsct_packet.specs.Ids.{same_view}
+use Rattle.rsct_packet.proofs.ProviderLaws.{filter_differs}
 use Rattle.view_state.specs.declared.install.Part.{Part}
 use Rattle.view_state.specs.declared.install.Source.{Source}
 use Rattle.view_state.specs.declared.install.Install.{Install}
@@ -64,7 +65,7 @@ use Rattle.node_state.specs.declared.packet.Packet.{Packet}
 use Rattle.node_state.specs.Step.{is_used}
 use Rattle.step_walk.proofs.Changes.{Any, Viewing, Asks, Prepares, Answers, Refuses, Installs, Takes, Gathers, Reminds, viewing, KeepsRing}
 use Rattle.step_walk.proofs.Kept.{KeptIs, OneMore, told_no_more}
-use Rattle.step_walk.proofs.Waiting.{filter_differs, chosen_differ, cast_apart}
+use Rattle.step_walk.proofs.Waiting.{chosen_differ, cast_apart}
 use Rattle.step_walk.proofs.Evidence.{IsLed, Saying, delivered, Plain, Turning, Arisen, KeepsBeside, KeepsLed, Keeping, KeepsPackets, KeepsEntering, KeepsCalling, KeepsDelivery}
 use Rattle.step_walk.proofs.Delivering.{at_delivered}
 use Rattle.step_walk.proofs.Parts.{IsEntering, on_enters}
@@ -72,7 +73,6 @@ use Rattle.row_laws.proofs.honest_votes.More.{entry_on, entries_on, install_on, 
 use Rattle.row_laws.proofs.honest_votes.At.{found, leads_row, leads_is, RowIs, At, at_fewer, at_sent_on, more_pushed, at_recorded, at_sessions, at_views, at_row_for, at_row}
 use Rattle.row_laws.proofs.honest_votes.Closes.{closing_cast, failed_cast, ticked_cast, voted_cast, opened_cast, runs_is}
 use Rattle.row_laws.proofs.honest_votes.Gathers.{WorkIs, begun_work, ask_work, prepare_work, answer_work, refuse_work, install_work, taken_work, ticks_work, install_again_work}
-use Rattle.step_walk.proofs.Asides.{has_dropped}
 use Rattle.node_state.specs.declared.happened.Happened.TheVariants as happened
 use Rattle.node_state.specs.declared.packet.Body.TheVariants as body
 use Rattle.view_state.specs.declared.packet.ViewPacket.TheVariants as packet
@@ -200,7 +200,7 @@ module _ (rs : List Happened) where
       by : (a b c : Bool) → IfEntries (elim a as (λ _. Option (List Entry)) [ true ↦ Some [] | false ↦ elim b as (λ _. Option (List Entry)) [ true ↦ None | false ↦ lacking_if c (drop (l.len - p.start) p.entries) ] ])
       by true b c = λ e i. absurd i
       by false true c = tt
-      by false false true = λ e i. all e (has_dropped (l.len - p.start) p.entries e i)
+      by false false true = λ e i. all e (has_drop (l.len - p.start) p.entries e i)
       by false false false = tt
 
   lacking_in_cast : (s : Core) (ps : List Part) → PartsCast rs ps → IfLacking (lacking_in s ps)

@@ -8,6 +8,7 @@ use Rattle.rsct_packet.specs.declared.ids.ViewId.{ViewId}
 use Rattle.rsct_packet.specs.declared.ids.ProviderId.{ProviderId}
 use Rattle.rsct_packet.specs.Ids.{same_view}
 use Rattle.rsct_packet.specs.Providers.{among}
+use Rattle.rsct_packet.proofs.SearchLaws.{place_nowhere}
 use Rattle.proposal_core.specs.declared.entry.Entry.{Entry}
 use Rattle.proposal_core.specs.Fold.{empty_state, present}
 use Rattle.node_state.specs.declared.happened.Happened.{Happened}
@@ -17,7 +18,7 @@ use Rattle.row_laws.specs.failed_rows.Failures.{state_of_stay}
 use Rattle.row_laws.proofs.failed_rows.Grows.{there_first}
 use Rattle.run_laws.specs.failed_causes.Passed.{puts_join}
 use Rattle.run_laws.specs.failed_causes.Entering.{just_entered, FollowsEntering}
-use Rattle.run_laws.proofs.failed_causes.Ended.{Out, Firsts, none_named, any_more, out_step}
+use Rattle.run_laws.proofs.failed_causes.Ended.{Out, Firsts, any_more, out_step}
 
 -- it does not pass into the latest stay, and no entry there names it
 abbrev pub Cut : ProviderId → List Stay → Type 0
@@ -60,7 +61,7 @@ cut_pushed p e (x ∷ older) other k = (k.0, any_more p x.entries e k.1 other)
 cut_over : (p : ProviderId) (v : ViewId) (xs : List Stay) → Cut p xs → Out false p (record { view = v; base = empty_state; entries = [] } ∷ xs)
 cut_over p v [] k = absurd k
 cut_over p v (x ∷ older) k =
-    inl (ap (λ (o : Option ℕ). is_some o && is_none (part p (x ∷ older)).last) (ap (first_in p x.entries) k.0 ∙ none_named p x.entries k.1), refl)
+    inl (ap (λ (o : Option ℕ). is_some o && is_none (part p (x ∷ older)).last) (ap (first_in p x.entries) k.0 ∙ place_nowhere (is_join_of p) x.entries k.1), refl)
 
 module _ (p : ProviderId) (g : List ℕ) where
   abbrev Next : List Happened → Type 0

@@ -9,6 +9,7 @@ use Rattle.rsct_packet.specs.declared.ids.ViewId.{ViewId}
 use Rattle.rsct_packet.specs.declared.ids.ProviderId.{ProviderId}
 use Rattle.rsct_packet.specs.Providers.{among}
 use Rattle.rsct_packet.specs.Search.{place_where}
+use Rattle.rsct_packet.proofs.SearchLaws.{place_nowhere}
 use Rattle.proposal_core.specs.declared.entry.Entry.{Entry}
 use Rattle.proposal_core.specs.declared.group_state.GroupState.{GroupState}
 use Rattle.proposal_core.specs.Fold.{empty_state, after, present}
@@ -34,14 +35,6 @@ not_passing p base x k = by (is_some x.first) (is_none x.last) k
     by true false q = refl
     by false b q = refl
 
-pub none_named : (p : ProviderId) (es : List Entry) → list_any (is_join_of p) es ≡ false → place_where (is_join_of p) es ≡ None
-none_named p [] k = refl
-none_named p (e ∷ es) k = by (is_join_of p e) k (none_named p es)
-  where
-    by : (b : Bool) → (b || list_any (is_join_of p) es) ≡ false → (list_any (is_join_of p) es ≡ false → place_where (is_join_of p) es ≡ None) → (if b then Some 0 else option_map suc (place_where (is_join_of p) es)) ≡ None
-    by true q rest = absurd (cc)
-    by false q rest = ap (option_map suc) (rest q)
-
 pub any_more : (p : ProviderId) (es : List Entry) (e : Entry) → list_any (is_join_of p) es ≡ false → is_join_of p e ≡ false → list_any (is_join_of p) (es ++ e ∷ []) ≡ false
 any_more p [] e a b = ap (λ z. z || false) b
 any_more p (x ∷ es) e a b = by (is_join_of p x) a (λ k. any_more p es e k b)
@@ -57,7 +50,7 @@ abbrev pub Later : ProviderId → Stay → List Stay → Type 0
 Later p x older = (goes_on (part p older) ≡ false) × (list_any (is_join_of p) x.entries ≡ false)
 
 later_first : (p : ProviderId) (x : Stay) (older : List Stay) → Later p x older → (part p (x ∷ older)).first ≡ None
-later_first p x older k = ap (first_in p x.entries) (not_passing p x.base (part p older) k.0) ∙ none_named p x.entries k.1
+later_first p x older k = ap (first_in p x.entries) (not_passing p x.base (part p older) k.0) ∙ place_nowhere (is_join_of p) x.entries k.1
 
 -- or it had its last place in this stay
 pub record Here (p : ProviderId) (x : Stay) (older : List Stay) : Type 0 where

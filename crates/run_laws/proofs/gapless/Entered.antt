@@ -11,7 +11,7 @@ use Rattle.rsct_packet.specs.declared.ids.Member.{Member}
 use Rattle.rsct_packet.specs.Ids.{same_view}
 use Rattle.rsct_packet.specs.Providers.{among}
 use Rattle.rsct_packet.specs.Search.{Has}
-use Rattle.rsct_packet.proofs.HasLaws.{has_append, append_has_left, has_map}
+use Rattle.rsct_packet.proofs.HasLaws.{has_append, append_has_left, has_map, has_reverse}
 use Rattle.proposal_core.specs.declared.group_state.GroupState.{GroupState}
 use Rattle.proposal_core.specs.Fold.{present}
 use Rattle.proposal_core.specs.Lists.{state_in}
@@ -44,7 +44,6 @@ use Rattle.step_refinement.proofs.Turns.{has_turned}
 use Rattle.row_laws.specs.hearing.Changes.{Inner, Does, entering}
 use Rattle.row_laws.proofs.hearing.Attending.{pushed_reverse}
 use Rattle.row_laws.proofs.hearing.Handing.{among_is}
-use Rattle.run_induction.proofs.Idle.{reverse_has}
 use Rattle.row_laws.proofs.hearing.Doing.{present_row, rows_stay}
 use Rattle.row_laws.proofs.failed_rows.Living.{IsLive}
 use Rattle.row_laws.proofs.hearing.Added.{Adds, sides_add, enters_add}
@@ -175,7 +174,7 @@ module _ (c : Config) (w : Scene) (n : ℕ) (f : Answering) (s : Core) (e : Node
   pub told_left : (p : ProviderId) (r : ℕ) → Has (happened.Told p r Dissolved) now → Leaves inside.sessions t.views.view bs p
   unfolding view_entered recorded_all base_record views_entered
   told_left p r h =
-      ⊎_elim (λ (a : Has it inside.records). absurd (inner (has_append it t.records (happened.In t.views.me i.view i.members ∷ map (base_record inside) bs) a))) (λ (a : Leaves inside.sessions t.views.view bs p). a) (told_leaves inside t.views.view bs (held_rows t) p r (⊎_elim (λ (a : Has it (entering t i).records). a) (λ (a : Has it rest.more). absurd (mild a)) (has_append it (entering t i).records rest.more (subst (Has it) rest.is (reverse_has it d.records h)))))
+      ⊎_elim (λ (a : Has it inside.records). absurd (inner (has_append it t.records (happened.In t.views.me i.view i.members ∷ map (base_record inside) bs) a))) (λ (a : Leaves inside.sessions t.views.view bs p). a) (told_leaves inside t.views.view bs (held_rows t) p r (⊎_elim (λ (a : Has it (entering t i).records). a) (λ (a : Has it rest.more). absurd (mild a)) (has_append it (entering t i).records rest.more (subst (Has it) rest.is (has_reverse it d.records h)))))
     where
       it : Happened
       it = happened.Told p r Dissolved
@@ -258,7 +257,7 @@ module _ (c : Config) (w : Scene) (n : ℕ) (f : Answering) (s : Core) (e : Node
           split (inr j) = absurd (rest.mild it j)
 
       by : (r : Happened) → Has r now → enters p.node r ≡ true → p.node ≡ n
-      by (happened.In m u ms) h q = sym (eqb-true m p.node q) ∙ at m u ms (reverse_has (happened.In m u ms) d.records h)
+      by (happened.In m u ms) h q = sym (eqb-true m p.node q) ∙ at m u ms (has_reverse (happened.In m u ms) d.records h)
       by (happened.Up m j) h q = absurd (cc)
       by (happened.Down m) h q = absurd (cc)
       by (happened.Ring m k i ms y) h q = absurd (cc)

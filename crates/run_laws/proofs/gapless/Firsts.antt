@@ -7,6 +7,7 @@ use Rattle.rsct_packet.specs.declared.ids.ViewId.{ViewId}
 use Rattle.rsct_packet.specs.declared.ids.ProviderId.{ProviderId}
 use Rattle.rsct_packet.specs.Providers.{among}
 use Rattle.rsct_packet.specs.Search.{place_where}
+use Rattle.rsct_packet.proofs.SearchLaws.{place_is_in}
 use Rattle.proposal_core.specs.declared.entry.Entry.{Entry}
 use Rattle.proposal_core.specs.declared.group_state.GroupState.{GroupState}
 use Rattle.proposal_core.specs.Fold.{after, present}
@@ -17,27 +18,15 @@ use Rattle.run_laws.specs.gapless.Takers.{Taker}
 
 -- ---- the first place
 
-place_below : (p : ProviderId) (es : List Entry) (f : ℕ) → place_where (is_join_of p) es ≡ Some f → f < length es
-place_below p [] f q = absurd (cc)
-place_below p (x ∷ xs) f q = by (is_join_of p x) (place_below p xs) q
-  where
-    deeper : (o : Option ℕ) → ((k : ℕ) → o ≡ Some k → k < length xs) → option_map suc o ≡ Some f → f < suc (length xs)
-    deeper None rest r = absurd (cc)
-    deeper (Some k) rest r = let a = rest k refl in let e : suc k ≡ f = cc in omega (arith, a, e)
-
-    by : (t : Bool) → ((k : ℕ) → place_where (is_join_of p) xs ≡ Some k → k < length xs) → (if t then Some 0 else option_map suc (place_where (is_join_of p) xs)) ≡ Some f → f < suc (length xs)
-    by true rest r = let e : 0 ≡ f = cc in omega (arith, e)
-    by false rest r = deeper (place_where (is_join_of p) xs) rest r
-
 -- a first place is that of an entry, or the provider passed
 first_below : (p : ProviderId) (es : List Entry) (b : Bool) (f : ℕ) → first_in p es b ≡ Some f → (f < length es) ⊎ ((es ≡ []) × (b ≡ true))
 first_below p [] true f q = inr (refl, refl)
 first_below p (x ∷ xs) true f q = let e : 0 ≡ f = cc in inl (omega (arith, e))
-first_below p es false f q = inl (place_below p es f q)
+first_below p es false f q = inl (place_is_in (is_join_of p) es f q)
 
 first_least : (p : ProviderId) (es : List Entry) (b : Bool) (f : ℕ) → first_in p es b ≡ Some f → f ≤ length es
 first_least p es true f q = let e : 0 ≡ f = cc in omega (arith, e)
-first_least p es false f q = let a = place_below p es f q in omega (arith, a)
+first_least p es false f q = let a = place_is_in (is_join_of p) es f q in omega (arith, a)
 
 -- ---- the last place
 

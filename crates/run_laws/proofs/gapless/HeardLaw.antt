@@ -3,7 +3,7 @@ use Rattle.std.proofs.Common.{◌≡◌, ◌⊎◌, ℕ, List, [], ◌∷◌, �
 use Rattle.std.specs.Prelude.{reverse, IsTrue}
 use Rattle.rsct_packet.specs.declared.ids.ProviderId.{ProviderId}
 use Rattle.rsct_packet.specs.Search.{Has}
-use Rattle.rsct_packet.proofs.HasLaws.{append_has_right}
+use Rattle.rsct_packet.proofs.HasLaws.{append_has_right, has_reverse, reverse_has}
 use Rattle.node_state.specs.declared.config.Config.{Config}
 use Rattle.node_state.specs.declared.happened.Happened.{Happened}
 use Rattle.node_state.specs.declared.happened.Happened.TheVariants as happened
@@ -17,7 +17,7 @@ use Rattle.run_safety.specs.Stays.{stays, part, takes_part, was_let_go}
 use Rattle.step_refinement.specs.Tied.{Scene}
 use Rattle.step_refinement.specs.Rules.{over, Arises}
 use Rattle.step_refinement.specs.Runs.{Reached}
-use Rattle.run_induction.proofs.Idle.{Idle, reverse_has, within_idle}
+use Rattle.run_induction.proofs.Idle.{Idle, within_idle}
 use Rattle.run_induction.proofs.Laws.{PastLaw, past_holds}
 use Rattle.row_laws.specs.failed_rows.Scenes.{Names}
 use Rattle.row_laws.proofs.failed_rows.Origin.{root_of}
@@ -52,7 +52,7 @@ module _ (c : Config) (w : Scene) (n : ℕ) (f : Answering) (s : Core) (e : Node
   Laws now = (p : ProviderId) (node : p.node ≡ n) → was_let_go p w.before ≡ false → Stays p → Within (Law n w.before p node t.records) now w.before
 
   one_heard : (xs : List Happened) (r : Happened) (now : List Happened) → reverse t.records ≡ xs ++ r ∷ now → Laws (r ∷ now) → AllHearUnlessLeaving (over v t) now w.before r
-  one_heard xs (happened.Put m u g i x) now q laws = λ p own takes was lets. heard p own takes was lets (by ((stepping.added c w n f s e v reached up arises says is clean k).all r (reverse_has r t.records (subst (Has r) (sym q) (append_has_right r xs (r ∷ now) (inl refl))))))
+  one_heard xs (happened.Put m u g i x) now q laws = λ p own takes was lets. heard p own takes was lets (by ((stepping.added c w n f s e v reached up arises says is clean k).all r (has_reverse r t.records (subst (Has r) (sym q) (append_has_right r xs (r ∷ now) (inl refl))))))
     where
       r : Happened
       r = happened.Put m u g i x
@@ -66,7 +66,7 @@ module _ (c : Config) (w : Scene) (n : ℕ) (f : Answering) (s : Core) (e : Node
         where
           said : Dissolving p (earlier now w.before) ⊎ Heard_at n w.before p (own ∙ at) t.records u g i x → (ms : List ProviderId) × (value : List ℕ) × Has (happened.Heard p u g i x ms value) (reverse t.records)
           said (inl d) = absurd (never c w n f s e v reached up arises says is clean k p (own ∙ at) was lets xs u g i x now (subst (λ z. reverse t.records ≡ xs ++ happened.Put z u g i x ∷ now) at q) (subst (λ z. IsTrue (takes_part i (part p (stays z g (happened.Put z u g i x ∷ earlier now w.before))))) at takes) d)
-          said (inr h) = (h.0, h.1, stepping.has_back (happened.Heard p u g i x h.0 h.1) t.records h.2)
+          said (inr h) = (h.0, h.1, reverse_has (happened.Heard p u g i x h.0 h.1) t.records h.2)
   one_heard xs (happened.Up m j) now q laws = tt
   one_heard xs (happened.Down m) now q laws = tt
   one_heard xs (happened.Ring m z i ms o) now q laws = tt

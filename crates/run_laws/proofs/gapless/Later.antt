@@ -93,15 +93,3 @@ grown n g (r ∷ rs) base x older all q = by r (all r (inl refl)) (grown n g rs 
     by (happened.Refused m c fault) a k = grown_same n g (happened.Refused m c fault) rs (stays n g (rs ++ base)) _ x older refl k
     by (happened.Shown m line) a k = grown_same n g (happened.Shown m line) rs (stays n g (rs ++ base)) _ x older refl k
 
--- who is named first is named by an entry
-pub place_named : (p : ProviderId) (es : List Entry) (f : ℕ) → place_where (is_join_of p) es ≡ Some f → (e : Entry) × Has e es × (is_join_of p e ≡ true)
-place_named p [] f q = absurd (cc)
-place_named p (x ∷ xs) f q = by (is_join_of p x) refl q (place_named p xs)
-  where
-    deeper : (o : Option ℕ) → ((k : ℕ) → o ≡ Some k → (e : Entry) × Has e xs × (is_join_of p e ≡ true)) → option_map suc o ≡ Some f → (e : Entry) × Has e (x ∷ xs) × (is_join_of p e ≡ true)
-    deeper None rest r = absurd (cc)
-    deeper (Some k) rest r = let z = rest k refl in (z.0, inr z.1, z.2)
-
-    by : (t : Bool) → is_join_of p x ≡ t → (if t then Some 0 else option_map suc (place_where (is_join_of p) xs)) ≡ Some f → ((k : ℕ) → place_where (is_join_of p) xs ≡ Some k → (e : Entry) × Has e xs × (is_join_of p e ≡ true)) → (e : Entry) × Has e (x ∷ xs) × (is_join_of p e ≡ true)
-    by true k r rest = (x, inl refl, k)
-    by false k r rest = deeper (place_where (is_join_of p) xs) rest r

@@ -4,6 +4,7 @@ use Rattle.std.specs.Prelude.{IsTrue, reverse}
 use Rattle.std.specs.List.{list_any}
 use Rattle.rsct_packet.specs.declared.ids.ProviderId.{ProviderId}
 use Rattle.rsct_packet.specs.Search.{Has}
+use Rattle.rsct_packet.proofs.HasLaws.{has_reverse}
 use Rattle.client_callbacks.specs.declared.told.Why.TheVariants.{Dissolved}
 use Rattle.session_state.specs.declared.state.Request.{Request}
 use Rattle.node_state.specs.declared.config.Config.{Config}
@@ -20,7 +21,7 @@ use Rattle.run_safety.specs.Stays.{stays, was_let_go}
 use Rattle.step_refinement.specs.Tied.{Scene, NodeIsIf, Rests}
 use Rattle.step_refinement.specs.Rules.{over, Arises}
 use Rattle.step_refinement.proofs.RunLaw.{reached_rests}
-use Rattle.run_induction.proofs.Idle.{Idle, reverse_has}
+use Rattle.run_induction.proofs.Idle.{Idle}
 use Rattle.run_induction.proofs.Ran.{Ran}
 use Rattle.run_induction.proofs.Laws.{PastLaw, past_holds}
 use Rattle.row_laws.proofs.failed_rows.Living.{IsLive}
@@ -94,14 +95,14 @@ step_told c w n f s e v k up arises p r h =
     it = happened.Told p r Dissolved
 
     by : Moves Nought (NotCall e) (at_work s) d → LeftBehind p (over v d) w.before
-    by (Remains fair) = absurd (let z : true ≡ false = fair.mild it (subst (Has it) fair.is (reverse_has it d.records h)) in cc)
+    by (Remains fair) = absurd (let z : true ≡ false = fair.mild it (subst (Has it) fair.is (has_reverse it d.records h)) in cc)
     by (Enters calm t i does fair q same lt rest) =
         let l : WasLeft n (earlier (reverse d.records) w.before) p = was_left c w n f s e v (reached c w k) up arises t i does fair same lt rest p r h in
         record {
           entered = subst (λ m. IsTrue (list_any (enters m) (reverse d.records))) (sym l.node) (entered c w n f s e v (reached c w k) up arises t i does fair same lt rest);
           group = l.group;
           left = subst (λ m. IsTrue (is_left_behind p (stays m l.group (earlier (reverse d.records) w.before)))) (sym l.node) l.left;
-          lives = told_lives c w k n f s e up calm p r (reverse_has it d.records h);
+          lives = told_lives c w k n f s e up calm p r (has_reverse it d.records h);
         }
 
 -- ---- every scene

@@ -3,7 +3,7 @@ use Rattle.std.proofs.Common.{◌≡◌, ◌⊎◌, ℕ, List, ◌++◌, Some, t
 use Rattle.std.specs.Prelude.{reverse}
 use Rattle.rsct_packet.specs.declared.ids.ProviderId.{ProviderId}
 use Rattle.rsct_packet.specs.Search.{Has}
-use Rattle.rsct_packet.proofs.HasLaws.{has_append}
+use Rattle.rsct_packet.proofs.HasLaws.{has_append, has_reverse}
 use Rattle.session_state.specs.declared.state.Provider.{Provider}
 use Rattle.session_state.specs.State.{provider_of}
 use Rattle.node_state.specs.declared.config.Config.{Config}
@@ -18,7 +18,6 @@ use Rattle.step_refinement.specs.Tied.{Scene}
 use Rattle.step_refinement.specs.Rules.{ended, Arises}
 use Rattle.step_refinement.specs.Runs.{Reached, Steps}
 use Rattle.node_state.specs.State.{InNameOrder}
-use Rattle.run_induction.proofs.Idle.{reverse_has}
 use Rattle.provider_laws.proofs.leaving.Events.{same_dissolved}
 use Rattle.run_laws.specs.seen_runs.Seen.{Seen}
 use Rattle.run_laws.proofs.seen_runs.Law.{traces_seen}
@@ -63,7 +62,7 @@ module _ (c : Config) (w : Scene) (n : ℕ) (f : Answering) (s : Core) (e : Node
           it = happened.Told p z.number z.why
 
           at : Has it (reverse t.records) ⊎ Has it (records_of w.before) → ⊥
-          at (inl i) = let x = fair.mild it (subst (Has it) fair.is (reverse_has it t.records i)) in let y : true ≡ false = sym (same_dissolved z.why z.is) ∙ x in cc
+          at (inl i) = let x = fair.mild it (subst (Has it) fair.is (has_reverse it t.records i)) in let y : true ≡ false = sym (same_dissolved z.why z.is) ∙ x in cc
           at (inr i) = dissolving_gone p w.before (record { number = z.number; why = z.why; told = i; is = z.is }) lives
 
       by : Stood t.sessions p g true ⊎ Dissolving p (earlier (reverse t.records) w.before) → (x : Provider) × (provider_of t.sessions p ≡ Some x) × (x.takes_part ≡ true) × (x.group ≡ g)

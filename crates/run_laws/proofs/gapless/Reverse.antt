@@ -4,6 +4,7 @@ use Rattle.std.specs.Prelude.{reverse}
 use Rattle.std.specs.List.{list_any}
 use Rattle.rsct_packet.specs.declared.ids.ProviderId.{ProviderId}
 use Rattle.rsct_packet.specs.Search.{Has}
+use Rattle.rsct_packet.proofs.HasLaws.{has_reverse}
 use Rattle.client_callbacks.specs.declared.told.Why.TheVariants.{Dissolved}
 use Rattle.node_state.specs.declared.config.Config.{Config}
 use Rattle.node_state.specs.declared.happened.Happened.{Happened}
@@ -16,7 +17,6 @@ use Rattle.run_safety.specs.SafeHeard.{LeftBehind, enters}
 use Rattle.step_refinement.specs.Tied.{Scene}
 use Rattle.step_refinement.specs.Rules.{over, Arises}
 use Rattle.step_refinement.specs.Runs.{Reached}
-use Rattle.run_induction.proofs.Idle.{reverse_has}
 use Rattle.row_laws.proofs.hearing.Added.{enters_add}
 use Rattle.run_laws.proofs.gapless.Fair.{Fair}
 use Rattle.run_laws.proofs.gapless.Moving.{Carries, Moves, Remains, Enters, NotCall}
@@ -30,7 +30,7 @@ module _ (c : Config) (w : Scene) (n : ℕ) (f : Answering) (s : Core) (e : Node
 
   -- where no view is entered
   remained : Fair (at_work s) d → list_any (enters p.node) (reverse d.records) ≡ true → ⊥
-  remained fair k = none_entered p.node (reverse d.records) (λ r h. fair.mild r (subst (Has r) fair.is (reverse_has r d.records h))) k
+  remained fair k = none_entered p.node (reverse d.records) (λ r h. fair.mild r (subst (Has r) fair.is (has_reverse r d.records h))) k
 
   -- who is left behind in a step is of its node
   pub left_own : LeftBehind p (over v d) w.before → p.node ≡ n

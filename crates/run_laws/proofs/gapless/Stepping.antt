@@ -6,7 +6,7 @@ use Rattle.std.proofs.lemmas.Bool.{eq-eqb}
 use Rattle.rsct_packet.specs.declared.ids.ProviderId.{ProviderId}
 use Rattle.rsct_packet.specs.declared.ids.ViewId.{ViewId}
 use Rattle.rsct_packet.specs.Search.{Has}
-use Rattle.rsct_packet.proofs.HasLaws.{has_append, append_has_right, find_has}
+use Rattle.rsct_packet.proofs.HasLaws.{has_append, append_has_right, find_has, has_reverse, reverse_has}
 use Rattle.proposal_core.specs.declared.proposal.Proposal.{Proposal}
 use Rattle.proposal_core.specs.declared.group_state.GroupState.{GroupState}
 use Rattle.session_state.specs.declared.state.Provider.{Provider}
@@ -38,7 +38,6 @@ use Rattle.step_refinement.proofs.Changed.{each_set}
 use Rattle.step_refinement.proofs.RunLaw.{reached_rests}
 use Rattle.step_refinement.proofs.SessionLaws.{provider_same}
 use Rattle.step_refinement.proofs.Turns.{has_turned}
-use Rattle.run_induction.proofs.Idle.{reverse_has}
 use Rattle.row_laws.proofs.hearing.Listening.{steps_change}
 use Rattle.provider_laws.proofs.attending.Law.{begin_strict, step_fine}
 use Rattle.row_laws.proofs.hearing.Incarnations.{incs_of}
@@ -64,9 +63,6 @@ use Rattle.run_laws.proofs.gapless.TakerWalk.{on_stepped}
 use Rattle.run_laws.proofs.gapless.Calls.{CallRecord, Leaves, Made, call_made}
 use Rattle.run_laws.proofs.gapless.Adding.{Walked, Added, added_keeps}
 use Rattle.run_laws.proofs.gapless.Resting.{Known, KnownIf, WaitsIf, Rested, or_false, spared_before, dissolving_gone, over_all, known_on}
-
-pub has_back : (r : Happened) (xs : List Happened) → Has r xs → Has r (reverse xs)
-has_back r xs i = subst (Has r) (append-nil (reverse xs)) (has_turned r xs [] (subst (Has r) (sym (append-nil xs)) i))
 
 walked_taken : (n : ℕ) (r : Happened) → Walked n r → is_refused r ≡ false
 walked_taken n (happened.Up m j) a = absurd a
@@ -238,7 +234,7 @@ module _ (c : Config) (w : Scene) (n : ℕ) (f : Answering) (s : Core) (e : Node
         let event_is : v ≡ event.Call n (call.Goodbye l.0) = says d q ∙ ap (λ z. event.Call n z) l.1 in
         let bye : goodbye_of p.node (client_of p w.before) (Some v) ≡ true = ap (λ z. goodbye_of p.node (client_of p w.before) (Some z)) event_is ∙ (λ i. eq-eqb n p.node (sym node) i && of_p i) in
         let none : root.records ≡ [] = ap (λ z. (root_of (at_work s) z).records) q ∙ l.3 in
-        let taken : list_any is_refused (reverse t.records) ≡ false = any_none is_refused (reverse t.records) (λ r i. not_refused none r (added.all r (reverse_has r t.records i))) in
+        let taken : list_any is_refused (reverse t.records) ≡ false = any_none is_refused (reverse t.records) (λ r i. not_refused none r (added.all r (has_reverse r t.records i))) in
         let y : (goodbye_of p.node (client_of p w.before) (Some v) && not (list_any is_refused (reverse t.records))) ≡ true = (λ i. bye i && not (taken i)) in
         let u : true ≡ false = sym y ∙ stays_on in cc
       where
@@ -280,7 +276,7 @@ module _ (c : Config) (w : Scene) (n : ℕ) (f : Answering) (s : Core) (e : Node
         m = made d
 
         said : (r : Happened) → Has r (reverse x.records) → CallRecord x.sessions r
-        said r i = m.records r (reverse_has r x.records i)
+        said r i = m.records r (has_reverse r x.records i)
 
         same : (g : List ℕ) → stays n g (earlier (reverse x.records) w.before) ≡ stays n g (records_of w.before)
         same g = call_stays x.sessions n g (reverse x.records) (records_of w.before) said
@@ -305,7 +301,7 @@ module _ (c : Config) (w : Scene) (n : ℕ) (f : Answering) (s : Core) (e : Node
             later (inr o) = inr (over_all n g p (reverse x.records) (records_of w.before) o)
 
             by : AskedJoin g p (reverse x.records) ⊎ AskedJoin g p (records_of w.before) → Stood x.sessions p g false ⊎ Over n g p (earlier (reverse x.records) w.before)
-            by (inl b) = inl (m.asks g p (record { proposal = b.proposal; there = reverse_has _ x.records b.there; joins = b.joins }))
+            by (inl b) = inl (m.asks g p (record { proposal = b.proposal; there = has_reverse _ x.records b.there; joins = b.joins }))
             by (inr b) = later (waits_was g b)
 
         takes : (g : List ℕ) → Taker p (stays n g (earlier (reverse x.records) w.before)) → Stood x.sessions p g true ⊎ Dissolving p (earlier (reverse x.records) w.before)
@@ -353,7 +349,7 @@ module _ (c : Config) (w : Scene) (n : ℕ) (f : Answering) (s : Core) (e : Node
       known_on p w.before after (reverse t.records) (w.cores p.node) refl (λ g. ordered.others p.node g ne) (λ g a. back g (asked_split g p (reverse t.records) (records_of w.before) a)) (k.known p (spared_before p (over v t) w.before spared).1)
     where
       back : (g : List ℕ) → AskedJoin g p (reverse t.records) ⊎ AskedJoin g p (records_of w.before) → AskedJoin g p (records_of w.before)
-      back g (inl a) = absurd (ne (asks_here p p.join g a.proposal (reverse_has _ t.records a.there)))
+      back g (inl a) = absurd (ne (asks_here p p.join g a.proposal (has_reverse _ t.records a.there)))
       back g (inr a) = a
 
   -- ---- who hears
@@ -366,7 +362,7 @@ module _ (c : Config) (w : Scene) (n : ℕ) (f : Answering) (s : Core) (e : Node
   Laws now = (p : ProviderId) (node : p.node ≡ n) → was_let_go p after ≡ false → Within (Law n w.before p node t.records) now w.before
 
   one_hears : (xs : List Happened) (r : Happened) (now : List Happened) → reverse t.records ≡ xs ++ r ∷ now → Laws (r ∷ now) → AllHearUnlessLetGo (over v t) now w.before r
-  one_hears xs (happened.Put m u g i x) now q laws = λ p own takes was lets. hears p own takes was lets (by (added.all r (reverse_has r t.records (subst (Has r) (sym q) (append_has_right r xs (r ∷ now) (inl refl))))))
+  one_hears xs (happened.Put m u g i x) now q laws = λ p own takes was lets. hears p own takes was lets (by (added.all r (has_reverse r t.records (subst (Has r) (sym q) (append_has_right r xs (r ∷ now) (inl refl))))))
     where
       r : Happened
       r = happened.Put m u g i x
@@ -383,7 +379,7 @@ module _ (c : Config) (w : Scene) (n : ℕ) (f : Answering) (s : Core) (e : Node
 
           said : Dissolving p (earlier now w.before) ⊎ Heard_at n w.before p (own ∙ at) t.records u g i x → (ms : List ProviderId) × (value : List ℕ) × Has (happened.Heard p u g i x ms value) (reverse t.records)
           said (inl d) = absurd (dissolving_gone p after (suffix p (xs ++ r ∷ []) now (q ∙ sym (append_assoc xs (r ∷ []) now)) d) spared)
-          said (inr h) = (h.0, h.1, has_back _ t.records h.2)
+          said (inr h) = (h.0, h.1, reverse_has _ t.records h.2)
   one_hears xs (happened.Up m j) now q laws = tt
   one_hears xs (happened.Down m) now q laws = tt
   one_hears xs (happened.Ring m z i ms o) now q laws = tt

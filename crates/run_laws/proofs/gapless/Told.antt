@@ -8,7 +8,8 @@ use Rattle.rsct_packet.specs.declared.ids.ProviderId.{ProviderId}
 use Rattle.rsct_packet.specs.declared.ids.ViewId.{ViewId}
 use Rattle.rsct_packet.specs.Providers.{among}
 use Rattle.rsct_packet.specs.Search.{Has}
-use Rattle.rsct_packet.proofs.HasLaws.{has_append, append_has_right}
+use Rattle.rsct_packet.proofs.HasLaws.{has_append, append_has_right, has_reverse}
+use Rattle.rsct_packet.proofs.SearchLaws.{place_has}
 use Rattle.proposal_core.specs.declared.entry.Entry.{Entry}
 use Rattle.proposal_core.specs.declared.proposal.Proposal.{Proposal}
 use Rattle.proposal_core.specs.declared.group_state.GroupState.{GroupState}
@@ -37,7 +38,6 @@ use Rattle.step_refinement.specs.Rules.{Arises}
 use Rattle.step_refinement.specs.Runs.{Reached}
 use Rattle.row_laws.specs.hearing.Changes.{Aside, entering, Does}
 use Rattle.row_laws.proofs.hearing.Added.{Adds, enters_add}
-use Rattle.run_induction.proofs.Idle.{reverse_has}
 use Rattle.provider_laws.proofs.attending.Entering.{base_is, new_stay, entered_stays}
 use Rattle.provider_laws.proofs.attending.Fresh.{join_carried}
 use Rattle.run_laws.specs.seen_runs.Seen.{Seen, BeginsOnce, WasTold}
@@ -60,7 +60,7 @@ use Rattle.run_laws.proofs.gapless.Spoken.{spoken_moves, reached_spoken}
 use Rattle.run_laws.proofs.gapless.Tellings.{Leaves}
 use Rattle.run_laws.proofs.gapless.Entered.{o, untold, told_left, not_passing}
 use Rattle.run_laws.proofs.gapless.LeftTakers.{Stands, carries}
-use Rattle.run_laws.proofs.gapless.Later.{Cut, cut_at, Later, Grown, grown, place_named}
+use Rattle.run_laws.proofs.gapless.Later.{Cut, cut_at, Later, Grown, grown}
 
 dissolved_is : (y : Why) → is_dissolved y ≡ true → y ≡ why.Dissolved
 dissolved_is (why.Collide a) e = absurd (cc)
@@ -128,7 +128,7 @@ module _ (c : Config) (w : Scene) (n : ℕ) (f : Answering) (s : Core) (e : Node
 
   -- where no view is entered
   remained : Fair (at_work s) d → (r : ℕ) → Has (happened.Told p r why.Dissolved) (reverse d.records) → ⊥
-  remained fair r h = let z : true ≡ false = fair.mild (happened.Told p r why.Dissolved) (subst (Has (happened.Told p r why.Dissolved)) fair.is (reverse_has (happened.Told p r why.Dissolved) d.records h)) in cc
+  remained fair r h = let z : true ≡ false = fair.mild (happened.Told p r why.Dissolved) (subst (Has (happened.Told p r why.Dissolved)) fair.is (has_reverse (happened.Told p r why.Dissolved) d.records h)) in cc
 
   module _ (calm : NotCall e) (t : Core) (i : Install) (does : Does (at_work s) t) (fair : Fair (at_work s) t) (q : Q t) (same : t.views.view ≡ s.views.view) (lt : Lt t.views.view i.view) (rest : Fair (entering t i) d) where
     ended : List Happened
@@ -153,7 +153,7 @@ module _ (c : Config) (w : Scene) (n : ℕ) (f : Answering) (s : Core) (e : Node
     not_yet r h = untold c w n f s e v reached up arises t i does fair same lt rest p r h
 
     no_dis : Dis (reverse t.records) → ⊥
-    no_dis z = let a = told_now (reverse t.records) z in not_yet a.0 (reverse_has (happened.Told p a.0 why.Dissolved) t.records a.1)
+    no_dis z = let a = told_now (reverse t.records) z in not_yet a.0 (has_reverse (happened.Told p a.0 why.Dissolved) t.records a.1)
 
     -- a provider that was told took part, and does not live in its base
     module _ (r : ℕ) (told : Has (happened.Told p r why.Dissolved) (reverse d.records)) where
@@ -189,7 +189,7 @@ module _ (c : Config) (w : Scene) (n : ℕ) (f : Answering) (s : Core) (e : Node
         base = base_is (base_named (bases_of i) g)
 
         mild : (z : Happened) → Has z M → Mild z
-        mild z h = rest.mild z (reverse_has z rest.more (subst (Has z) (sym cut) (append_has_right z xs M h)))
+        mild z h = rest.mild z (has_reverse z rest.more (subst (Has z) (sym cut) (append_has_right z xs M h)))
 
         at_entering : stays n g Y ≡ new_stay i.view base ∷ stays n g then
         at_entering = subst (λ m. stays m g Y ≡ new_stay i.view base ∷ stays m g then) q.me (entered_stays w.before t i g)
@@ -239,7 +239,7 @@ module _ (c : Config) (w : Scene) (n : ℕ) (f : Answering) (s : Core) (e : Node
                     walked (inr a) = absurd a
 
                     old : Has it (reverse d.records) ⊎ Has it (records_of w.before) → Has it (records_of w.before)
-                    old (inl a) = walked ((stepping.added c w n f s e v reached up arises says is clean k).all it (reverse_has it d.records a))
+                    old (inl a) = walked ((stepping.added c w n f s e v reached up arises says is clean k).all it (has_reverse it d.records a))
                     old (inr a) = a
 
                 asks : AskedJoin g p then
@@ -265,7 +265,7 @@ module _ (c : Config) (w : Scene) (n : ℕ) (f : Answering) (s : Core) (e : Node
             by b y None z r = cc
             by true y (Some h) z r = no_pass y
             by false y (Some h) z r =
-                let named = place_named p grows.now.entries h (ap (first_in p grows.now.entries) (sym y) ∙ z) in no_join named.0 named.1 named.2
+                let named = place_has (is_join_of p) grows.now.entries h (ap (first_in p grows.now.entries) (sym y) ∙ z) in no_join named.0 named.1 named.2
 
     -- no put of the event comes after it was told at which it takes part
     told_after : (xs : List Happened) (u : ViewId) (g : List ℕ) (j : ℕ) (x : Entry) (now : List Happened) → Place xs u g j x now → IsTrue (takes_part j (part p (stays n g (happened.Put n u g j x ∷ earlier now w.before)))) → (r : ℕ) → Has (happened.Told p r why.Dissolved) now → ⊥
@@ -275,8 +275,8 @@ module _ (c : Config) (w : Scene) (n : ℕ) (f : Answering) (s : Core) (e : Node
         put = happened.Put n u g j x
 
         second : (ys : List Happened) → Cut (reverse adds.more) (reverse t.records) ys put now → ⊥
-        second ys (inl a) = adds.all put (reverse_has put adds.more (subst (Has put) (sym a.1) (append_has_right put ys (put ∷ a.0) (inl refl))))
-        second ys (inr a) = not_yet r (reverse_has (happened.Told p r why.Dissolved) t.records (subst (Has (happened.Told p r why.Dissolved)) (sym a.1) (append_has_right (happened.Told p r why.Dissolved) a.0 (put ∷ now) (inr told))))
+        second ys (inl a) = adds.all put (has_reverse put adds.more (subst (Has put) (sym a.1) (append_has_right put ys (put ∷ a.0) (inl refl))))
+        second ys (inr a) = not_yet r (has_reverse (happened.Told p r why.Dissolved) t.records (subst (Has (happened.Told p r why.Dissolved)) (sym a.1) (append_has_right (happened.Told p r why.Dissolved) a.0 (put ∷ now) (inr told))))
 
         first : Cut (reverse rest.more) (reverse (entering t i).records) xs put now → ⊥
         first (inl a) =

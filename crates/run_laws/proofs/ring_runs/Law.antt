@@ -4,7 +4,7 @@ use Rattle.std.specs.Prelude.{◌==◌, reverse, if◌then◌else◌}
 use Rattle.std.proofs.lemmas.Bool.{eqb-true}
 use Rattle.rsct_packet.specs.Mask.{nodes_of}
 use Rattle.rsct_packet.specs.Search.{Has}
-use Rattle.rsct_packet.proofs.HasLaws.{has_append, append_has_left, append_has_right}
+use Rattle.rsct_packet.proofs.HasLaws.{has_append, append_has_left, append_has_right, has_reverse}
 use Rattle.adapter_ring.specs.declared.ring.RingSettings.{RingSettings}
 use Rattle.adapter_ring.specs.Network.{Told, Started, Network, quiet, ring_at, happens}
 use Rattle.adapter_ring.specs.Network as network
@@ -26,7 +26,6 @@ use Rattle.step_refinement.specs.Tied.{Scene}
 use Rattle.step_refinement.specs.Rules.{at_node, ended, stopped, all_started, with_records, starts_too, Arises}
 use Rattle.step_refinement.specs.Runs.{IsNote, Reached, Nothing, AllStart, Starts, Stops, Steps, Notes}
 use Rattle.step_refinement.proofs.Changed.{each_set}
-use Rattle.run_induction.proofs.Idle.{reverse_has}
 use Rattle.run_induction.proofs.Ran.{anyhow, reached_ran, config_of, Opened, all_start_holds}
 use Rattle.run_laws.specs.ring_runs.Rings.{ring_settings, told_on, rings_told, RingsAgreeInRuns}
 use Rattle.run_laws.proofs.ring_runs.Finding.{gone_here, gone_there}
@@ -67,9 +66,9 @@ module _ (net : ℕ) where
   )
 
   too_has : (before : History) (rs : List Happened) (r : Happened) → Has r (records_of (with_records before rs)) → Has r rs ⊎ Has r (records_of before)
-  too_has [] rs r h = ⊎_elim (λ (a : Has r (reverse rs)). inl (reverse_has r rs a)) (λ (z : ⊥). absurd z) (has_append r (reverse rs) [] h)
+  too_has [] rs r h = ⊎_elim (λ (a : Has r (reverse rs)). inl (has_reverse r rs a)) (λ (z : ⊥). absurd z) (has_append r (reverse rs) [] h)
   too_has (e ∷ before) rs r h =
-      ⊎_elim (λ (a : Has r (reverse rs ++ e.records)). ⊎_elim (λ (b : Has r (reverse rs)). inl (reverse_has r rs b)) (λ (b : Has r e.records). inr (append_has_left r e.records (records_of before) b)) (has_append r (reverse rs) e.records a)) (λ (a : Has r (records_of before)). inr (append_has_right r e.records (records_of before) a)) (has_append r (reverse rs ++ e.records) (records_of before) h)
+      ⊎_elim (λ (a : Has r (reverse rs ++ e.records)). ⊎_elim (λ (b : Has r (reverse rs)). inl (has_reverse r rs b)) (λ (b : Has r e.records). inr (append_has_left r e.records (records_of before) b)) (has_append r (reverse rs) e.records a)) (λ (a : Has r (records_of before)). inr (append_has_right r e.records (records_of before) a)) (has_append r (reverse rs ++ e.records) (records_of before) h)
 
   all_start : (c : Config) → length (addresses_on c net) ≤ 32 → is_fixed c.mode ≡ true → PlaysIn net (all_started c)
   all_start c few fixed = (all_start_holds c (PlaysIn net) one (nothing_stands c [] (λ r h. h))).1
@@ -131,7 +130,7 @@ module _ (net : ℕ) where
         own = each_set (λ m o. (d : Core) → o ≡ Some d → Own m (w.incs m) d) w.cores n (Some s) (λ d q. (let z : s ≡ d = cc in subst (Own n (w.incs n)) z a.own)) (λ m ne d q. old m d q);
         rings = each_set (λ m o. ring_on net o ≡ ring_at v m) w.cores n (Some s) a.ring a.others;
         sends = a.sends;
-        records = λ r h. ⊎_elim (λ (i : Has r (reverse s.records)). a.records r (append_has_left r s.records (records_of w.before) (reverse_has r s.records i))) (λ (i : Has r (records_of w.before)). a.records r (append_has_right r s.records (records_of w.before) i)) (has_append r (reverse s.records) (records_of w.before) h);
+        records = λ r h. ⊎_elim (λ (i : Has r (reverse s.records)). a.records r (append_has_left r s.records (records_of w.before) (has_reverse r s.records i))) (λ (i : Has r (records_of w.before)). a.records r (append_has_right r s.records (records_of w.before) i)) (has_append r (reverse s.records) (records_of w.before) h);
         starts = a.starts;
       }
 
@@ -170,7 +169,7 @@ module _ (net : ℕ) where
           own = k.own;
           rings = k.rings;
           sends = k.sends;
-          records = λ r h. ⊎_elim (λ (i : Has r (reverse rs)). note_tells p.0 r (notes r (reverse_has r rs i))) (λ (i : Has r (records_of w.before)). k.records r i) (has_append r (reverse rs) (records_of w.before) h);
+          records = λ r h. ⊎_elim (λ (i : Has r (reverse rs)). note_tells p.0 r (notes r (has_reverse r rs i))) (λ (i : Has r (records_of w.before)). k.records r i) (has_append r (reverse rs) (records_of w.before) h);
           starts = k.starts;
         },
       )
@@ -183,7 +182,7 @@ module _ (net : ℕ) where
   reached_plays c _ few (Starts w n e k free real down) =
       let rs : List Happened = (started w.config n (w.incs n + 1)).records in
       let more : List Happened = reverse rs ++ records_of w.before in
-      let plays = start_plays net w.config w.cores w.incs w.sent (records_of w.before) more n (subst (λ z. length (addresses_on z net) ≤ 32) (sym (config_is c w k)) few) (λ z. real) down (λ r h. ⊎_elim (λ (i : Has r (reverse rs)). inl (reverse_has r rs i)) (λ (i : Has r (records_of w.before)). inr i) (has_append r (reverse rs) (records_of w.before) h)) (reached_plays c w few k) in
+      let plays = start_plays net w.config w.cores w.incs w.sent (records_of w.before) more n (subst (λ z. length (addresses_on z net) ≤ 32) (sym (config_is c w k)) few) (λ z. real) down (λ r h. ⊎_elim (λ (i : Has r (reverse rs)). inl (has_reverse r rs i)) (λ (i : Has r (records_of w.before)). inr i) (has_append r (reverse rs) (records_of w.before) h)) (reached_plays c w few k) in
       subst (λ z. Plays net w.config (at_node w.cores n (Some (started w.config n (w.incs n + 1)))) (at_node w.incs n (w.incs n + 1)) (z ++ w.sent) more) (sym (no_sends w.config n (w.incs n + 1))) plays
   reached_plays c _ few (Stops w n e s k up) = stop_stands w n e (reached_plays c w few k)
   reached_plays c _ few (Steps w n f s e v k up arises) = step_stands w n f s e v up arises (reached_plays c w few k)

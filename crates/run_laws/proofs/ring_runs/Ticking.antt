@@ -5,7 +5,7 @@ use Rattle.std.proofs.lemmas.Bool.{cases_eq, eqb-true}
 use Rattle.rsct_packet.specs.declared.mask.Mask.{Mask}
 use Rattle.rsct_packet.specs.Mask.{nodes_of}
 use Rattle.rsct_packet.specs.Search.{Has}
-use Rattle.rsct_packet.proofs.HasLaws.{append_has_right, find_has}
+use Rattle.rsct_packet.proofs.HasLaws.{append_has_right, find_has, has_get}
 use Rattle.adapter_ring.specs.declared.packet.RingPacket.{RingPacket}
 use Rattle.adapter_ring.specs.declared.packet.RingSend.{RingSend}
 use Rattle.adapter_ring.specs.declared.packet.RingEvent.TheVariants as ring_event
@@ -28,12 +28,6 @@ use Rattle.step_walk.proofs.Changes.{Any, KeepsRings}
 use Rattle.step_walk.proofs.Leading.{on_sent_all}
 use Rattle.run_laws.proofs.ring_runs.Finding.{is_on, nets_of, Differ, has_net, found_own, put_there}
 use Rattle.run_laws.proofs.ring_runs.Playing.{Carried, Comes, comes_on, Played, played_rules, other_taken, this_taken}
-
--- what is in a list can be got from it
-has_get : {A : Type 0} (x : A) (xs : List A) → Has x xs → (k : ℕ) × (slice_get xs k ≡ Some x)
-has_get x [] h = absurd h
-has_get x (y ∷ ys) (inl e) = (zero, ap (λ z. Some z) (sym e))
-has_get x (y ∷ ys) (inr h) = let r = has_get x ys h in (suc r.0, r.1)
 
 sends_rings : (xs : List RingSend) (s : Core) → (fold (λ u (y : RingSend). send_on u y.network y.to (body.Ring y.packet)) s xs).rings ≡ s.rings
 unfolding send_on
@@ -118,7 +112,7 @@ module _ (net : ℕ) (w : Scene) (n : ℕ) where
               let carried : Carried net v p (body.Ring x) = subst (Carried net v p) is (h.2.sends p (was p sent)) in
               let got = has_get y v.sent (carried (sym on_its.1 ∙ on)) in
               let comes : Comes net (ring_settings w.config net) (given_in v (slice_get v.sent got.0)) = comes_on net (ring_settings w.config net) v (Given got.0) h.1 in
-              let given : Comes net (ring_settings w.config net) (stepped_in v (ring_event.Packet p.from p.inc x) (ring_at v p.to)) = subst (λ o. Comes net (ring_settings w.config net) (given_in v o)) got.1 comes in
+              let given : Comes net (ring_settings w.config net) (stepped_in v (ring_event.Packet p.from p.inc x) (ring_at v p.to)) = subst (λ o. Comes net (ring_settings w.config net) (given_in v o)) got.2 comes in
               let ring : ring_at v p.to ≡ Some r = ap (ring_at v) (to ∙ h.2.own.me) ∙ sym h.2.ring ∙ here in
               (step_taken v (ring_step r (ring_event.Packet p.from p.inc x)), subst (λ o. Comes net (ring_settings w.config net) (stepped_in v (ring_event.Packet p.from p.inc x) o)) ring given, this_taken net w n v s r (ring_event.Packet p.from p.inc x) here on h.2)
             where

@@ -8,7 +8,7 @@ use Rattle.rsct_packet.specs.declared.ids.ViewId.{ViewId}
 use Rattle.rsct_packet.specs.Ids.{is_member}
 use Rattle.rsct_packet.specs.Mask.{nodes_of}
 use Rattle.rsct_packet.specs.Search.{Has}
-use Rattle.rsct_packet.proofs.HasLaws.{has_append, append_has_left}
+use Rattle.rsct_packet.proofs.HasLaws.{has_append, append_has_left, has_reverse}
 use Rattle.node_state.specs.declared.config.Config.{Config}
 use Rattle.node_state.specs.declared.config.Mode.{Mode}
 use Rattle.node_state.specs.declared.config.Mode.TheVariants.{Fixed, Asked, Rings}
@@ -30,7 +30,6 @@ use Rattle.step_refinement.specs.Rules.{at_node, over, ended, with_records, all_
 use Rattle.step_refinement.specs.Runs.{IsNote, Reached, Nothing, AllStart, Starts, Stops, Steps, Notes}
 use Rattle.step_refinement.proofs.Changed.{set_here, each_set}
 use Rattle.step_refinement.proofs.RunLaw.{reached_rests}
-use Rattle.run_induction.proofs.Idle.{reverse_has}
 use Rattle.run_induction.proofs.Ran.{Opened, opened_inc, all_start_holds}
 use Rattle.row_laws.proofs.hearing.Listening.{steps_change}
 use Rattle.row_laws.proofs.hearing.Incarnations.{incs_of}
@@ -181,7 +180,7 @@ numbers_step c w n f s e v k up arises old =
     own = subst (NodeIsIf w.config (reached_rests c w k []).ghost [] n (w.incs n)) up ((reached_rests c w k []).nodes n)
 
     mine : (r : Happened) → Has r rs → Mine n r
-    mine r h = step_mine f s e n own.0.stands.me (steps_change c w k n s up f e) r (reverse_has r (stepped f s e).records h)
+    mine r h = step_mine f s e n own.0.stands.me (steps_change c w k n s up f e) r (has_reverse r (stepped f s e).records h)
 
     -- before the step
     here : Here n (w.incs n) [] w.before
@@ -226,7 +225,7 @@ numbered c _ (Stops w n e s k up) =
     down r (inr q) = absurd q
 numbered c _ (Steps w n f s e v k up arises) = numbers_step c w n f s e v k up arises (numbered c w k)
 numbered c _ (Notes w e rs k notes) =
-    quietly w.incs w.before (Some e) (reverse rs) (λ r h. note_quiet r (notes r (reverse_has r rs h))) (notes_in (reverse rs) w.before (λ r h. notes r (reverse_has r rs h))) (numbered c w k)
+    quietly w.incs w.before (Some e) (reverse rs) (λ r h. note_quiet r (notes r (has_reverse r rs h))) (notes_in (reverse rs) w.before (λ r h. notes r (has_reverse r rs h))) (numbered c w k)
 
 pub nodes_shown : (c : Config) (w : Scene) → Reached c w → Each NodeShown w.before
 nodes_shown c w k = (numbered c w k).rules

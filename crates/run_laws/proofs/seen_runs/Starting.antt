@@ -7,7 +7,7 @@ use Rattle.rsct_packet.specs.declared.ids.Member.{Member}
 use Rattle.rsct_packet.specs.declared.ids.ViewId.{ViewId}
 use Rattle.rsct_packet.specs.Ids.{is_member}
 use Rattle.rsct_packet.specs.Search.{Has}
-use Rattle.rsct_packet.proofs.HasLaws.{has_append, has_map}
+use Rattle.rsct_packet.proofs.HasLaws.{has_append, has_map, has_reverse}
 use Rattle.adapter_ring.specs.declared.ring.Ring.{Ring}
 use Rattle.node_state.specs.declared.config.Config.{Config}
 use Rattle.node_state.specs.declared.happened.Happened.{Happened}
@@ -16,7 +16,6 @@ use Rattle.node_state.specs.State.{with_sessions}
 use Rattle.node_state.specs.Step.{started, ring_record, own_rings, first_view, first_members}
 use Rattle.run_safety.specs.Past.{History, records_of, Within, view_now, inc_now}
 use Rattle.run_safety.specs.SafeLists.{is_later}
-use Rattle.run_induction.proofs.Idle.{reverse_has}
 use Rattle.run_laws.proofs.seen_runs.Nodes.{NodeShown}
 
 abbrev pub ShownIn : History → List Happened → Happened → Type 0
@@ -52,7 +51,7 @@ module _ (c : Config) (n j : ℕ) (now : List Happened) (before : History) where
       ((record { later = tt; rising = subst (λ z. IsTrue (is_later z v)) (sym (over.2 ∙ none)) refl; among = subst (λ z. is_member ms n z ≡ true) (sym (over.1 ∙ here)) member; in_view = tt }, over.0), over.1 ∙ here)
     where
       over : AllIn (reverse rings ++ first) before × (inc_now n ((reverse rings ++ first) ++ records_of before) ≡ inc_now n (first ++ records_of before)) × (view_now n ((reverse rings ++ first) ++ records_of before) ≡ view_now n (first ++ records_of before))
-      over = rings_over (reverse rings) (λ r h. let k = has_map (ring_record n) r (own_rings c c.mode n j) (reverse_has r rings h) in (k.0, k.2)) (record { later = upto; rising = tt; among = tt; in_view = tt }, old)
+      over = rings_over (reverse rings) (λ r h. let k = has_map (ring_record n) r (own_rings c c.mode n j) (has_reverse r rings h) in (k.0, k.2)) (record { later = upto; rising = tt; among = tt; in_view = tt }, old)
 
       here : inc_now n (first ++ records_of before) ≡ j
       here = grind (arith, nat_tests)
@@ -71,7 +70,7 @@ module _ (c : Config) (n j : ℕ) (now : List Happened) (before : History) where
   unfolding ring_record
   start_ups m k (inl e) = absurd (cc)
   start_ups m k (inr h) =
-      ⊎_elim (λ (a : Has (happened.Up m k) (reverse rings)). absurd (let q = has_map (ring_record n) (happened.Up m k) (own_rings c c.mode n j) (reverse_has (happened.Up m k) rings a) in let z : happened.Up m k ≡ ring_record n q.0 = q.2 in cc)) (λ (a : Has (happened.Up m k) (first ++ records_of before)). at a) (has_append (happened.Up m k) (reverse rings) (first ++ records_of before) (subst (Has (happened.Up m k)) (append_assoc (reverse rings) first (records_of before)) h))
+      ⊎_elim (λ (a : Has (happened.Up m k) (reverse rings)). absurd (let q = has_map (ring_record n) (happened.Up m k) (own_rings c c.mode n j) (has_reverse (happened.Up m k) rings a) in let z : happened.Up m k ≡ ring_record n q.0 = q.2 in cc)) (λ (a : Has (happened.Up m k) (first ++ records_of before)). at a) (has_append (happened.Up m k) (reverse rings) (first ++ records_of before) (subst (Has (happened.Up m k)) (append_assoc (reverse rings) first (records_of before)) h))
     where
       at : Has (happened.Up m k) (first ++ records_of before) → ((m ≡ n) × (k ≡ j)) ⊎ Has (happened.Up m k) (now ++ records_of before)
       at (inl e) = let a : m ≡ n = cc in let b : k ≡ j = cc in inl (a, b)
