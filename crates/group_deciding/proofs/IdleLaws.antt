@@ -14,7 +14,7 @@ use Rattle.node_state.specs.declared.state.Core.{Core}
 use Rattle.node_state.specs.State.{AllAfter, InNameOrder, has_name, row_found, row_of, led_of, list_of, state_of, leads_in, led_groups}
 use Rattle.node_state.specs.HandOn.{Answering}
 use Rattle.node_state.specs.Ending.{Pass, quiet, failures_begin, source_begins, joins_begin, or_due, or_joins, may_begin, first_begins, group_begins, one_pass}
-use Rattle.node_state.proofs.NameOrder.{text_same, text_self, lt_self}
+use Rattle.node_state.proofs.NameOrder.{text_same, text_self, lt_self, row_itself}
 use Rattle.entry_delivery.specs.Received.{Handing}
 use Rattle.group_deciding.specs.Passing.{passed, DoesPass}
 use Rattle.group_deciding.specs.Idle.{owes_nothing, is_idle, is_idle_or_not_led}
@@ -58,28 +58,6 @@ idle_group zero f s g began e = refl
 idle_group (suc n) f s g began e = ap (λ (q : Pass). elim q.began [ true ↦ group_begins n f g q | false ↦ passed q.core began ]) (idle_first f s g e)
 
 -- ---- a row of the table is that of its name
-
-comes_after : (h : List ℕ) (rows : List GroupRow) (row : GroupRow) → AllAfter h rows → Has row rows → name_lt h row.name ≡ true
-comes_after h [] row a k = absurd k
-comes_after h (r ∷ rows) row a (inl q) = subst (λ (z : GroupRow). name_lt h z.name ≡ true) (sym q) a.0
-comes_after h (r ∷ rows) row a (inr k) = comes_after h rows row a.1 k
-
-found_itself : (rows : List GroupRow) (row : GroupRow) → InNameOrder rows → Has row rows → find (has_name row.name) rows ≡ Some row
-found_itself [] row o k = absurd k
-found_itself (r ∷ rows) row o (inl q) =
-    subst (λ (z : GroupRow). find (has_name z.name) (r ∷ rows) ≡ Some z) (sym q) (ap (λ b. cond b (Some r) (find (has_name r.name) rows)) (text_self r.name))
-found_itself (r ∷ rows) row o (inr k) = by (bytes_eq r.name row.name) refl (found_itself rows row o.1 k)
-  where
-    by : (b : Bool) → bytes_eq r.name row.name ≡ b → find (has_name row.name) rows ≡ Some row → cond b (Some r) (find (has_name row.name) rows) ≡ Some row
-    by true e h =
-        let after : name_lt r.name row.name ≡ true = comes_after r.name rows row o.0 k in
-        let self : name_lt r.name r.name ≡ true = subst (λ (z : List ℕ). name_lt r.name z ≡ true) (sym (text_same r.name row.name e)) after in
-        let never = lt_self r.name in absurd cc
-    by false e h = h
-
-row_itself : (s : Core) (row : GroupRow) → InNameOrder s.groups → Has row s.groups → row_of s row.name ≡ row
-unfolding row_of
-row_itself s row o h = ap (row_found row.name) (found_itself s.groups row o h)
 
 -- ---- a pass
 

@@ -1,6 +1,6 @@
 -- The order of names, and the row of a group among rows in that order.
 use Rattle.std.proofs.Common.{◌≡◌, ℕ, List, [], ◌∷◌, Some, None, Bool, true, false, cond, refl, sym, ap, ◌∙◌, subst, inl, inr, ◌⊎◌}
-use Rattle.std.specs.Prelude.{find}
+use Rattle.std.specs.Prelude.{filter, find}
 use Rattle.std.specs.Str.{bytes_eq}
 use Rattle.std.specs.Ordering.{nat_cmp, is_lt, is_eq, ordering_reverse}
 use Rattle.std.specs.declared.cmp.Ordering.{Ordering}
@@ -8,10 +8,12 @@ use Rattle.std.specs.declared.cmp.Ordering.TheVariants.{Less, Equal, Greater}
 use Rattle.std.specs.Cmp.Lexicographic.{slice_cmp, nat_list_cmp_total}
 use Rattle.std.proofs.lemmas.Map.Text.{is_eq-slice_cmp}
 use Rattle.std.proofs.lemmas.Slice.Eq.{bytes_eq-Decides}
+use Rattle.rsct_packet.specs.Search.{Has}
 use Rattle.rsct_packet.specs.Text.{name_lt}
+use Rattle.rsct_packet.proofs.HasLaws.{has_filter, has_map}
 use Rattle.node_state.specs.declared.group.GroupRow.{GroupRow}
 use Rattle.node_state.specs.declared.state.Core.{Core}
-use Rattle.node_state.specs.State.{AllAfter, InNameOrder, new_row, row_found, has_name, row_of, rows_with, with_row}
+use Rattle.node_state.specs.State.{AllAfter, InNameOrder, new_row, row_found, has_name, row_of, rows_with, with_row, leads_in, leads, led_groups}
 
 pub text_same : (a b : List ℕ) → bytes_eq a b ≡ true → a ≡ b
 text_same a b h = (bytes_eq-Decides a b).0 h
@@ -80,6 +82,37 @@ pub none_after : (g : List ℕ) (rows : List GroupRow) → AllAfter g rows → f
 none_after g [] a = refl
 none_after g (row ∷ rows) a =
     ap (λ b. cond b (Some row) (find (has_name g) rows)) (lt_differ g row.name a.0) ∙ none_after g rows a.1
+
+pub after_has : (h : List ℕ) (rows : List GroupRow) (row : GroupRow) → AllAfter h rows → Has row rows → name_lt h row.name ≡ true
+after_has h [] row a k = absurd k
+after_has h (r ∷ rows) row a (inl q) = subst (λ (z : GroupRow). name_lt h z.name ≡ true) (sym q) a.0
+after_has h (r ∷ rows) row a (inr k) = after_has h rows row a.1 k
+
+-- a row among rows in order is found by its name
+pub found_itself : (rows : List GroupRow) (row : GroupRow) → InNameOrder rows → Has row rows → find (has_name row.name) rows ≡ Some row
+found_itself [] row o k = absurd k
+found_itself (r ∷ rows) row o (inl q) =
+    subst (λ (z : GroupRow). find (has_name z.name) (r ∷ rows) ≡ Some z) (sym q) (ap (λ b. cond b (Some r) (find (has_name r.name) rows)) (text_self r.name))
+found_itself (r ∷ rows) row o (inr k) = by (bytes_eq r.name row.name) refl (found_itself rows row o.1 k)
+  where
+    by : (b : Bool) → bytes_eq r.name row.name ≡ b → find (has_name row.name) rows ≡ Some row → cond b (Some r) (find (has_name row.name) rows) ≡ Some row
+    by true e h =
+        let after : name_lt r.name row.name ≡ true = after_has r.name rows row o.0 k in
+        let self : name_lt r.name r.name ≡ true = subst (λ (z : List ℕ). name_lt r.name z ≡ true) (sym (text_same r.name row.name e)) after in
+        let never = lt_self r.name in absurd cc
+    by false e h = h
+
+pub row_itself : (s : Core) (row : GroupRow) → InNameOrder s.groups → Has row s.groups → row_of s row.name ≡ row
+unfolding row_of
+row_itself s row o h = ap (row_found row.name) (found_itself s.groups row o h)
+
+-- each of the groups that a node leads is led by it
+pub led_are_led : (s : Core) (h : List ℕ) → InNameOrder s.groups → Has h (led_groups s) → leads s h ≡ true
+unfolding led_groups leads row_of
+led_are_led s h o i =
+    let a = has_map (λ (row : GroupRow). row.name) h (filter (leads_in s) s.groups) i in
+    let b = has_filter (leads_in s) a.0 s.groups a.1 in
+    ap (λ k. leads_in s (row_found k (find (has_name k) s.groups))) a.2 ∙ ap (λ z. leads_in s (row_found (a.0).name z)) (found_itself s.groups a.0 o b.0) ∙ b.1
 
 -- what keeps the names of rows
 abbrev pub KeepsName : (GroupRow → GroupRow) → Type 0

@@ -21,7 +21,6 @@ use Rattle.view_state.specs.declared.install.Base.{Base}
 use Rattle.view_state.specs.Parts.{part_len}
 use Rattle.view_state.specs.Tails.{IsTail, AreTails, HasTails}
 use Rattle.view_state.specs.Bases.{Candidate, candidates, beats, base_from, base_of_best, base_of, names_in, bases_for, bases_of}
-use Rattle.view_bases.specs.Names.{group_at}
 use Rattle.view_bases.proofs.Bases.{winner_is_tail}
 use Rattle.node_views.specs.Carried.{is_tail, are_tails, IsSound}
 
@@ -59,8 +58,7 @@ pub bases_begin : (i : Install) → [] ≡ bases_for i (take 0 (names_in i.sourc
 unfolding bases_for
 bases_begin i = refl
 
-pub bases_more : (i : Install) (k : ℕ) (g : List ℕ) → Some g ≡ group_at i k → bases_for i (take (k + 1) (names_in i.sources)) ≡ bases_for i (take k (names_in i.sources)) ++ bases_for i (g ∷ [])
-unfolding group_at
+pub bases_more : (i : Install) (k : ℕ) (g : List ℕ) → Some g ≡ slice_get (names_in i.sources) k → bases_for i (take (k + 1) (names_in i.sources)) ≡ bases_for i (take k (names_in i.sources)) ++ bases_for i (g ∷ [])
 bases_more i k g is =
     let ns : List (List ℕ) = names_in i.sources in
     let lt : k < length ns = slice_get_within ns k g (sym is) in
@@ -71,8 +69,8 @@ past_end [] k e = omega arith
 past_end (x ∷ ns) zero e = absurd cc
 past_end (x ∷ ns) (suc k) e = let h = past_end ns k e in omega arith
 
-pub bases_end : (i : Install) (k : ℕ) → None ≡ group_at i k → bases_for i (take k (names_in i.sources)) ≡ bases_of i
-unfolding group_at bases_of
+pub bases_end : (i : Install) (k : ℕ) → None ≡ slice_get (names_in i.sources) k → bases_for i (take k (names_in i.sources)) ≡ bases_of i
+unfolding bases_of
 bases_end i k is = ap (bases_for i) (take_all k (names_in i.sources) (past_end (names_in i.sources) k (sym is)))
 
 -- ---- the joiners of each fit

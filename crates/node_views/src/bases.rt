@@ -7,13 +7,13 @@ ghost use Rattle.view_state.specs.Bases.{bases_for, bases_of};
 ghost use Rattle.node_state.specs.Applying.{base_row, base_leader};
 ghost use Rattle.node_views.specs.Carried.{is_tail, are_tails, IsSound};
 
-use crate::names::name_after;
 use name_server::{Leader, Leaders};
 use node_groups::new_row;
 use node_state::{GroupRow, Groups, Table};
 use proposal_core::GroupList;
 use rsct_packet::{List, NoMemory};
 use std::alloc::Global;
+use view_bases::name_after;
 use view_state::{Base, Install, Part, Source};
 
 /// Can it be the end of a list?
@@ -61,7 +61,7 @@ fn push_base(
 }
 
 /// The bases of an install whose parts are ends of lists.
-#[tactic(auto, unfolding(view_bases::specs::Names::group_at), using(crate::proofs::BaseLaws::bases_begin, crate::proofs::BaseLaws::bases_more, crate::proofs::BaseLaws::bases_end, std::proofs::lemmas::Grind::common_steps))]
+#[tactic(auto, using(crate::proofs::BaseLaws::bases_begin, crate::proofs::BaseLaws::bases_more, crate::proofs::BaseLaws::bases_end, std::proofs::lemmas::Grind::common_steps))]
 fn bases_in(alloc: Global, install: &Install) -> Result<List<Base>, NoMemory>
     requires { HasTails install.now }
     ensures { IfOk result (λ l. l ≡ bases_of install.now) }

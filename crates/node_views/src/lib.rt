@@ -6,7 +6,6 @@ mod dissolved;
 mod entry;
 mod led_groups;
 mod missing_entries;
-mod names;
 mod notes;
 mod own_lists;
 mod packets;

@@ -6,7 +6,7 @@ use proposal_core::{GroupList, GroupState};
 use rsct_packet::{List, Mask, Member, NoMemory, ViewId};
 use std::alloc::Global;
 use std::process::Abort;
-use view_bases::{group_at, lacking_of};
+use view_bases::{lacking_of, name_after};
 use view_core::{OwnLists, ViewEvent, ViewOut, take_event};
 use view_exchange::{AnswerRef, read_install};
 use view_state::{Install, Parts, ViewPacket, Views};
@@ -214,7 +214,8 @@ fn lacking(alloc: Global, install: &Install, list: &GroupList) -> Result<Option<
 
 /// Is `db` its only group?
 fn has_one_group(install: &Install) -> bool {
-    group_at(install, 0) == Some(b"db".as_slice()) && group_at(install, 1).is_none()
+    let first = name_after(install, None);
+    first == Some(b"db".as_slice()) && name_after(install, first).is_none()
 }
 
 /// The install of the sample's bytes.

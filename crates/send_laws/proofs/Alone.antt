@@ -36,7 +36,7 @@ use Rattle.node_state.specs.HandOn.{Answering}
 use Rattle.node_state.specs.Leading.{put_and_hand}
 use Rattle.node_state.specs.Applying.{part_of_list, own_parts, Lacking, lacking_in, lacking, fill_lists, level_set, base_row, view_entered, is_in_base, number_of, dissolved, dissolved_if, group_dissolved, sides_dissolved, entering_noted, taken_sent, owed_sent, lead_groups, entered}
 use Rattle.node_state.specs.Ticks.{tally_ticks, sent_again, tick_group, tick_led}
-use Rattle.node_state.proofs.NameOrder.{row_there, rows_ordered}
+use Rattle.node_state.proofs.NameOrder.{row_there, rows_ordered, after_has, row_itself}
 use Rattle.step_refinement.proofs.BaseOrder.{bases_ordered}
 use Rattle.send_laws.specs.Bound.{is_own, puts_of, owned_of, Stands, EndsAt, ListsEnd}
 use Rattle.send_laws.proofs.Counts.{own_in, owned_with}
@@ -46,7 +46,7 @@ use Rattle.send_laws.proofs.Owed.{Sends, sends_none, sends_then, sends_sent, sen
 use Rattle.send_laws.proofs.Sessions.{Less, less_same, less_then, less_told}
 use Rattle.send_laws.proofs.Filling.{Holds, holds_then, holds_free}
 use Rattle.send_laws.proofs.Entering.{holds_entered, holds_sides, holds_noted, holds_taken, goes_owed}
-use Rattle.send_laws.proofs.Asking.{after_has, not_before, row_itself, part_in, own_part, alone, alone_from, alone_fine, alone_base}
+use Rattle.send_laws.proofs.Asking.{not_before, part_in, own_part, alone, alone_from, alone_fine, alone_base}
 use Rattle.send_laws.proofs.Purse.{owned, purse, Spends, less_by, owned_there, spends_groups_led}
 
 -- ---- nothing lacks

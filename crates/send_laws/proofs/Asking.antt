@@ -33,34 +33,13 @@ use Rattle.node_state.specs.declared.group.GroupRow.{GroupRow}
 use Rattle.node_state.specs.declared.state.Core.{Core}
 use Rattle.node_state.specs.State.{AllAfter, InNameOrder, row_found, row_of, list_of, state_of, held_rows, has_name}
 use Rattle.node_state.specs.Applying.{part_of_list, own_parts}
-use Rattle.node_state.proofs.NameOrder.{text_same, text_self, lt_self}
+use Rattle.node_state.proofs.NameOrder.{text_same, text_self, lt_self, row_itself, after_has}
 use Rattle.step_refinement.proofs.Parts.{own_differ}
 use Rattle.send_laws.specs.Bound.{Room, Stands, Fine, FineIf}
 use Rattle.send_laws.proofs.BaseRooms.{bases_room, base_by_name}
 
-pub after_has : (h : List ℕ) (rows : List GroupRow) (row : GroupRow) → AllAfter h rows → Has row rows → name_lt h row.name ≡ true
-after_has h [] row a k = absurd k
-after_has h (r ∷ rows) row a (inl q) = subst (λ (z : GroupRow). name_lt h z.name ≡ true) (sym q) a.0
-after_has h (r ∷ rows) row a (inr k) = after_has h rows row a.1 k
-
 pub not_before : (a b : List ℕ) → a ≡ b → name_lt a b ≡ true → ⊥
 not_before a b q l = let f : name_lt a a ≡ true = subst (λ z. name_lt a z ≡ true) (sym q) l in let k = lt_self a in cc
-
--- a row of the table is that of its name
-found_itself : (rows : List GroupRow) (row : GroupRow) → InNameOrder rows → Has row rows → find (has_name row.name) rows ≡ Some row
-found_itself [] row o k = absurd k
-found_itself (r ∷ rows) row o (inl q) =
-    subst (λ (z : GroupRow). find (has_name z.name) (r ∷ rows) ≡ Some z) (sym q) (ap (λ b. cond b (Some r) (find (has_name r.name) rows)) (text_self r.name))
-found_itself (r ∷ rows) row o (inr k) = by (bytes_eq r.name row.name) refl (found_itself rows row o.1 k)
-  where
-    by : (b : Bool) → bytes_eq r.name row.name ≡ b → find (has_name row.name) rows ≡ Some row → cond b (Some r) (find (has_name row.name) rows) ≡ Some row
-    by true e h = absurd (not_before r.name row.name (text_same r.name row.name e) (after_has r.name rows row o.0 k))
-    by false e h = h
-
--- a row of the table is that of its name
-pub row_itself : (s : Core) (row : GroupRow) → InNameOrder s.groups → Has row s.groups → row_of s row.name ≡ row
-unfolding row_of
-row_itself s row o h = ap (row_found row.name) (found_itself s.groups row o h)
 
 row_has_room : (s : Core) (row : GroupRow) → Stands s → Has row s.groups → Room (state_in row.list)
 unfolding state_of list_of

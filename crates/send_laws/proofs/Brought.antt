@@ -29,7 +29,7 @@ use Rattle.node_state.specs.declared.packet.Packet.{Packet}
 use Rattle.node_state.specs.declared.state.Core.{Core}
 use Rattle.node_state.specs.Applying.{own_parts, base_row}
 use Rattle.node_state.specs.State.{InNameOrder}
-use Rattle.node_state.proofs.NameOrder.{text_same, text_self}
+use Rattle.node_state.proofs.NameOrder.{text_same, text_self, after_has}
 use Rattle.step_refinement.specs.Ghost.{Ghost, ReplyIs, Gathers, BaseIsOf, Installs}
 use Rattle.step_refinement.specs.Tied.{ShowsBody, Scene, Tied}
 use Rattle.step_refinement.proofs.BaseOrder.{bases_ordered}
@@ -40,7 +40,7 @@ use Rattle.send_laws.specs.Bound.{Room, Fine, FineIf, brought_by, brought_in}
 use Rattle.send_laws.specs.Lasting.{Counted, GatheredIf, FewBody}
 use Rattle.send_laws.proofs.ViewKeeps.{counted_more, counted_few}
 use Rattle.send_laws.proofs.BaseRooms.{PartsRoom, bases_room}
-use Rattle.send_laws.proofs.Asking.{after_has, not_before}
+use Rattle.send_laws.proofs.Asking.{not_before}
 use Rattle.send_laws.proofs.Bases.{BasesRoom}
 use Rattle.send_laws.proofs.Bases as life
 use Rattle.send_laws.proofs.Nodes.{carried_room}

@@ -7,6 +7,7 @@ use Rattle.rsct_packet.specs.declared.ids.Member.{Member}
 use Rattle.rsct_packet.specs.declared.ids.ProviderId.{ProviderId}
 use Rattle.rsct_packet.specs.Providers.{among}
 use Rattle.rsct_packet.specs.Search.{Has}
+use Rattle.node_state.proofs.NameOrder.{row_itself}
 use Rattle.proposal_core.specs.declared.entry.Entry.{Entry}
 use Rattle.proposal_core.specs.GroupView.{GroupView}
 use Rattle.proposal_core.specs.Lists.{state_in}
@@ -25,7 +26,6 @@ use Rattle.step_refinement.proofs.SessionLaws.{provider_self}
 use Rattle.step_refinement.proofs.Replies.{part_is}
 use Rattle.send_laws.specs.Bound.{Room, EndsAt, ListsEnd, WaitsAtLed}
 use Rattle.send_laws.specs.Lasting.{WaitsFew}
-use Rattle.send_laws.proofs.Asking.{row_itself}
 use Rattle.send_laws.proofs.Bases.{BasesRoom, list_room, bases_room}
 
 -- ---- lists

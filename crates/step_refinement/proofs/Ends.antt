@@ -46,13 +46,12 @@ use Rattle.run_safety.specs.Moves as moves
 use Rattle.step_refinement.specs.Ghost.{asking, Ghost, GathersIf}
 use Rattle.step_refinement.specs.Tied.{RowIs, Decided, LeaderKeeps, Scene, Begun, Tied}
 use Rattle.step_refinement.proofs.Leads.{leads_known, leads_row}
-use Rattle.node_state.proofs.NameOrder.{row_here}
+use Rattle.node_state.proofs.NameOrder.{row_here, led_are_led}
 use Rattle.step_refinement.proofs.RowWorks.{waits_of, row_kept}
 use Rattle.step_refinement.proofs.ViewRules.{same_of, apart_of}
 use Rattle.step_refinement.proofs.Refusals.{refusing}
 use Rattle.step_refinement.proofs.Decisions.{NoOlder, Unbegun, Fresh, with_decision, with_here, with_there, decided_still}
 use Rattle.step_refinement.proofs.Deciding.{refused_goes}
-use Rattle.step_refinement.proofs.LedGroups.{led_are_led}
 use Rattle.step_refinement.proofs.Idle.{led_lightens}
 use Rattle.step_refinement.proofs.Begun.{drop_fewer, led_begun}
 use Rattle.step_refinement.proofs.Appending.{MayPut, may_carry_none, busy_open, state_open, Leading, led_goes, begins_goes}

@@ -26,13 +26,12 @@ use Rattle.run_safety.specs.Group as group
 use Rattle.step_refinement.specs.Ghost.{Ghost, KeepsIf, IsStable}
 use Rattle.step_refinement.specs.Tied.{RowIs, Scene, Tied}
 use Rattle.step_refinement.proofs.Works.{sent_kept, tied_sent}
-use Rattle.node_state.proofs.NameOrder.{cases_text}
+use Rattle.node_state.proofs.NameOrder.{cases_text, led_are_led}
 use Rattle.step_refinement.proofs.ViewRules.{same_of}
 use Rattle.step_refinement.proofs.Leads.{leads_same, leads_known}
 use Rattle.step_refinement.proofs.Acks.{settled, fold_least}
 use Rattle.step_refinement.proofs.Fills.{dropped}
 use Rattle.step_refinement.proofs.AllSent.{all_sent}
-use Rattle.step_refinement.proofs.LedGroups.{led_are_led}
 use Rattle.step_refinement.proofs.Appending.{may_carry_none, running_open, Leading, led_goes, appended_goes, closed_goes}
 
 -- ---- parts of lists

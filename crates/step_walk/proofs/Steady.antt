@@ -18,36 +18,10 @@ use Rattle.node_state.specs.State.{AllAfter, InNameOrder, row_found, row_of, wit
 use Rattle.node_state.specs.Sending.{sent, send_on, send_all}
 use Rattle.node_state.specs.Leading.{put, tally_set, tally_opened}
 use Rattle.node_state.specs.Deciding.{keep_decision}
-use Rattle.node_state.proofs.NameOrder.{KeepsName, cases_text, row_here, row_there, text_same, text_self, lt_self}
+use Rattle.node_state.proofs.NameOrder.{KeepsName, cases_text, row_here, row_there, text_same, text_self, lt_self, led_are_led}
 use Rattle.step_walk.proofs.Evidence.{IsLed, delivered, KeepsBeside, KeepsLed, Keeping}
 
 -- ---- rows by their names
-
-after_has : (h : List ℕ) (rows : List GroupRow) (row : GroupRow) → AllAfter h rows → Has row rows → name_lt h row.name ≡ true
-after_has h [] row a i = absurd i
-after_has h (x ∷ rows) row a (inl e) = ap (λ (z : GroupRow). name_lt h z.name) e ∙ a.0
-after_has h (x ∷ rows) row a (inr i) = after_has h rows row a.1 i
-
-found_self : (rows : List GroupRow) (row : GroupRow) → InNameOrder rows → Has row rows → find (has_name row.name) rows ≡ Some row
-found_self [] row o i = absurd i
-found_self (x ∷ rows) row o (inl e) =
-    ap (λ b. cond b (Some x) (find (has_name row.name) rows)) (ap (λ (z : GroupRow). bytes_eq z.name row.name) (sym e) ∙ text_self row.name) ∙ ap (λ z. Some z) (sym e)
-found_self (x ∷ rows) row o (inr i) =
-    ap (λ b. cond b (Some x) (find (has_name row.name) rows)) (other (bytes_eq x.name row.name) refl) ∙ found_self rows row o.1 i
-  where
-    other : (b : Bool) → bytes_eq x.name row.name ≡ b → bytes_eq x.name row.name ≡ false
-    other false q = q
-    other true q =
-        let l : name_lt x.name row.name ≡ true = after_has x.name rows row o.0 i in
-        let k : name_lt x.name x.name ≡ true = subst (λ z. name_lt x.name z ≡ true) (sym (text_same x.name row.name q)) l in
-        let d = lt_self x.name in absurd (cc)
-
-led_are_led : (s : Core) (h : List ℕ) → InNameOrder s.groups → Has h (led_groups s) → leads s h ≡ true
-unfolding led_groups leads row_of
-led_are_led s h o i =
-    let a = has_map (λ (row : GroupRow). row.name) h (filter (leads_in s) s.groups) i in
-    let b = has_filter (leads_in s) a.0 s.groups a.1 in
-    ap (λ k. leads_in s (row_found k (find (has_name k) s.groups))) a.2 ∙ ap (λ z. leads_in s (row_found (a.0).name z)) (found_self s.groups a.0 o b.0) ∙ b.1
 
 -- ---- who leads
 

@@ -198,10 +198,3 @@ next_is ss last k e le =
 pub before_more : (ns : List (List ℕ)) (k : ℕ) → name_before ns (k + 1) ≡ slice_get ns k
 before_more ns k = let e : k + 1 ≡ suc k = omega arith in ap (name_before ns) e
 
--- where the k-th is missing, so are those after it
-pub none_later : (ns : List (List ℕ)) (k i : ℕ) → k < i → slice_get ns k ≡ None → slice_get ns i ≡ None
-none_later ns k i lt e =
-    elim (cases_lt k (length ns)) [
-      | inl within ↦ absurd (not_past ns k within e)
-      | inr past ↦ slice_get_past ns i (omega arith)
-    ]

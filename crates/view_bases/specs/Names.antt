@@ -7,10 +7,6 @@ use Rattle.view_state.specs.declared.install.Install.{Install}
 use Rattle.view_state.specs.Codec.{is_after}
 use Rattle.view_state.specs.Bases.{names_in}
 
--- the i-th of the different names carried, ascending
-unfoldable pub group_at : Install → ℕ → Option (List ℕ)
-group_at i k = slice_get (names_in i.sources) k
-
 -- the name comes before the nearest so far, if there is one
 abbrev pub is_nearer : Option (List ℕ) → List ℕ → Bool
 is_nearer None name = true

@@ -8,4 +8,4 @@ mod names;
 
 pub use base::base_of;
 pub use cut::lacking_of;
-pub use names::group_at;
+pub use names::name_after;

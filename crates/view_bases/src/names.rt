@@ -2,7 +2,7 @@
 ghost use Rattle.std.specs.Prelude.{◌≡◌, find, option_copied};
 ghost use Rattle.view_state.specs.Codec.{is_after};
 ghost use Rattle.view_state.specs.Bases.{names_in};
-ghost use Rattle.view_bases.specs.Names.{group_at, is_nearer, nearer, nearest_in};
+ghost use Rattle.view_bases.specs.Names.{is_nearer, nearer, nearest_in};
 
 use view_state::{Install, Source, is_after, is_less};
 
@@ -45,9 +45,10 @@ fn nearest_in<'a>(
     best
 }
 
-/// The least name after the last one.
+/// The next of the names of groups that are carried, ascending: the least one after the last, or the least of all where there
+/// is no last one. So all of them take one walk through the parts each.
 #[tactic(auto, using(crate::proofs::NameLaws::nearest_source_more, crate::proofs::NameLaws::nearest_is_found, std::proofs::lemmas::Grind::common_steps))]
-fn name_after<'a>(install: &'a Install, last: Option<&[u8]>) -> Option<&'a [u8]>
+pub fn name_after<'a>(install: &'a Install, last: Option<&[u8]>) -> Option<&'a [u8]>
     ensures { option_copied result ≡ find (is_after (option_copied last.entry))
         (names_in install.now.sources) }
 {
@@ -56,17 +57,4 @@ fn name_after<'a>(install: &'a Install, last: Option<&[u8]>) -> Option<&'a [u8]>
         best = nearest_in(source, last, best);
     }
     best
-}
-
-/// The i-th of the different names of groups that are carried, ascending; none exactly where there are not so
-/// many.
-#[tactic(auto, unfolding(crate::specs::Names::group_at))]
-pub fn group_at(install: &Install, place: usize) -> Option<&[u8]>
-    ensures { option_copied result ≡ group_at install.now place }
-{
-    let mut last: Option<&[u8]> = None;
-    for k in 0..place {
-        last = Some(name_after(install, last)?);
-    }
-    name_after(install, last)
 }

@@ -5,6 +5,7 @@ use Rattle.rsct_packet.specs.declared.ids.ProviderId.{ProviderId}
 use Rattle.rsct_packet.specs.Lists.{is_empty}
 use Rattle.rsct_packet.specs.Providers.{among}
 use Rattle.rsct_packet.specs.Search.{Has}
+use Rattle.node_state.proofs.NameOrder.{led_are_led}
 use Rattle.group_attr.specs.declared.attrs.Attrs.{Attrs}
 use Rattle.group_attr.specs.declared.attrs.Phases.{Phases}
 use Rattle.proposal_core.specs.declared.proposal.Failure.{Failure}
@@ -26,7 +27,6 @@ use Rattle.node_state.specs.HandOn.{Answering}
 use Rattle.node_state.specs.Leading.{with_waiting, begins}
 use Rattle.node_state.specs.Deciding.{keep_decision, refused, known_state, lacks_source, source_len, is_idle_empty, join_refusal, keep_attrs, wait_join, decide_join, other_refusal, decide_change, decided}
 use Rattle.node_state.specs.Ending.{Pass, quiet, begun_now, failures_begin, due_begins, source_begins, attrs_for, carried_len, source_refused, joins_begin, or_due, or_joins, may_begin, first_begins, group_begins, one_pass, passes, most_begun, end_step}
-use Rattle.step_refinement.proofs.LedGroups.{led_are_led}
 use Rattle.entry_laws.proofs.late_rows.At.{Turn, found, leads_row, leads_is, At, at_for, at_fold}
 use Rattle.entry_laws.proofs.late_rows.Hands.{at_sent}
 use Rattle.entry_laws.proofs.late_rows.Leading.{MayLead, at_led, at_waits, at_begins}

@@ -94,22 +94,3 @@ bases_track n v ms g bs acc rest o =
     by None = record { stay = fresh; older = older; is = refl; view = refl; len_is = refl; state = refl }
     by (Some b) = record { stay = record { view = v; base = b.state; entries = [] }; older = older; is = refl; view = refl; len_is = refl; state = refl }
 
--- a row is found by its name
-name_later : (h : List ℕ) (rows : List GroupRow) (row : GroupRow) → AllAfter h rows → Has row rows → name_lt h row.name ≡ true
-name_later h [] row a i = absurd i
-name_later h (x ∷ rows) row a (inl e) = ap (λ (z : GroupRow). name_lt h z.name) e ∙ a.0
-name_later h (x ∷ rows) row a (inr i) = name_later h rows row a.1 i
-
-pub found_self : (rows : List GroupRow) (row : GroupRow) → InNameOrder rows → Has row rows → find (has_name row.name) rows ≡ Some row
-found_self [] row o i = absurd i
-found_self (x ∷ rows) row o (inl e) =
-    ap (λ b. cond b (Some x) (find (has_name row.name) rows)) (ap (λ (z : GroupRow). bytes_eq z.name row.name) (sym e) ∙ text_self row.name) ∙ ap (λ z. Some z) (sym e)
-found_self (x ∷ rows) row o (inr i) =
-    ap (λ b. cond b (Some x) (find (has_name row.name) rows)) (other (bytes_eq x.name row.name) refl) ∙ found_self rows row o.1 i
-  where
-    other : (b : Bool) → bytes_eq x.name row.name ≡ b → bytes_eq x.name row.name ≡ false
-    other false q = q
-    other true q =
-        let l : name_lt x.name row.name ≡ true = name_later x.name rows row o.0 i in
-        let k : name_lt x.name x.name ≡ true = subst (λ z. name_lt x.name z ≡ true) (sym (text_same x.name row.name q)) l in
-        let d = lt_self x.name in absurd (cc)

@@ -38,8 +38,7 @@ use Rattle.node_state.specs.Leading.{with_waiting, begins}
 use Rattle.node_state.specs.Deciding.{keep_decision, refused, known_state, lacks_source, source_len, is_idle_empty, join_refusal, keep_attrs, wait_join, decide_join, has_other_source, is_no_member, full_refusal, collide_refusal, other_refusal, decide_change, decided, meant_attrs}
 use Rattle.node_state.specs.Ending.{Pass, quiet, begun_now, failures_begin, due_begins, source_begins, attrs_for, carried_len, source_refused, joins_begin, or_due, or_joins, may_begin, first_begins, group_begins, one_pass, passes, most_begun, end_step}
 use Rattle.run_safety.specs.Past.{History}
-use Rattle.node_state.proofs.NameOrder.{row_here, rows_ordered}
-use Rattle.step_refinement.proofs.LedGroups.{led_are_led}
+use Rattle.node_state.proofs.NameOrder.{row_here, rows_ordered, led_are_led}
 use Rattle.row_laws.proofs.honest_votes.At.{found, leads_row, leads_is}
 use Rattle.row_laws.proofs.honest_votes.Changes.{Every, NoGroup}
 use Rattle.row_laws.specs.failed_rows.Failures.{GoneCause, CauseHolds, LeavesFail}

@@ -44,7 +44,7 @@ use Rattle.node_state.specs.Leading.{put_and_hand, with_waiting, tally_opened}
 use Rattle.node_state.specs.Applying.{Lacking, lacking, fill_lists, level_set, base_row, base_record, view_entered, is_in_base, number_of, dissolved, dissolved_if, group_dissolved, sides_dissolved, base_note, entering_note, entering_noted, taken_sent, owed_sent, wait_failed, phase_reopened, lead, lead_groups, entered, entered_if, apply_install, views_taken}
 use Rattle.run_safety.specs.Past.{History, records_of, inc_now}
 use Rattle.run_safety.specs.Stays.{Stay, asks_join, is_refused, stays, with_base}
-use Rattle.node_state.proofs.NameOrder.{row_here, text_same}
+use Rattle.node_state.proofs.NameOrder.{row_here, text_same, found_itself}
 use Rattle.step_refinement.proofs.SessionLaws.{provider_same}
 use Rattle.step_refinement.proofs.BaseOrder.{bases_ordered, row_of_base, base_noted}
 use Rattle.row_laws.proofs.hearing.Handing.{among_is, has_among}
@@ -52,7 +52,7 @@ use Rattle.row_laws.proofs.honest_votes.At.{found}
 use Rattle.row_laws.proofs.honest_votes.Changes.{Every, NoGroup}
 use Rattle.row_laws.specs.failed_rows.Failures.{FromElsewhere, IsCut, EachPut}
 use Rattle.row_laws.proofs.failed_rows.Queues.{Stays, failed_stays}
-use Rattle.row_laws.proofs.failed_rows.Bases.{bases_put, bases_track, base_is, new_stay, bases_entered, found_self}
+use Rattle.row_laws.proofs.failed_rows.Bases.{bases_put, bases_track, base_is, new_stay, bases_entered}
 use Rattle.row_laws.proofs.failed_rows.Facts.{Whys, JoinedIn, takers_pushed, Quiet, Unasked, BasesFit, Stepped, stepped_incs, BodyFails, body_on, Track, own_pushed, Split, split, turned_split}
 use Rattle.row_laws.proofs.failed_rows.Living.{slim_same}
 use Rattle.row_laws.proofs.failed_rows.Origin.{Origin, slim_more, slim_on}
@@ -401,7 +401,7 @@ module _ (h : History) (said : ProviderId → Type 0) (origin : Origin) (P L M :
     unfolding group_dissolved
     inside_sides [] all t k = k
     inside_sides (row ∷ rows) all t k =
-        inside_sides rows (λ x j. all x (inr j)) (group_dissolved s.views.view bases t row) (inside_group row (ap (row_found row.name) (found_self s.groups row was.order (all row (inl refl)))) (present (state_in row.list)) (λ p j. j) t k)
+        inside_sides rows (λ x j. all x (inr j)) (group_dissolved s.views.view bases t row) (inside_group row (ap (row_found row.name) (found_itself s.groups row was.order (all row (inl refl)))) (present (state_in row.list)) (λ p j. j) t k)
 
     at_sides : Full (view_entered s i bases) → Full (sides_dissolved (view_entered s i bases) (held_rows s) s.views.view bases)
     unfolding sides_dissolved held_rows

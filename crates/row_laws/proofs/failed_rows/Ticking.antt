@@ -9,6 +9,7 @@ use Rattle.rsct_packet.specs.Mask.{nodes_of}
 use Rattle.rsct_packet.specs.Providers.{among, same_provider}
 use Rattle.rsct_packet.specs.Search.{Has}
 use Rattle.rsct_packet.proofs.HasLaws.{has_filter, find_none}
+use Rattle.node_state.proofs.NameOrder.{found_itself}
 use Rattle.proposal_core.specs.declared.entry.Entry.{Entry}
 use Rattle.proposal_core.specs.declared.group_state.GroupState.{GroupState}
 use Rattle.proposal_core.specs.declared.group_state.Running.{Running}
@@ -46,7 +47,6 @@ use Rattle.row_laws.proofs.hearing.Handing.{has_among}
 use Rattle.row_laws.proofs.honest_votes.At.{found, leads_row}
 use Rattle.row_laws.proofs.honest_votes.Changes.{Every, NoGroup}
 use Rattle.row_laws.specs.failed_rows.Failures.{GoneCause, StoodThere, IsOver}
-use Rattle.row_laws.proofs.failed_rows.Bases.{found_self}
 use Rattle.row_laws.proofs.failed_rows.InView.{stay_ticks, stay_reminds}
 use Rattle.row_laws.proofs.failed_rows.Facts.{TallyFails, TallyIs, Quiet, Lives}
 use Rattle.row_laws.proofs.failed_rows.Origin.{Origin}
@@ -217,7 +217,7 @@ module _ (h : History) (said : ProviderId → Type 0) (origin : Origin) (P L M :
   at_all_lost : (rows : List GroupRow) (s : Core) → Known s → ((row : GroupRow) → Has row rows → Has row s.groups) → Full s → Full (fold lost_told s rows)
   at_all_lost [] s known all a = a
   at_all_lost (row ∷ rows) s known all a =
-      at_all_lost rows (lost_told s row) (subst (λ (z : List GroupRow × List Happened). KnownIn z.0 z.1) (λ i. (sym (lost_rows s row) i, sym (lost_records s row) i)) known) (λ x i. subst (Has x) (sym (lost_rows s row)) (all x (inr i))) (at_lost s row known (ap (row_found row.name) (found_self s.groups row a.order (all row (inl refl)))) a)
+      at_all_lost rows (lost_told s row) (subst (λ (z : List GroupRow × List Happened). KnownIn z.0 z.1) (λ i. (sym (lost_rows s row) i, sym (lost_records s row) i)) known) (λ x i. subst (Has x) (sym (lost_rows s row)) (all x (inr i))) (at_lost s row known (ap (row_found row.name) (found_itself s.groups row a.order (all row (inl refl)))) a)
 
   pub at_owed_part : (s : Core) → Known (send_requests s) → Full s → Full (tick_owed s)
   unfolding tick_owed held_rows
