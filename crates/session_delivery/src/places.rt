@@ -1,28 +1,21 @@
 //! Where clients stand, and whose providers are.
 ghost use Rattle.std.specs.Prelude.{◌≡◌, ◌<◌, length, IfSome};
 ghost use Rattle.std.specs.List.{position};
-ghost use Rattle.rsct_packet.specs.Search.{place_where};
 ghost use Rattle.session_state.specs.State.{is_session, client_place, place_of};
 
 use rsct_packet::ProviderId;
 use session_state::{Session, SessionState};
 use subscribe_core::ClientToken;
 
-fn place_alone(rows: &[Session], client: ClientToken) -> Option<usize>
-    ensures { result ≡ position (is_session client) rows.now }
+fn place(rows: &[Session], client: ClientToken) -> Option<usize>
+    ensures value { result ≡ position (is_session client) rows.now }
+    ensures within { IfSome result (λ i. i < length rows.now) }
 {
     rows.iter().position(|row| row.token == client)
 }
 
-#[tactic(auto, using(rsct_packet::proofs::SearchLaws::place_is_position, rsct_packet::proofs::SearchLaws::place_is_in))]
-fn place(rows: &[Session], client: ClientToken) -> Option<usize>
-    ensures value { result ≡ place_where (is_session client) rows.now }
-    ensures within { IfSome result (λ i. i < length rows.now) }
-{
-    place_alone(rows, client)
-}
-
 /// The place of a client's session.
+#[tactic(auto, using(rsct_packet::proofs::SearchLaws::place_is_position))]
 pub fn client_place(sessions: &SessionState, client: ClientToken) -> Option<usize>
     ensures value { result ≡ client_place sessions.now client }
     ensures within { IfSome result (λ i. i < length sessions.now.sessions) }

@@ -28,19 +28,11 @@ impl Model for Locals {
     ghost view = { λ l. l.rows.items };
 }
 
-fn place_alone(rows: &[Provider], provider: ProviderId) -> Option<usize>
-    ensures { result ≡ position (is_provider provider) rows.now }
+fn place(rows: &[Provider], provider: ProviderId) -> Option<usize>
+    ensures value { result ≡ position (is_provider provider) rows.now }
+    ensures within { IfSome result (λ i. i < length rows.now) }
 {
     rows.iter().position(|row| row.p == provider)
-}
-
-#[tactic(auto, using(rsct_packet::proofs::SearchLaws::place_is_position, rsct_packet::proofs::SearchLaws::place_is_in, rsct_packet::proofs::SearchLaws::missing_at_place))]
-fn place(rows: &[Provider], provider: ProviderId) -> Option<usize>
-    ensures value { result ≡ place_where (is_provider provider) rows.now }
-    ensures within { IfSome result (λ i. i < length rows.now) }
-    ensures missing { IfNone result (find (is_provider provider) rows.now ≡ None) }
-{
-    place_alone(rows, provider)
 }
 
 /// The provider takes part.
@@ -121,7 +113,7 @@ impl Locals {
     }
 
     /// Lets a provider take part.
-    #[tactic(auto, using(rsct_packet::proofs::SearchLaws::set_is_edit, rsct_packet::proofs::SearchLaws::missing_edit, std::proofs::lemmas::Grind::common_steps))]
+    #[tactic(auto, using(rsct_packet::proofs::SearchLaws::place_is_position, rsct_packet::proofs::SearchLaws::set_is_edit, rsct_packet::proofs::SearchLaws::missing_edit, std::proofs::lemmas::Grind::common_steps))]
     pub fn take_part(&mut self, provider: ProviderId)
         ensures { self.new ≡ edit_where (is_provider provider) taking_part self.old }
     {
@@ -131,7 +123,7 @@ impl Locals {
     }
 
     /// Opens or closes the phase of a provider that was handed an entry.
-    #[tactic(auto, using(rsct_packet::proofs::SearchLaws::set_is_edit, rsct_packet::proofs::SearchLaws::missing_edit, std::proofs::lemmas::Grind::common_steps))]
+    #[tactic(auto, using(rsct_packet::proofs::SearchLaws::place_is_position, rsct_packet::proofs::SearchLaws::set_is_edit, rsct_packet::proofs::SearchLaws::missing_edit, std::proofs::lemmas::Grind::common_steps))]
     pub fn note(&mut self, provider: ProviderId, entry: &NewEntry<'_>)
         ensures { self.new ≡ edit_where (is_provider provider)
             (opened_after entry.now.entry.now entry.now.after.now) self.old }

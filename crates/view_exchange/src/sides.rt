@@ -14,19 +14,12 @@ use std::alloc::Global;
 use std::mem;
 use view_state::{Kept, KeptParts, Side, Sides, is_less};
 
-fn kept_place_alone(kept: &[Kept], name: &[u8]) -> Option<usize>
-    ensures { result ≡ position (is_kept_of name.now) kept.now }
-{
-    kept.iter().position(|x| x.part.name.bytes() == name)
-}
-
 /// The place of the list of this group.
-#[tactic(auto, using(rsct_packet::proofs::SearchLaws::place_is_position, rsct_packet::proofs::SearchLaws::place_is_in))]
 fn kept_place(kept: &[Kept], name: &[u8]) -> Option<usize>
-    ensures value { result ≡ place_where (is_kept_of name.now) kept.now }
+    ensures value { result ≡ position (is_kept_of name.now) kept.now }
     ensures within { IfSome result (λ i. i < length kept.now) }
 {
-    kept_place_alone(kept, name)
+    kept.iter().position(|x| x.part.name.bytes() == name)
 }
 
 fn first_kept_after(kept: &[Kept], name: &[u8]) -> Option<usize>
@@ -68,7 +61,7 @@ fn improve(kept: &mut Kept, alloc: Global, node: u8, part: &PartRef) -> Result<(
 
 /// Keeps a node's list where it is the first of its group, or beats the one that is kept. Nothing else of it is
 /// copied.
-#[tactic(auto, unfolding(view_state::specs::Answers::with_kept), using(rsct_packet::proofs::SearchLaws::set_is_edit, rsct_packet::proofs::SearchLaws::insert_at_front, std::proofs::lemmas::Grind::common_steps))]
+#[tactic(auto, unfolding(view_state::specs::Answers::with_kept), using(rsct_packet::proofs::SearchLaws::place_is_position, rsct_packet::proofs::SearchLaws::set_is_edit, rsct_packet::proofs::SearchLaws::insert_at_front, std::proofs::lemmas::Grind::common_steps))]
 fn keep(kept: &mut Vec<Kept>, alloc: Global, node: u8, part: &PartRef) -> Result<(), NoMemory>
     requires { IsName part.now.name.now }
     ensures { OnOk result (kept.new.items ≡ with_kept kept.old.items
@@ -140,19 +133,12 @@ fn side_of(alloc: Global, node: u8, inc: u32, answer: &AnswerRef) -> Result<Side
     })
 }
 
-fn side_place_alone(sides: &[Side], view: ViewId) -> Option<usize>
-    ensures { result ≡ position (is_side_of view) sides.now }
-{
-    sides.iter().position(|x| x.view == view)
-}
-
 /// The place of the side of this view.
-#[tactic(auto, using(rsct_packet::proofs::SearchLaws::place_is_position, rsct_packet::proofs::SearchLaws::place_is_in))]
 fn side_place(sides: &[Side], view: ViewId) -> Option<usize>
-    ensures value { result ≡ place_where (is_side_of view) sides.now }
+    ensures value { result ≡ position (is_side_of view) sides.now }
     ensures within { IfSome result (λ i. i < length sides.now) }
 {
-    side_place_alone(sides, view)
+    sides.iter().position(|x| x.view == view)
 }
 
 fn first_side_after(sides: &[Side], view: ViewId) -> Option<usize>
@@ -170,7 +156,7 @@ fn side_front(sides: &[Side], view: ViewId) -> usize
     first_side_after(sides, view).unwrap_or(sides.len())
 }
 
-#[tactic(auto, unfolding(view_state::specs::Answers::with_side), using(rsct_packet::proofs::SearchLaws::set_is_edit, rsct_packet::proofs::SearchLaws::insert_at_front, std::proofs::lemmas::Grind::common_steps))]
+#[tactic(auto, unfolding(view_state::specs::Answers::with_side), using(rsct_packet::proofs::SearchLaws::place_is_position, rsct_packet::proofs::SearchLaws::set_is_edit, rsct_packet::proofs::SearchLaws::insert_at_front, std::proofs::lemmas::Grind::common_steps))]
 fn take_among(
     sides: &mut Vec<Side>,
     alloc: Global,
