@@ -1,7 +1,6 @@
 -- What is in a list after an edit of what passes a test, and after one is put in.
-use Rattle.std.proofs.Common.{◌≡◌, ℕ, suc, Bool, true, false, cond, List, [], ◌∷◌, Option, Some, None, refl, sym, ap, ◌∙◌, inl, inr, ⊎_elim, ◌⊎◌}
-use Rattle.std.specs.Prelude.{find, is_none}
-use Rattle.std.specs.Option.{option_map}
+use Rattle.std.proofs.Common.{◌≡◌, Bool, true, false, cond, List, [], ◌∷◌, None, refl, ap, ◌∙◌, inl, inr, ⊎_elim, ◌⊎◌}
+use Rattle.std.specs.Prelude.{is_none}
 use Rattle.rsct_packet.specs.Search.{Has, place_where, edit_where, insert_before}
 use Rattle.rsct_packet.proofs.HasLaws.{find_none}
 use Rattle.rsct_packet.proofs.SearchLaws.{missing_at_place}
@@ -64,4 +63,3 @@ none_placed test xs x e h = by (test x) refl
     by : (t : Bool) → test x ≡ t → test x ≡ false
     by true p = absurd (find_none test xs x (ap is_none (missing_at_place test xs e)) h p)
     by false p = p
-

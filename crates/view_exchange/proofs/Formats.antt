@@ -1,6 +1,6 @@
 -- What is read as a part, an answer or an install is spelled so, and what is spelled so is read.
-use Rattle.std.proofs.Common.{◌≡◌, ℕ, ◌+◌, ◌^◌, ◌<◌, ◌≤◌, Bool, List, [], ◌∷◌, ◌++◌, length, get_or, Option, Some, None, refl, sym, ap, subst, ◌∙◌, append_assoc, append-nil, arith, length-append, inl, inr}
-use Rattle.std.specs.Prelude.{IsTrue, IfSome, IfOk, Result, Ok, Err, ◌&&◌, nat_le}
+use Rattle.std.proofs.Common.{◌≡◌, ℕ, ◌+◌, ◌^◌, List, [], ◌∷◌, ◌++◌, length, Option, Some, None, refl, sym, ap, subst, ◌∙◌, append_assoc, append-nil, arith, inl, inr}
+use Rattle.std.specs.Prelude.{IfSome, IfOk, Result, Ok, Err, ◌&&◌}
 use Rattle.std.specs.Int.{w8, w32}
 use Rattle.std.proofs.lemmas.Bool.{cases_lt, leb-true, le-leb}
 use Rattle.std.proofs.lemmas.List.{get_or_append_left, get_or_past}
@@ -21,7 +21,7 @@ use Rattle.view_exchange.specs.InPlace.{part_in}
 use Rattle.view_state.specs.Tails.{IsTail, AreTails, HasTails}
 use Rattle.view_state.specs.declared.install.Source.{Source}
 use Rattle.view_state.specs.declared.install.Install.{Install}
-use Rattle.view_state.specs.Codec.{sized_at, sized_text, sized_entry_at, sized_entry_text, IsSizedEntry, part_of_parts, ends_in_u32, group_part_at, group_part_text, IsPart, names_ascend, parts_at, parts_text, IsParts, Brought, brought_of_parts, answer_at, answer_text, IsAnswer, source_of_parts, source_at_front, source_text, IsSource, members_ascend, views_ascend, each_comes_once, is_in_order, install_of_parts, install_at, install_text, IsInstall}
+use Rattle.view_state.specs.Codec.{sized_at, sized_text, sized_entry_at, sized_entry_text, IsSizedEntry, part_of_parts, ends_in_u32, group_part_at, group_part_text, IsPart, names_ascend, parts_at, parts_text, IsParts, brought_of_parts, answer_at, answer_text, IsAnswer, source_of_parts, source_at_front, source_text, IsSource, members_ascend, views_ascend, each_comes_once, is_in_order, install_of_parts, install_at, install_text, IsInstall}
 
 -- a reader of all of the bytes
 whole_some : {A : Type 0} (r : Option (A × List ℕ)) (x : A) → whole r ≡ Some x → r ≡ Some (x, [])

@@ -1,11 +1,11 @@
 -- The first answer of a node alone counts.
-use Rattle.std.proofs.Common.{◌≡◌, ℕ, Bool, true, false, cond, List, [], ◌∷◌, ◌++◌, refl, sym, ap, subst, ◌∙◌, inl, inr, ⊎_elim, arith}
+use Rattle.std.proofs.Common.{◌≡◌, ℕ, Bool, true, false, cond, List, [], ◌∷◌, ◌++◌, refl, sym, ap, subst, ◌∙◌, inl, inr, arith}
 use Rattle.std.specs.Prelude.{not, ◌==◌, ◌&&◌, ◌||◌}
 use Rattle.std.specs.List.{list_any}
 use Rattle.std.proofs.lemmas.Bool.Decides.{nat_tests}
 use Rattle.rsct_packet.specs.declared.ids.Member.{Member}
 use Rattle.rsct_packet.specs.Mask.{has_node}
-use Rattle.rsct_packet.specs.Search.{Has, insert_before}
+use Rattle.rsct_packet.specs.Search.{Has}
 use Rattle.view_state.specs.declared.answer.Answer.{Answer}
 use Rattle.view_state.specs.declared.exchange.Exchange.{Exchange}
 use Rattle.view_state.specs.Answers.{has_answered, may_answer, with_answer, add_answer, member_of, is_member_above, with_member}

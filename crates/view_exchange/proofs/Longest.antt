@@ -1,7 +1,6 @@
 -- An install carries the longest lists, whatever the order in which answers came.
 use Rattle.std.proofs.Common.{◌≡◌, ℕ, ◌<◌, ◌≤◌, ◌⊎◌, Bool, true, false, cond, List, [], ◌∷◌, ◌++◌, Option, Some, None, refl, sym, ap, subst, ◌∙◌, append_assoc, append-nil, inl, inr, ⊎_elim, arith}
 use Rattle.std.specs.Prelude.{map, ◌==◌, ◌||◌, ◌&&◌, nat_lt}
-use Rattle.std.specs.Str.{bytes_eq}
 use Rattle.std.proofs.lemmas.Bool.{cases_lt}
 use Rattle.std.proofs.lemmas.Bool.Decides.{nat_tests}
 use Rattle.std.proofs.lemmas.Slice.Eq.{bytes_eq-Decides}
@@ -17,10 +16,9 @@ use Rattle.view_state.specs.declared.sides.Kept.{Kept}
 use Rattle.view_state.specs.declared.sides.Side.{Side}
 use Rattle.view_state.specs.declared.install.Part.{Part}
 use Rattle.view_state.specs.declared.install.Source.{Source}
-use Rattle.view_state.specs.declared.install.Install.{Install}
 use Rattle.view_state.specs.Parts.{part_len}
 use Rattle.view_state.specs.Answers.{opened, kept_of, is_beaten, better_of, is_kept_of, is_kept_above, with_kept_at, with_kept, with_parts, side_with, side_from, is_side_of, is_side_above, with_side_at, with_side, with_answer, source_of, install_of}
-use Rattle.view_exchange.specs.Longest.{all_counted, Brings, NoWorse, IsLongest, IsCarried, CarriesLongest, NamesDiffer, LongestAreCarried}
+use Rattle.view_exchange.specs.Longest.{all_counted, Brings, NoWorse, IsLongest, CarriesLongest, NamesDiffer, LongestAreCarried}
 use Rattle.view_state.proofs.ViewOrder.{same_view_is}
 use Rattle.view_exchange.proofs.Edits.{inserted_has, has_inserted, Once, edited_has, has_edited, none_placed}
 
