@@ -16,7 +16,7 @@ use group_leading::begin;
 use node_groups::{gone_of, keep_decision, state_of};
 use node_state::Core;
 use proposal_core::{GroupState, Proposal, Running};
-use rsct_packet::{Name, NoMemory, ProviderId, is_among};
+use rsct_packet::{NoMemory, ProviderId, is_among};
 use session_state::Request;
 use std::alloc::Global;
 

@@ -2,7 +2,6 @@
 ghost use Rattle.std.specs.Prelude.{◌≡◌, ◌++◌, [], OnOk};
 ghost use Rattle.std.specs.List.{position};
 ghost use Rattle.rsct_packet.specs.Lists.{drop_where};
-ghost use Rattle.rsct_packet.specs.Search.{place_where};
 ghost use Rattle.batch_rules.specs.Waiting.{has_instance, waits_join};
 ghost use Rattle.batch_rules.specs.Next.{added_as};
 ghost use Rattle.batch_rules.specs.declared.waiting.Added.TheVariants.{Queued};

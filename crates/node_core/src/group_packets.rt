@@ -1,5 +1,5 @@
 //! The packets of the groups of a view: each is used in its view alone.
-ghost use Rattle.std.specs.Prelude.{◌≡◌, IfOk, OnOk, option_copied};
+ghost use Rattle.std.specs.Prelude.{◌≡◌, OnOk, option_copied};
 ghost use Rattle.session_clients.specs.Clients.{KeepsScripts};
 ghost use Rattle.rsct_packet.specs.Text.{IsName};
 ghost use Rattle.rsct_packet.specs.Ids.{is_member};

@@ -1,7 +1,6 @@
 //! What a leader keeps of the members and of the requesters of a group, in the order in which they came.
 ghost use Rattle.std.specs.Prelude.{◌≡◌, OnOk, find, option_copied};
 ghost use Rattle.std.specs.List.{position};
-ghost use Rattle.rsct_packet.specs.Providers.{same_provider};
 ghost use Rattle.node_state.specs.declared.group.Acked.{Acked};
 ghost use Rattle.node_state.specs.declared.group.Decision.{Decision};
 ghost use Rattle.node_state.specs.State.{acked_from, acked_raised, decisions_with};

@@ -1,7 +1,6 @@
 //! In which incarnations nodes started last.
 ghost use Rattle.std.specs.Prelude.{◌≡◌, [], map, find, OnOk, option_copied};
 ghost use Rattle.std.specs.List.{position};
-ghost use Rattle.rsct_packet.specs.Search.{place_where};
 ghost use Rattle.world_model.specs.World.{inc_in, starts_with};
 ghost use Rattle.play_state.specs.Starts.{started_in, is_start_of, is_start};
 

@@ -1,8 +1,8 @@
 //! The table of local providers.
-ghost use Rattle.std.specs.Prelude.{◌≡◌, ◌++◌, ◌∷◌, ◌<◌, [], length, not, find, filter, take, OnOk, OnErr, IfSome, IfNone, None, option_copied};
+ghost use Rattle.std.specs.Prelude.{◌≡◌, ◌++◌, ◌∷◌, ◌<◌, [], length, not, find, filter, take, OnOk, OnErr, IfSome, option_copied};
 ghost use Rattle.std.specs.List.{position};
 ghost use Rattle.rsct_packet.specs.Providers.{among};
-ghost use Rattle.rsct_packet.specs.Search.{place_where, edit_where};
+ghost use Rattle.rsct_packet.specs.Search.{edit_where};
 ghost use Rattle.session_state.specs.State.{is_provider, is_client_of};
 ghost use Rattle.session_state.specs.HandOn.{taking_part, opened_after};
 

@@ -2,7 +2,7 @@
 ghost use Rattle.std.specs.Prelude.{◌≡◌, ◌≤◌, ◌<◌, length, map, IfOk, IfSome, OnOk};
 ghost use Rattle.std.specs.List.{position};
 ghost use Rattle.rsct_packet.specs.Text.{IsName};
-ghost use Rattle.rsct_packet.specs.Search.{place_where, front_len};
+ghost use Rattle.rsct_packet.specs.Search.{front_len};
 ghost use Rattle.view_state.specs.Answers.{kept_of, is_beaten, better_of, is_kept_of, is_kept_above, with_kept, with_parts, side_with, side_from, is_side_of, is_side_above, with_side};
 ghost use Rattle.view_exchange.specs.InPlace.{part_in, answer_in};
 

@@ -1,7 +1,6 @@
 //! What is kept of the packets of a world.
 ghost use Rattle.std.specs.Prelude.{◌≡◌, ◌<◌, ◌++◌, ◌∷◌, [], IfOk, OnOk, filter, not, option_copied, drop};
 ghost use Rattle.std.specs.List.{position};
-ghost use Rattle.rsct_packet.specs.Search.{place_where};
 ghost use Rattle.rsct_packet.specs.Lists.{drop_where};
 ghost use Rattle.node_state.specs.Bytes.{packet_len};
 ghost use Rattle.world_model.specs.World.{kth_in, pairs_with};
