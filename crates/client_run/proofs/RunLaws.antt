@@ -8,15 +8,12 @@ use Rattle.hags_io.specs.declared.link.LinkCall.{LinkCall}
 use Rattle.remote_session.specs.declared.far.DownSeen.{DownSeen}
 use Rattle.daemon_model.specs.Sent.{Went, WentFront}
 use Rattle.daemon_model.specs.Lives.{most_failed}
+use Rattle.daemon_run.specs.Keeping.{IsReceive}
 use Rattle.daemon_run.proofs.WentLaws.{went_nothing, went_on, all_went, went_front_on}
-use Rattle.daemon_run.proofs.GoesLaws.{all_front}
+use Rattle.daemon_run.proofs.GoesLaws.{all_front, front_after}
 use Rattle.client_run.specs.declared.client.Client.{Client}
 use Rattle.client_run.specs.Turns.{turned, turn_calls, turn_text, turn_seen, turned_all, all_calls, all_text}
-use Rattle.client_run.specs.Running.{IsReceive, Stays, TurnsAs, TurnEnds, TurnBreaks, GoesOn, Did, Done, Answered, Unanswered, Ended, Failing, Broken}
-
--- what was written, and then a front of more
-front_after : (x y z : Option (List ℕ)) (s t : List ℕ) → Appends x y s → GrowsByFront y z t → GrowsByFront x z (s ++ t)
-front_after x y z s t p q = record { front = s ++ q.front; back = q.back; whole = append_assoc s q.front q.back ∙ ap (λ u. s ++ u) q.whole; grows = Appends-trans x y z _ _ p q.grows }
+use Rattle.client_run.specs.Running.{Stays, TurnsAs, TurnEnds, TurnBreaks, GoesOn, Did, Done, Answered, Unanswered, Ended, Failing, Broken}
 
 module _ (lines : List (List ℕ)) where
   -- ---- the last turn

@@ -1,15 +1,15 @@
 -- How the link is opened, the key is read, and what comes of it.
-use Rattle.std.proofs.Common.{◌≡◌, ℕ, Bool, true, false, List, [], ◌∷◌, Option, refl, subst, arith}
+use Rattle.std.proofs.Common.{◌≡◌, ℕ, Bool, true, List, [], ◌∷◌, Option, subst, arith}
 use Rattle.hags_io.specs.declared.link.LinkCall.{LinkCall}
 use Rattle.hags_io.specs.Links.{Counts, Same, Tells, was_opened}
 use Rattle.node_state.specs.declared.config.Config.{Config}
 use Rattle.remote_session.specs.declared.far.DownSeen.{DownSeen}
-use Rattle.daemon_run.specs.Ends.{NothingDone}
+use Rattle.daemon_run.specs.Ends.{WasOpened}
 use Rattle.daemon_run.proofs.EndLaws.{tells_kept, same_tells}
 use Rattle.daemon_run.proofs.KeepLaws.{same_on}
 use Rattle.client_run.specs.declared.client.Client.{Client}
 use Rattle.client_run.specs.Running.{Answered, Unanswered, Ended, Failing, Broken}
-use Rattle.client_run.specs.Using.{key_at, first_client, WasOpened, Keyed, Opened, EndsByLink, NotOpened, Ran}
+use Rattle.client_run.specs.Using.{key_at, first_client, Keyed, Opened}
 use Rattle.client_run.proofs.RunLaws.{done_none, broken_all}
 
 module _ (config : Config) (node : ℕ) (lines : List (List ℕ)) where
@@ -61,10 +61,3 @@ opened_then o p q r done a d e u v P is same told kept first next h = record {
   same = same_on a d e first next;
   keyed = h;
 }
-
-pub not_opened : (o p q : Option (Option (ℕ × Bool))) (done : Bool) (a d e : Option (List LinkCall)) (x u : Option (List ℕ)) (P : Type 0) → done ≡ false → Same o p → Tells p q (was_opened 0 done) → Same a d → Same d e → EndsByLink o q a e x x u u P
-not_opened o p q done a d e x u P is same told first next =
-    NotOpened (subst (λ (t : Bool). WasOpened o q t) is (same_tells o p q (was_opened 0 done) same told)) (record { calls = same_on a d e first next; held = refl; moments = refl })
-
-pub ran : (o q : Option (Option (ℕ × Bool))) (a e : Option (List LinkCall)) (x y u v : Option (List ℕ)) (P : Type 0) → P → EndsByLink o q a e x y u v P
-ran o q a e x y u v P p = Ran p

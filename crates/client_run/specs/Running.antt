@@ -3,12 +3,12 @@ use Rattle.std.specs.Prelude.{◌≡◌, ℕ, ◌<◌, ◌≤◌, List, [], ◌�
 use Rattle.std.specs.Io.KnownBytes.{Appends}
 use Rattle.hags_io.specs.Edges.{GrowsByFront}
 use Rattle.hags_io.specs.declared.link.LinkCall.{LinkCall}
-use Rattle.hags_io.specs.declared.link.LinkCall.TheVariants as call
 use Rattle.remote_session.specs.declared.far.DownSeen.{DownSeen}
 use Rattle.remote_session.specs.declared.far.DownSeen.TheVariants as seen
 use Rattle.remote_session.specs.Messages.{max_line}
 use Rattle.daemon_model.specs.Sent.{Went, WentFront}
 use Rattle.daemon_model.specs.Lives.{most_failed}
+use Rattle.daemon_run.specs.Keeping.{IsReceive}
 use Rattle.client_run.specs.declared.client.Client.{Client}
 use Rattle.piece_link.specs.Joining.{taken}
 use Rattle.client_run.specs.declared.client.Stop.{Stop}
@@ -18,10 +18,6 @@ use Rattle.client_run.specs.Turns.{text_in, heard_in, seen_in, joined_with, text
 -- a line that can be a call
 abbrev pub IsCall : List ℕ → Type 0
 IsCall line = (1 ≤ length line) × (length line ≤ max_line)
-
-abbrev pub IsReceive : LinkCall → Type 0
-IsReceive (call.Sent node network bytes out) = ⊥
-IsReceive _ = Unit {0}
 
 -- the session goes on
 abbrev pub Stays : DownSeen → Type 0

@@ -1,11 +1,11 @@
 -- The whole use of a daemon: how the link was opened, with which key, and what came of it.
-use Rattle.std.specs.Prelude.{◌≡◌, ℕ, ◌%◌, ◌^◌, Bool, true, false, List, [], ◌∷◌, Option, None}
+use Rattle.std.specs.Prelude.{ℕ, ◌%◌, ◌^◌, Bool, true, List, [], ◌∷◌, Option}
 use Rattle.hags_io.specs.declared.link.LinkCall.{LinkCall}
-use Rattle.hags_io.specs.Links.{Counts, Same, Tells, was_opened}
+use Rattle.hags_io.specs.Links.{Counts, Same}
 use Rattle.node_state.specs.declared.config.Config.{Config}
 use Rattle.node_state.specs.Settings.{shared_network}
 use Rattle.remote_session.specs.Client.{far_new}
-use Rattle.daemon_run.specs.Ends.{NothingDone}
+use Rattle.daemon_run.specs.Ends.{WasOpened}
 use Rattle.client_run.specs.declared.client.Client.{Client}
 
 -- the key: the low 32 bits of the moment
@@ -26,10 +26,6 @@ first_client c node key = record {
   told = 0;
 }
 
--- the link was to be opened, at a port that is free
-abbrev pub WasOpened : Option (Option (ℕ × Bool)) → Option (Option (ℕ × Bool)) → Bool → Type 0
-WasOpened o r done = Tells o r (was_opened 0 done)
-
 -- the clock was read once, which gives the key; then this
 pub record Keyed (u v : Option (List ℕ)) (P : ℕ → Type 0) : Type 0 where
   pub moment : ℕ
@@ -42,8 +38,3 @@ pub record Opened (o r : Option (Option (ℕ × Bool))) (a : Option (List LinkCa
   pub start : Option (List LinkCall)
   pub same : Same a start
   pub keyed : Keyed u v (P start)
-
--- the link could not be opened, and nothing more was done; or this
-pub data EndsByLink (o r : Option (Option (ℕ × Bool))) (a b : Option (List LinkCall)) (x y u v : Option (List ℕ)) (P : Type 0) : Type 0 where
-  NotOpened : WasOpened o r false → NothingDone a b x y u v → EndsByLink o r a b x y u v P
-  Ran : P → EndsByLink o r a b x y u v P

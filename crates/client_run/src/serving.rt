@@ -4,9 +4,10 @@ ghost use Rattle.hags_io.specs.Edges.{Rose};
 ghost use Rattle.hags_io.specs.Links.{Tells};
 ghost use Rattle.rsct_packet.specs.Format.{EachFits};
 ghost use Rattle.daemon_model.specs.Settings.{all_places};
+ghost use Rattle.daemon_run.specs.Ends.{NothingDone, EndsByLink};
 ghost use Rattle.daemon_run.specs.Keeping.{KeepsLink};
 ghost use Rattle.client_run.specs.Running.{IsCall, IsLost, IsFull, Answered, Unanswered, Ended, Failing, Broken};
-ghost use Rattle.client_run.specs.Using.{first_client, Keyed, Opened, EndsByLink};
+ghost use Rattle.client_run.specs.Using.{first_client, Keyed, Opened};
 
 use crate::client::{Client, ClientFault};
 use daemon_run::{buffer, tell_places};
@@ -99,7 +100,7 @@ fn converse<K: Sink, L: Link, M: Clock>(
 /// `NoReply` where a call has no answer after the last turn; `Lost` where a Down of another incarnation of the daemon
 /// came, and `Full` where one said that the daemon keeps no more keys: each ends it; `LinkFault` where the link could
 /// not be opened, or 16 receives in a row failed; `WriteFault` where `out` failed; `NoMemory` where memory has run out.
-#[tactic(auto, using(crate::proofs::UseLaws::opened_then, crate::proofs::UseLaws::not_opened, crate::proofs::UseLaws::ran, daemon_run::proofs::EndLaws::tells_kept, daemon_run::proofs::EndLaws::nothing_done, daemon_run::proofs::KeepLaws::same_on))]
+#[tactic(auto, using(crate::proofs::UseLaws::opened_then, daemon_run::proofs::EndLaws::not_opened, daemon_run::proofs::EndLaws::ran, daemon_run::proofs::EndLaws::tells_kept, daemon_run::proofs::EndLaws::nothing_done, daemon_run::proofs::KeepLaws::same_on))]
 pub fn use_daemon<K: Sink, L: Link, M: Clock>(
     alloc: Global,
     config: &Config,
@@ -129,14 +130,14 @@ pub fn use_daemon<K: Sink, L: Link, M: Clock>(
         (λ start key. Ended IsFull lines.now (first_client config.now usage.node key) usage.turns
         start (L.calls link.new) (K.held out.old) (K.held out.new)) }
     ensures failing { result ≡ Err ClientFault.LinkFault → EndsByLink (L.opened link.old)
-        (L.opened link.new) (L.calls link.old) (L.calls link.new) (K.held out.old)
-        (K.held out.new) (M.moments clock.old) (M.moments clock.new) (Opened (L.opened link.old)
+        (L.opened link.new) (NothingDone (L.calls link.old) (L.calls link.new) (K.held out.old)
+        (K.held out.new) (M.moments clock.old) (M.moments clock.new)) (Opened (L.opened link.old)
         (L.opened link.new) (L.calls link.old) (M.moments clock.old) (M.moments clock.new)
         (λ start key. Failing lines.now (first_client config.now usage.node key) usage.turns
         start (L.calls link.new) (K.held out.old) (K.held out.new))) }
     ensures broken { EndsByLink (L.opened link.old)
-        (L.opened link.new) (L.calls link.old) (L.calls link.new) (K.held out.old)
-        (K.held out.new) (M.moments clock.old) (M.moments clock.new) (Opened (L.opened link.old)
+        (L.opened link.new) (NothingDone (L.calls link.old) (L.calls link.new) (K.held out.old)
+        (K.held out.new) (M.moments clock.old) (M.moments clock.new)) (Opened (L.opened link.old)
         (L.opened link.new) (L.calls link.old) (M.moments clock.old) (M.moments clock.new)
         (λ start key. Broken lines.now (first_client config.now usage.node key) usage.turns
         start (L.calls link.new) (K.held out.old) (K.held out.new))) }

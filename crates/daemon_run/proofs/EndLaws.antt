@@ -16,7 +16,7 @@ use Rattle.daemon_run.specs.declared.running.Running.{Running}
 use Rattle.daemon_run.specs.Hosting.{Known}
 use Rattle.daemon_run.specs.Doing.{daemon_of, Passes}
 use Rattle.daemon_run.specs.Calling.{Reached, BeginsAs, BeginBreaks}
-use Rattle.daemon_run.specs.Ends.{NothingDone, Opens, HandsOver}
+use Rattle.daemon_run.specs.Ends.{NothingDone, Opens, WasOpened, EndsByLink, NotOpened, Ran, HandsOver}
 use Rattle.daemon_run.specs.Audience.{Audience, no_audience, OpeningHands, TurnsHand, Attend, AttendWith}
 use Rattle.hags_io.specs.Links.{Same, Tells, was_opened}
 use Rattle.daemon_run.specs.Serving.{TurnsDone, TurnsEnded, TurnsBroken}
@@ -136,6 +136,12 @@ opens_open o q r s port status done N P e same told kept p = record {
   closed = λ closed. absurd cc;
   ended = λ was at. p at;
 }
+
+pub not_opened : (o p q : Option (Option (ℕ × Bool))) (done : Bool) (N P : Type 0) → done ≡ false → Same o p → Tells p q (was_opened 0 done) → N → EndsByLink o q N P
+not_opened o p q done N P is same told n = NotOpened (subst (λ (t : Bool). WasOpened o q t) is (same_tells o p q (was_opened 0 done) same told)) n
+
+pub ran : (o q : Option (Option (ℕ × Bool))) (N P : Type 0) → P → EndsByLink o q N P
+ran o q N P p = Ran p
 
 -- ---- what came before, with no call that is told
 

@@ -64,7 +64,7 @@ none_front x text = record { front = []; back = text; whole = refl; grows = Appe
 pub all_front : (x y : Option (List ℕ)) (text : List ℕ) → Appends x y text → GrowsByFront x y text
 all_front x y text h = record { front = text; back = []; whole = append-nil text; grows = h }
 
-front_after : (x y z : Option (List ℕ)) (s t : List ℕ) → Appends x y s → GrowsByFront y z t → GrowsByFront x z (s ++ t)
+pub front_after : (x y z : Option (List ℕ)) (s t : List ℕ) → Appends x y s → GrowsByFront y z t → GrowsByFront x z (s ++ t)
 front_after x y z s t p q = record { front = s ++ q.front; back = q.back; whole = append_assoc s q.front q.back ∙ ap (λ u. s ++ u) q.whole; grows = Appends-trans x y z _ _ p q.grows }
 
 front_before : (x y : Option (List ℕ)) (s t : List ℕ) → GrowsByFront x y s → GrowsByFront x y (s ++ t)

@@ -1,4 +1,4 @@
--- How a daemon ends.
+-- How a daemon ends, and how one that uses a daemon does.
 use Rattle.std.specs.Prelude.{◌≡◌, ℕ, Bool, true, false, List, Option}
 use Rattle.client_callbacks.specs.declared.votes.VoteItem.{VoteItem}
 use Rattle.client_callbacks.specs.Handed.{Handed}
@@ -24,6 +24,15 @@ pub record Opens (o r : Option (Option (ℕ × Bool))) (port status : ℕ) (N P 
   pub told : Tells o r (was_opened port done)
   pub closed : done ≡ false → (status ≡ 6) × N
   pub ended : done ≡ true → status ≡ 6 → P
+
+-- the link was to be opened, at a port that is free
+abbrev pub WasOpened : Option (Option (ℕ × Bool)) → Option (Option (ℕ × Bool)) → Bool → Type 0
+WasOpened o r done = Tells o r (was_opened 0 done)
+
+-- it could not be opened, and N holds; or P does
+pub data EndsByLink (o r : Option (Option (ℕ × Bool))) (N P : Type 0) : Type 0 where
+  NotOpened : WasOpened o r false → N → EndsByLink o r N P
+  Ran : P → EndsByLink o r N P
 
 -- It did all its turns, and its life handed to the clients of its sessions what `last` tells. Where it is known of some of
 -- the objects that it was given for which lists they stood, and nothing of the others, each client that is one of those, or

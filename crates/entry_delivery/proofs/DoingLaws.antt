@@ -195,23 +195,29 @@ does_then scripts P Q W join s t u a b first next =
       received = join first.handings next.handings first.received next.received;
     }
 
--- what asks no client, and hands nothing to any
-pub does_plain : (scripts : List (Option (List (Option VoteItem)))) (P : List Handing → Type 0) (s t k : Core) → P [] → t ≡ k → Follows s t → Does scripts P s t (λ f. k)
-does_plain scripts P s t k p e on =
+-- what asks no client, and hands this to them
+pub does_handing : (scripts : List (Option (List (Option VoteItem)))) (P : List Handing → Type 0) (s t k : Core) (hs : List Handing) → P hs → t ≡ k → length s.records ≤ length t.records → t.sessions.sessions ≡ s.sessions.sessions → handed_in t.records ≡ handed_in s.records ++ told_by hs
+    → AreFor s.sessions hs → KeepsOwners s.sessions t.sessions → (along : Along s t) → Stated s along.records hs → Does scripts P s t (λ f. k)
+does_handing scripts P s t k hs p e grows lives told owned owners along stated =
     record {
       asked = [];
       filled = tt;
-      placed = on.grows;
-      lives = on.lives;
+      placed = grows;
+      lives = lives;
       does = λ f h. e;
-      handings = [];
-      told = on.handed ∙ sym (append-nil (handed_in s.records));
-      owned = tt;
-      owners = on.owners;
-      along = on.along;
-      stated = unstated s t on.along on.handed;
+      handings = hs;
+      told = told;
+      owned = owned;
+      owners = owners;
+      along = along;
+      stated = stated;
       received = p;
     }
+
+-- what asks no client, and hands nothing to any
+pub does_plain : (scripts : List (Option (List (Option VoteItem)))) (P : List Handing → Type 0) (s t k : Core) → P [] → t ≡ k → Follows s t → Does scripts P s t (λ f. k)
+does_plain scripts P s t k p e on =
+    does_handing scripts P s t k [] p e on.grows on.lives (on.handed ∙ sym (append-nil (handed_in s.records))) tt on.owners on.along (unstated s t on.along on.handed)
 
 -- nothing at all
 pub does_nothing : (scripts : List (Option (List (Option VoteItem)))) (P : List Handing → Type 0) (s : Core) → P [] → Does scripts P s s (λ f. s)
@@ -255,27 +261,9 @@ does_before scripts P s t u a k first e on =
       received = first.received;
     }
 
--- what is handed, in other words
-pub does_weaker : (scripts : List (Option (List (Option VoteItem)))) (P Q : List Handing → Type 0) (s t : Core) (a : Answering → Core) → ((hs : List Handing) → P hs → Q hs) → Does scripts P s t a → Does scripts Q s t a
-does_weaker scripts P Q s t a weaker done =
-    record {
-      asked = done.asked;
-      filled = done.filled;
-      placed = done.placed;
-      lives = done.lives;
-      does = done.does;
-      handings = done.handings;
-      told = done.told;
-      owned = done.owned;
-      owners = done.owners;
-      along = done.along;
-      stated = done.stated;
-      received = weaker done.handings done.received;
-    }
-
--- the same row in other words
-pub does_as : (scripts : List (Option (List (Option VoteItem)))) (P : List Handing → Type 0) (s t : Core) (a b : Answering → Core) → ((f : Answering) → a f ≡ b f) → Does scripts P s t a → Does scripts P s t b
-does_as scripts P s t a b same done =
+-- the same row in other words, and this too holds of what is handed
+pub does_with : (scripts : List (Option (List (Option VoteItem)))) (P Q : List Handing → Type 0) (s t : Core) (a b : Answering → Core) → ((f : Answering) → a f ≡ b f) → (done : Does scripts P s t a) → Q done.handings → Does scripts Q s t b
+does_with scripts P Q s t a b same done q =
     record {
       asked = done.asked;
       filled = done.filled;
@@ -288,8 +276,16 @@ does_as scripts P s t a b same done =
       owners = done.owners;
       along = done.along;
       stated = done.stated;
-      received = done.received;
+      received = q;
     }
+
+-- what is handed, in other words
+pub does_weaker : (scripts : List (Option (List (Option VoteItem)))) (P Q : List Handing → Type 0) (s t : Core) (a : Answering → Core) → ((hs : List Handing) → P hs → Q hs) → Does scripts P s t a → Does scripts Q s t a
+does_weaker scripts P Q s t a weaker done = does_with scripts P Q s t a a (λ f. refl) done (weaker done.handings done.received)
+
+-- the same row in other words
+pub does_as : (scripts : List (Option (List (Option VoteItem)))) (P : List Handing → Type 0) (s t : Core) (a b : Answering → Core) → ((f : Answering) → a f ≡ b f) → Does scripts P s t a → Does scripts P s t b
+does_as scripts P s t a b same done = does_with scripts P P s t a b same done done.received
 
 -- ---- one after another over a list
 

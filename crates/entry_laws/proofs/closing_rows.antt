@@ -4,7 +4,10 @@ pub mod Lists
 pub mod Evident
 pub mod Entered
 pub mod At
+pub mod Levels
 pub mod Calms
+pub mod Quiet
+pub mod Begins
 pub mod Tallies
 pub mod Leading
 pub mod Ending

@@ -1,6 +1,5 @@
 pub mod At
 pub mod Puts
-pub mod Hands
 pub mod Laters
 pub mod Tallies
 pub mod Leading
@@ -10,8 +9,6 @@ pub mod Brought
 pub mod ViewWorks
 pub mod Entering
 pub mod Ticking
-pub mod Tellings
 pub mod Following
-pub mod Calling
 pub mod Steps
 pub mod Law

@@ -1,6 +1,5 @@
 pub mod Holding
 pub mod At
-pub mod Quiet
 pub mod Leading
 pub mod Deciding
 pub mod Following
@@ -8,7 +7,6 @@ pub mod Entering
 pub mod Ticking
 pub mod Ending
 pub mod Tied
-pub mod Acted
 pub mod Steps
 pub mod Evident
 pub mod Renoted

@@ -1,9 +1,8 @@
 -- What the leader's decisions keep, and that a join which is not refused can wait.
-use Rattle.std.proofs.Common.{◌≡◌, ℕ, Bool, true, false, List, [], ◌++◌, length, get_or, Option, Some, None, refl, sym, ap, ◌∙◌, arith, length-append}
+use Rattle.std.proofs.Common.{◌≡◌, ℕ, Bool, true, false, List, [], ◌++◌, length, Option, Some, None, refl, sym, ap, ◌∙◌, arith, length-append}
 use Rattle.std.specs.Prelude.{◌==◌, ◌||◌, ◌&&◌, not, nat_le, find}
 use Rattle.std.proofs.lemmas.List.Folds.{list_any-append}
 use Rattle.rsct_packet.specs.declared.ids.ProviderId.{ProviderId}
-use Rattle.rsct_packet.specs.Search.{front_len}
 use Rattle.group_attr.specs.declared.attrs.Attrs.{Attrs}
 use Rattle.group_attr.specs.declared.attrs.Phases.{Phases}
 use Rattle.group_attr.specs.Agree.{agree}
@@ -22,11 +21,11 @@ use Rattle.node_state.specs.State.{InNameOrder, row_of, row_found, with_led, led
 use Rattle.node_state.specs.Leading.{begins}
 use Rattle.node_state.specs.HandOn.{Answering}
 use Rattle.node_state.specs.Deciding.{keep_decision, refused, lacks_source, source_len, is_idle_empty, meant_attrs, join_refusal, wait_join, decide_join, other_refusal, decide_change, decided}
-use Rattle.node_groups.specs.Places.{stops_at, row_opened}
+use Rattle.node_groups.specs.Places.{row_reached}
 use Rattle.node_groups.specs.Keeps.{Keeps}
 use Rattle.node_groups.proofs.KeepLaws.{keeps_then, keeps_as, led_keeps}
 use Rattle.node_state.proofs.NameOrder.{row_here}
-use Rattle.node_groups.proofs.RowLaws.{opened_row}
+use Rattle.node_groups.proofs.RowLaws.{reached_found}
 use Rattle.entry_delivery.specs.Received.{Handing}
 use Rattle.entry_delivery.specs.Doing.{Does}
 use Rattle.entry_delivery.proofs.DoingLaws.{does_after, does_as}
@@ -112,12 +111,11 @@ decision_waiting : (s : Core) (g : List ℕ) (p : ProviderId) (r : ℕ) (y : Opt
 unfolding keep_decision with_led
 decision_waiting s g p r y o = ap (λ (x : GroupRow). x.led.waiting) (row_here g _ (λ x. refl) s o)
 
--- it can wait in the row that is opened once the decision is kept
-pub still_free : (s t : Core) (g : List ℕ) (p : ProviderId) (r : ℕ) (rows : List GroupRow) (i : ℕ) (x : GroupRow) → InNameOrder s.groups → t ≡ keep_decision s g p r None → added_as p [] (led_of s g).waiting ≡ Queued
-    → i ≡ front_len (stops_at g) t.groups → rows ≡ row_opened g t.groups → x ≡ get_or rows i x → added_as p [] x.led.waiting ≡ Queued
+-- it can wait in the row that is reached once the decision is kept
+pub still_free : (s t : Core) (g : List ℕ) (p : ProviderId) (r : ℕ) (x : GroupRow) → InNameOrder s.groups → t ≡ keep_decision s g p r None → added_as p [] (led_of s g).waiting ≡ Queued → x ≡ row_reached g t.groups → added_as p [] x.led.waiting ≡ Queued
 unfolding led_of row_of
-still_free s t g p r rows i x o kept free at opened read =
+still_free s t g p r x o kept free reached =
     let ordered : InNameOrder t.groups = (keeps_as s (keep_decision s g p r None) t kept (decision_keeps s g p r None)).order o in
-    let row : x ≡ row_found g (find (has_name g) t.groups) = opened_row g t.groups rows i x ordered at opened read in
+    let row : x ≡ row_found g (find (has_name g) t.groups) = reached ∙ reached_found g t.groups ordered in
     let waiting : x.led.waiting ≡ (row_of s g).led.waiting = ap (λ (z : GroupRow). z.led.waiting) row ∙ (ap (λ (u : Core). (row_of u g).led.waiting) kept ∙ decision_waiting s g p r None o) in
     rw waiting free

@@ -27,6 +27,7 @@ use Rattle.group_deciding.specs.Passing.{passed, DoesPass}
 use Rattle.group_deciding.specs.BeginFailures.{of_members, failures_chosen, failures_taken}
 use Rattle.group_deciding.specs.BeginJoins.{chosen_joins, chosen_attrs, sourced, unsourced, joins_chosen}
 use Rattle.group_deciding.proofs.PassLaws.{pass_next, pass_then, pass_begins, pass_nothing, pass_after, pass_as}
+use Rattle.group_deciding.proofs.TickLaws.{led_head, led_tail}
 
 empty_where : {A : Type 0} (xs : List A) → length xs ≡ 0 → is_empty xs ≡ true
 empty_where [] e = refl
@@ -260,25 +261,17 @@ passes_on scripts P Q W join s t u true (suc n) most ne e first next =
     pass_next scripts P Q W join s t u true (λ f. one_pass most f s) (λ f p. passes_next n most f p) first
     (does_as scripts Q t u (λ f. passes (suc n - 1) most f t) (λ f. passes_next n most f (passed t true)) (λ f. ap (λ (m : ℕ). passes m most f t) one) next)
 
-frozen_ends : (s t : Core) (b : Bool) → b ≡ true → s ≡ elim b [ true ↦ s | false ↦ t ]
-frozen_ends s t true e = refl
-frozen_ends s t false e = absurd cc
-
 -- a frozen node does nothing
 pub ended_frozen : (scripts : List (Option (List (Option VoteItem)))) (P : List Handing → Type 0) → P [] → (s : Core) → frozen s ≡ true → Does scripts P s s (λ f. end_step f s)
 unfolding end_step
-ended_frozen scripts P p s e = does_as scripts P s s (λ f. s) (λ f. end_step f s) (λ f. frozen_ends s (passes (most_begun s) (most_begun s) f s) (frozen s) e) (does_nothing scripts P s p)
-
-ended_is : (s t : Core) (b : Bool) → b ≡ false → t ≡ elim b [ true ↦ s | false ↦ t ]
-ended_is s t true e = absurd cc
-ended_is s t false e = refl
+ended_frozen scripts P p s e = does_as scripts P s s (λ f. s) (λ f. end_step f s) (λ f. led_head (frozen s) s (passes (most_begun s) (most_begun s) f s) e) (does_nothing scripts P s p)
 
 -- a node that is not frozen goes on
 pub ended_thawed : (scripts : List (Option (List (Option VoteItem)))) (P : List Handing → Type 0) (s t : Core) (most : ℕ) → frozen s ≡ false → most ≡ most_begun s → Does scripts P s t (λ f. passes most most f s) → Does scripts P s t (λ f. end_step f s)
 unfolding end_step
 ended_thawed scripts P s t most e counted done =
     does_as scripts P s t (λ f. passes most most f s) (λ f. end_step f s)
-    (λ f. ap (λ n. passes n n f s) counted ∙ ended_is s (passes (most_begun s) (most_begun s) f s) (frozen s) e) done
+    (λ f. ap (λ n. passes n n f s) counted ∙ led_tail (frozen s) s (passes (most_begun s) (most_begun s) f s) e) done
 
 -- nothing is owed
 pub none_owed : (scripts : List (Option (List (Option VoteItem)))) (P : List Handing → Type 0) → P [] → (s : Core) (g h : List ℕ) (st : GroupState) → target.due st (known_state s h) ≡ None → DoesPass scripts P s s false (λ f. due_begins f s g st h (target.due st (known_state s h)))

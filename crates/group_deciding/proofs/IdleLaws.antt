@@ -1,20 +1,18 @@
 -- In an idle group nothing begins, and a pass over groups that are all idle does nothing.
-use Rattle.std.proofs.Common.{◌≡◌, ℕ, zero, suc, Bool, true, false, cond, List, [], ◌∷◌, length, map, filter, Option, Some, None, refl, sym, ap, ◌∙◌, subst, inl, inr, eqb-true, arith}
-use Rattle.std.specs.Prelude.{fold, find, not, ◌||◌, is_none}
+use Rattle.std.proofs.Common.{◌≡◌, ℕ, zero, suc, Bool, true, false, cond, List, [], ◌∷◌, length, map, filter, Option, Some, None, refl, sym, ap, ◌∙◌, inl, inr, eqb-true, arith}
+use Rattle.std.specs.Prelude.{fold, not, ◌||◌, is_none}
 use Rattle.std.specs.List.{list_all}
-use Rattle.std.specs.Str.{bytes_eq}
 use Rattle.std.proofs.lemmas.Bool.{and_parts}
 use Rattle.rsct_packet.specs.Search.{Has}
-use Rattle.rsct_packet.specs.Text.{name_lt}
 use Rattle.proposal_core.specs.declared.group_state.GroupState.{GroupState}
 use Rattle.proposal_core.specs.Lists.{list_or_new}
 use Rattle.client_callbacks.specs.declared.votes.VoteItem.{VoteItem}
 use Rattle.node_state.specs.declared.group.GroupRow.{GroupRow}
 use Rattle.node_state.specs.declared.state.Core.{Core}
-use Rattle.node_state.specs.State.{AllAfter, InNameOrder, has_name, row_found, row_of, led_of, list_of, state_of, leads_in, led_groups}
+use Rattle.node_state.specs.State.{InNameOrder, row_of, led_of, list_of, state_of, leads_in, led_groups}
 use Rattle.node_state.specs.HandOn.{Answering}
 use Rattle.node_state.specs.Ending.{Pass, quiet, failures_begin, source_begins, joins_begin, or_due, or_joins, may_begin, first_begins, group_begins, one_pass}
-use Rattle.node_state.proofs.NameOrder.{text_same, text_self, lt_self, row_itself}
+use Rattle.node_state.proofs.NameOrder.{row_itself}
 use Rattle.entry_delivery.specs.Received.{Handing}
 use Rattle.group_deciding.specs.Passing.{passed, DoesPass}
 use Rattle.group_deciding.specs.Idle.{owes_nothing, is_idle, is_idle_or_not_led}

@@ -6,33 +6,15 @@ use Rattle.node_state.specs.HandOn.{Answering}
 use Rattle.node_state.specs.Ending.{Pass, begun_now}
 use Rattle.entry_delivery.specs.Received.{Handing}
 use Rattle.entry_delivery.specs.Doing.{Joins, Follows, Does}
-use Rattle.entry_delivery.proofs.DoingLaws.{does_then, does_after, does_as, does_weaker}
+use Rattle.entry_delivery.proofs.DoingLaws.{does_then, does_after, does_as, does_with, does_weaker}
 use Rattle.group_deciding.specs.Passing.{passed, AreThese, Before, DoesPass}
-
--- what is handed is what it is
-exactly : (scripts : List (Option (List (Option VoteItem)))) (Q : List Handing → Type 0) (s t : Core) (a : Answering → Core) (d : Does scripts Q s t a) → Does scripts (AreThese d.handings) s t a
-exactly scripts Q s t a d =
-    record {
-      asked = d.asked;
-      filled = d.filled;
-      placed = d.placed;
-      lives = d.lives;
-      does = d.does;
-      handings = d.handings;
-      told = d.told;
-      owned = d.owned;
-      owners = d.owners;
-      along = d.along;
-      stated = d.stated;
-      received = refl;
-    }
 
 -- what is done next
 pub pass_next : (scripts : List (Option (List (Option VoteItem)))) (P Q W : List Handing → Type 0) → Joins P Q W → (s t u : Core) (b : Bool) (a : Answering → Pass) (rest : Answering → Pass → Core)
     → DoesPass scripts P s t b a → Does scripts Q t u (λ f. rest f (passed t b)) → Does scripts W s u (λ f. rest f (a f))
 pass_next scripts P Q W join s t u b a rest first done =
     does_weaker scripts (Before P done.handings) W s u (λ f. rest f (a f)) (λ xs h. rw h.2 (join h.0 done.handings h.1 done.received))
-    (first.next u rest done.handings (exactly scripts Q t u (λ f. rest f (passed t b)) done))
+    (first.next u rest done.handings (does_with scripts Q (AreThese done.handings) t u (λ f. rest f (passed t b)) (λ f. rest f (passed t b)) (λ f. refl) done refl))
 
 joins_these : (P : List Handing → Type 0) (hs : List Handing) → Joins P (AreThese hs) (Before P hs)
 joins_these P hs xs ys p e = (xs, p, ap (λ (zs : List Handing). xs ++ zs) e)

@@ -1,11 +1,8 @@
 -- Joins that wait, and what is kept of them.
-use Rattle.std.proofs.Common.{◌≡◌, ℕ, suc, Bool, true, false, cond, List, [], ◌∷◌, ◌++◌, Option, Some, None, refl, sym, ap}
-use Rattle.std.specs.Prelude.{◌||◌, remove}
-use Rattle.std.specs.Option.{option_map}
+use Rattle.std.proofs.Common.{◌≡◌, List, ◌++◌, sym}
+use Rattle.std.specs.Prelude.{◌||◌}
 use Rattle.std.proofs.lemmas.List.Folds.{list_any-append}
 use Rattle.rsct_packet.specs.declared.ids.ProviderId.{ProviderId}
-use Rattle.rsct_packet.specs.Lists.{drop_where}
-use Rattle.rsct_packet.specs.Search.{place_where}
 use Rattle.batch_rules.specs.Waiting.{same_instance, has_instance}
 
 pub here_or_waits : (present joins : List ProviderId) (p : ProviderId) → (has_instance present p || has_instance joins p) ≡ has_instance (present ++ joins) p

@@ -98,11 +98,12 @@ groups_do scripts P Q W join s t u gs g some same first next =
     does_as scripts W s u (λ f. fold (tick_group f) (tick_group f s g) (take (length gs - 1) (drop 1 gs))) (λ f. fold (tick_group f) s gs) (λ f. ap (fold (tick_group f) s) (sym (groups_from gs g some same)))
     (does_then scripts P Q W join s t u (λ f. tick_group f s g) (λ f v. fold (tick_group f) v (take (length gs - 1) (drop 1 gs))) first next)
 
-led_head : (b : Bool) (s t : Core) → b ≡ true → s ≡ elim b [ true ↦ s | false ↦ t ]
+-- where a node is frozen, and where it is not
+pub led_head : (b : Bool) (s t : Core) → b ≡ true → s ≡ elim b [ true ↦ s | false ↦ t ]
 led_head true s t e = refl
 led_head false s t e = absurd cc
 
-led_tail : (b : Bool) (s t : Core) → b ≡ false → t ≡ elim b [ true ↦ s | false ↦ t ]
+pub led_tail : (b : Bool) (s t : Core) → b ≡ false → t ≡ elim b [ true ↦ s | false ↦ t ]
 led_tail true s t e = absurd cc
 led_tail false s t e = refl
 

@@ -13,7 +13,7 @@ use crate::refusals::refuse;
 use crate::sources::{lacks_source, source_len};
 use client_callbacks::Why;
 use group_attr::Attrs;
-use node_groups::{keep_decision, open, state_of, waiting_joins};
+use node_groups::{keep_decision, row_mut, state_of, waiting_joins};
 use node_state::Core;
 use proposal_core::GroupState;
 use rsct_packet::{List, MAX_PROVIDERS, Name, NoMemory, ProviderId};
@@ -84,7 +84,7 @@ fn join_refusal(
 }
 
 /// A join waits, and this decision is kept.
-#[tactic(auto, unfolding(node_state::specs::Deciding::wait_join, node_state::specs::State::with_led, node_state::specs::State::with_row), using(node_groups::proofs::RowLaws::row_edits, crate::proofs::DecidingLaws::still_free, std::proofs::lemmas::Grind::common_steps))]
+#[tactic(auto, unfolding(node_state::specs::Deciding::wait_join, node_state::specs::State::with_led, node_state::specs::State::with_row), using(node_groups::proofs::RowLaws::row_written, crate::proofs::DecidingLaws::still_free, std::proofs::lemmas::Grind::common_steps))]
 fn wait_join(
     core: &mut Core,
     alloc: Global,
@@ -100,8 +100,8 @@ fn wait_join(
         (core.new ≡ wait_join core.old group.now provider request attrs.now idle) }
 {
     keep_decision(core, alloc, group, provider, request, None)?;
-    let i = open(&mut core.groups, alloc, group)?;
-    queue_join(&mut core.groups.rows[i], alloc, provider, attrs, idle)
+    let row = row_mut(&mut core.groups, alloc, group)?;
+    queue_join(row, alloc, provider, attrs, idle)
 }
 
 /// Decides a join: it waits or is refused.

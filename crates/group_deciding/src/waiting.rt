@@ -7,14 +7,14 @@ ghost use Rattle.node_state.specs.Leading.{with_waiting};
 
 use arrayvec::ArrayVec;
 use group_attr::Batch;
-use node_groups::open;
+use node_groups::row_mut;
 use node_state::Core;
 use proposal_core::Failure;
 use rsct_packet::{Name, NoMemory, ProviderId};
 use std::alloc::Global;
 
 /// Takes the failures that begin next out of the group's queue.
-#[tactic(auto, unfolding(node_state::specs::Leading::with_waiting, node_state::specs::State::with_led, node_state::specs::State::with_row, node_state::specs::State::led_of, node_state::specs::State::row_of), using(node_groups::proofs::RowLaws::row_edits, node_groups::proofs::RowLaws::opened_row, std::proofs::lemmas::Grind::common_steps))]
+#[tactic(auto, unfolding(node_state::specs::Leading::with_waiting, node_state::specs::State::with_led, node_state::specs::State::with_row, node_state::specs::State::led_of, node_state::specs::State::row_of), using(node_groups::proofs::RowLaws::row_written, node_groups::proofs::RowLaws::reached_found, std::proofs::lemmas::Grind::common_steps))]
 pub fn take_failures(
     core: &mut Core,
     alloc: Global,
@@ -27,13 +27,12 @@ pub fn take_failures(
     ensures rule { OnOk result
         (core.new ≡ with_waiting core.old group.now (failures_left batch)) }
 {
-    let i = open(&mut core.groups, alloc, group)?;
-    let row = &mut core.groups.rows[i];
+    let row = row_mut(&mut core.groups, alloc, group)?;
     Ok(row.led.waiting.next_failures(batch))
 }
 
 /// Takes the joins that begin next out of the group's queue.
-#[tactic(auto, unfolding(node_state::specs::Leading::with_waiting, node_state::specs::State::with_led, node_state::specs::State::with_row, node_state::specs::State::led_of, node_state::specs::State::row_of), using(node_groups::proofs::RowLaws::row_edits, node_groups::proofs::RowLaws::opened_row, std::proofs::lemmas::Grind::common_steps))]
+#[tactic(auto, unfolding(node_state::specs::Leading::with_waiting, node_state::specs::State::with_led, node_state::specs::State::with_row, node_state::specs::State::led_of, node_state::specs::State::row_of), using(node_groups::proofs::RowLaws::row_written, node_groups::proofs::RowLaws::reached_found, std::proofs::lemmas::Grind::common_steps))]
 pub fn take_joins(
     core: &mut Core,
     alloc: Global,
@@ -46,7 +45,6 @@ pub fn take_joins(
     ensures apart { IfOk result (λ ps. AreProviders ps.items) }
     ensures rule { OnOk result (core.new ≡ with_waiting core.old group.now (joins_left batch)) }
 {
-    let i = open(&mut core.groups, alloc, group)?;
-    let row = &mut core.groups.rows[i];
+    let row = row_mut(&mut core.groups, alloc, group)?;
     Ok(row.led.waiting.next_joins(batch))
 }

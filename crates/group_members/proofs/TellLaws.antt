@@ -28,7 +28,7 @@ use Rattle.node_groups.specs.Keeps.{Stays}
 use Rattle.node_groups.proofs.KeepLaws.{stays_itself}
 use Rattle.entry_delivery.specs.Received.{Receive}
 use Rattle.entry_delivery.specs.Doing.{Does}
-use Rattle.entry_delivery.proofs.DoingLaws.{receive_nothing, does_plain, follows_itself}
+use Rattle.entry_delivery.proofs.DoingLaws.{receive_nothing, does_handing, does_plain, follows_itself}
 use Rattle.entry_delivery.proofs.OwnerLaws.{telling_owners}
 use Rattle.entry_delivery.proofs.ReceiveLaws.{receive_one}
 use Rattle.node_owed.proofs.SendLaws.{groups_stay}
@@ -82,20 +82,12 @@ untold_does R scripts cs s p r y e = does_plain scripts (Receive R cs cs) s s (t
 told_if_does : {C : Type 0} (R : C → List Handed → Type 0) (scripts : List (Option (List (Option VoteItem)))) (cs ds : List C) (s : Core) (p : ProviderId) (r : ℕ) (y : Why) → is_numbered r (outstanding s.sessions p) ≡ true
     → ((hs : List (List Handed)) → StandFor R cs hs → StandFor R ds (told_lists s.sessions p r y hs)) → Does scripts (Receive R cs ds) s (told_if s p r y true) (λ f. told_if s p r y true)
 unfolding told_if recorded recorded_all with_sessions along_records
-told_if_does R scripts cs ds s p r y e stand = record {
-  asked = [];
-  filled = tt;
-  placed = omega (arith, length-append s.records (happened.Told p r y ∷ []));
-  lives = (telling_same s.sessions p r y).0;
-  does = λ f h. refl;
-  handings = record { place = place_of s.sessions p; what = happened.Told p r y; after = empty_state } ∷ [];
-  told = filter-append is_handed s.records (happened.Told p r y ∷ []);
-  owned = ((refl, λ gone none. asked_there r (outstanding s.sessions p) e none), tt);
-  owners = telling_owners s.sessions p r y;
-  along = along_records s (told_if s p r y true) (happened.Told p r y ∷ []) refl refl (λ g st. refl);
-  stated = λ o. refl;
-  received = receive_one R cs ds (place_of s.sessions p) (Informed (told.Refused p r y)) (happened.Told p r y) refl (λ hs h. subst (StandFor R ds) (told_for s.sessions p r y hs e) (stand hs h));
-}
+told_if_does R scripts cs ds s p r y e stand =
+    let t : Core = told_if s p r y true in
+    does_handing scripts (Receive R cs ds) s t t (record { place = place_of s.sessions p; what = happened.Told p r y; after = empty_state } ∷ [])
+    (receive_one R cs ds (place_of s.sessions p) (Informed (told.Refused p r y)) (happened.Told p r y) refl (λ hs h. subst (StandFor R ds) (told_for s.sessions p r y hs e) (stand hs h)))
+    refl (omega (arith, length-append s.records (happened.Told p r y ∷ []))) (telling_same s.sessions p r y).0 (filter-append is_handed s.records (happened.Told p r y ∷ []))
+    ((refl, λ gone none. asked_there r (outstanding s.sessions p) e none), tt) (telling_owners s.sessions p r y) (along_records s t (happened.Told p r y ∷ []) refl refl (λ g st. refl)) (λ o. refl)
 
 told_row : (s : Core) (x : SessionState) (rs : List Happened) (p : ProviderId) (r : ℕ) (y : Why) → is_numbered r (outstanding s.sessions p) ≡ true → x ≡ take_telling s.sessions p r y → rs ≡ s.records ++ happened.Told p r y ∷ []
     → record s { sessions = x; records = rs } ≡ take_tell s p r y

@@ -20,12 +20,12 @@ use Rattle.transcript.specs.Kinds.{kinds_text, kinds_of}
 use Rattle.load_script.specs.Script.{load_script}
 use Rattle.net_script.specs.PlaySafe.{ScriptIsSafe, KeptRunIsSafe}
 use Rattle.daemon_model.specs.Settings.{all_places}
-use Rattle.daemon_run.specs.Ends.{NothingDone}
+use Rattle.daemon_run.specs.Ends.{NothingDone, EndsByLink}
 use Rattle.daemon_run.specs.declared.serving.Serving.{Serving}
 use Rattle.daemon_model.specs.Lives.{ServesAs, ServesTo, ServesFront}
 use Rattle.status_client.specs.declared.question.Asking.{Asking}
 use Rattle.status_client.specs.Waiting.{nothing_heard}
-use Rattle.status_client.specs.Asked.{Answered, Unanswered, Failing, AsksThen, EndsByLink}
+use Rattle.status_client.specs.Asked.{Answered, Unanswered, Failing, AsksThen}
 use Rattle.client_run.specs.declared.client.Client.{Client}
 use Rattle.client_run.specs.declared.serving.Usage.{Usage}
 use Rattle.client_run.specs.Running as used
@@ -281,7 +281,7 @@ GivesFaults x a question sent = Failing question a.turns nothing_heard sent x.ca
 
 -- the link could not be opened, and nothing more was done; or sixteen receives in a row failed
 abbrev pub AsksNoMore : Seen → Asking → Config → Type 0
-AsksNoMore x a c = EndsByLink x.opened x.opened_now x.calls x.calls_now (AsksOver x a (GivesFaults x a) c)
+AsksNoMore x a c = EndsByLink x.opened x.opened_now (Same x.calls x.calls_now) (AsksOver x a (GivesFaults x a) c)
 
 -- ---- what a client leaves
 
@@ -320,7 +320,7 @@ BreaksOff x u lines c start = used.Broken lines c u.turns start x.calls_now x.he
 
 -- the link could not be opened, and nothing more was done; or this
 abbrev pub UsesOr : Seen → Type 0 → Type 0
-UsesOr x P = usage.EndsByLink x.opened x.opened_now x.calls x.calls_now x.held x.now x.moments x.moments_now P
+UsesOr x P = EndsByLink x.opened x.opened_now (NothingDone x.calls x.calls_now x.held x.now x.moments x.moments_now) P
 
 -- it broke off
 abbrev pub UsesPart : Seen → Usage → Script → Type 0

@@ -1,12 +1,11 @@
 -- What a daemon joins: of datagrams that were sent, whole messages that were sent.
 use Rattle.std.proofs.Common.{◌≡◌, ◌<◌, ℕ, List, [], ◌∷◌, ◌++◌, length, Option, Some, refl, sym, ap, ◌∙◌, subst, inl, inr, arith}
+use Rattle.rsct_packet.proofs.HasLaws.{has_append, append_has_left, append_has_right}
 use Rattle.piece_link.specs.Joining.{Joining, taken}
 use Rattle.piece_link.specs.Pieces.{Message, Piece, piece_at, piece_count, data_of, head_of, pieces_of}
 use Rattle.piece_link.specs.Answers.{Among, joining_after, answer_for, answer_to, answers_to, CanBeCut, AreDistinct, AreDrawn}
-use Rattle.piece_link.proofs.OnceLaw.{among_append}
 use Rattle.piece_link.proofs.ReadLaws.{piece_again, has_index}
 use Rattle.piece_link.proofs.SelfLaw.{joined_to_themselves}
-use Rattle.network_safety.proofs.Messages.{among_left, among_right}
 
 -- what is kept of datagrams that were drawn from these messages
 pub record IsJoinedOf (ms : List Message) (j : Joining) : Type 0 where
@@ -20,7 +19,7 @@ none_joined ms = record { datagrams = []; drawn = λ b h. absurd h; is = refl }
 
 pub more_joined : (new ms : List Message) (j : Joining) → IsJoinedOf ms j → IsJoinedOf (new ++ ms) j
 more_joined new ms j k =
-    record { datagrams = k.datagrams; drawn = λ b h. (let d = k.drawn b h in (d.0, among_right d.0 new ms d.1, d.2)); is = k.is }
+    record { datagrams = k.datagrams; drawn = λ b h. (let d = k.drawn b h in (d.0, append_has_right d.0 new ms d.1, d.2)); is = k.is }
 
 -- ---- one more datagram
 
@@ -31,12 +30,12 @@ joining_on j (x ∷ bs) b = joining_on (taken j x).joining bs b
 
 answers_on : (j : Joining) (bs : List (List ℕ)) (b : List ℕ) (a : Message) → Among a (answer_to (joining_after j bs) b) → Among a (answers_to j (bs ++ b ∷ []))
 unfolding joining_after answers_to
-answers_on j [] b a h = among_left a (answer_to j b) [] h
-answers_on j (x ∷ bs) b a h = among_right a (answer_to j x) (answers_to (taken j x).joining (bs ++ b ∷ [])) (answers_on (taken j x).joining bs b a h)
+answers_on j [] b a h = append_has_left a (answer_to j b) [] h
+answers_on j (x ∷ bs) b a h = append_has_right a (answer_to j x) (answers_to (taken j x).joining (bs ++ b ∷ [])) (answers_on (taken j x).joining bs b a h)
 
 module _ (ms : List Message) (fits : (m : Message) → Among m ms → CanBeCut m) (distinct : AreDistinct ms) (j : Joining) (k : IsJoinedOf ms j) (b : List ℕ) (m : Message) (among : Among m ms) (piece : Among b (pieces_of m)) where
   drawn_on : AreDrawn ms (k.datagrams ++ b ∷ [])
-  drawn_on x h = elim (among_append x k.datagrams (b ∷ []) h) [ inl a ↦ k.drawn x a | inr a ↦ last a ]
+  drawn_on x h = elim (has_append x k.datagrams (b ∷ []) h) [ inl a ↦ k.drawn x a | inr a ↦ last a ]
     where
       last : Among x (b ∷ []) → (n : Message) × Among n ms × Among x (pieces_of n)
       last (inl e) = (m, among, subst (λ z. Among z (pieces_of m)) (sym e) piece)

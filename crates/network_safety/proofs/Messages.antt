@@ -5,25 +5,14 @@ use Rattle.std.proofs.lemmas.Bool.{leb-true}
 use Rattle.std.proofs.lemmas.Grind.{flat_map-append}
 use Rattle.rsct_packet.specs.Search.{Has}
 use Rattle.rsct_packet.proofs.FieldLaws.{and_true}
+use Rattle.rsct_packet.proofs.HasLaws.{has_append, append_has_left, append_has_right}
 use Rattle.hags_io.specs.declared.link.LinkCall.{LinkCall}
 use Rattle.node_state.specs.declared.packet.Packet.{Packet}
 use Rattle.node_state.specs.Bytes.{bytes_of}
 use Rattle.piece_link.specs.Pieces.{Message, can_cut, message_by, pieces_of}
 use Rattle.piece_link.specs.Answers.{Among, CanBeCut, SameKey, AreDistinct}
-use Rattle.piece_link.proofs.OnceLaw.{among_append}
 use Rattle.daemon_model.specs.Sent.{piece_call, packet_pieces, calls_if, number_if, goes_out, carried_calls, number_over, Numbered, Exchange, piece_of, numbered, carried, sent_calls, number_after}
 use Rattle.network_model.specs.Fits.{IsSend}
-
--- ---- what is among joined lists
-
-pub among_left : {A : Type 0} (x : A) (xs ys : List A) → Among x xs → Among x (xs ++ ys)
-among_left x [] ys h = absurd h
-among_left x (y ∷ xs) ys (inl e) = inl e
-among_left x (y ∷ xs) ys (inr h) = inr (among_left x xs ys h)
-
-pub among_right : {A : Type 0} (x : A) (xs ys : List A) → Among x ys → Among x (xs ++ ys)
-among_right x [] ys h = h
-among_right x (y ∷ xs) ys h = inr (among_right x xs ys h)
 
 -- ---- the messages of packets
 
@@ -56,7 +45,7 @@ pub record IsMessageIn (xs : List Exchange) (m : Message) : Type 0 where
 pub message_in : (xs : List Exchange) (m : Message) → Among m (messages_in xs) → IsMessageIn xs m
 unfolding messages_in
 message_in [] m h = absurd h
-message_in (x ∷ xs) m h = elim (among_append m (messages_if x.of) (messages_in xs) h) [ inl a ↦ first x.of refl a | inr b ↦ later (message_in xs m b) ]
+message_in (x ∷ xs) m h = elim (has_append m (messages_if x.of) (messages_in xs) h) [ inl a ↦ first x.of refl a | inr b ↦ later (message_in xs m b) ]
   where
     first : (o : Option Numbered) → x.of ≡ o → Among m (messages_if o) → IsMessageIn (x ∷ xs) m
     first None e a = absurd a
@@ -71,8 +60,8 @@ unfolding messages_in
 in_messages [] x n h e = absurd h
 in_messages (y ∷ ys) x n (inl is) e =
     let one : Among (message_of n) (messages_if y.of) = subst (λ (o : Option Numbered). Among (message_of n) (messages_if o)) (sym e ∙ ap (λ (z : Exchange). z.of) is) (inl refl) in
-    among_left (message_of n) (messages_if y.of) (messages_in ys) one
-in_messages (y ∷ ys) x n (inr h) e = among_right (message_of n) (messages_if y.of) (messages_in ys) (in_messages ys x n h e)
+    append_has_left (message_of n) (messages_if y.of) (messages_in ys) one
+in_messages (y ∷ ys) x n (inr h) e = append_has_right (message_of n) (messages_if y.of) (messages_in ys) (in_messages ys x n h e)
 
 -- ---- packets that are sent, from a number on
 
@@ -120,7 +109,7 @@ unfolding sent_calls carried carried_calls number_after number_over
 each_one me inc number [] x h = absurd h
 each_one me inc number (p ∷ ps) x h =
     let next : ℕ = number_over number p in
-    elim (among_append x (carried me inc number p) (sent_calls me inc next ps) h) [
+    elim (has_append x (carried me inc number p) (sent_calls me inc next ps) h) [
       | inl a ↦ first_one me inc number (number_after next ps) p ps (goes_out p) refl (after_le next ps) x a
       | inr b ↦ wider me inc next (number_after next ps) number (number_after next ps) p ps x (past_le (goes_out p) number) (omega arith) (each_one me inc next ps x b)
     ]
@@ -147,12 +136,12 @@ each_message me inc number ps m h =
 -- two parts of a list of messages between which no two have one key
 pub distinct_both : (xs ys : List Message) → AreDistinct xs → AreDistinct ys → ((m n : Message) → Among m xs → Among n ys → SameKey m n → ⊥) → AreDistinct (xs ++ ys)
 distinct_both xs ys left right apart m n hm hn same =
-    elim (among_append m xs ys hm) [
-      | inl a ↦ elim (among_append n xs ys hn) [
+    elim (has_append m xs ys hm) [
+      | inl a ↦ elim (has_append n xs ys hn) [
         | inl b ↦ left m n a b same
         | inr b ↦ absurd (apart m n a b same)
       ]
-      | inr a ↦ elim (among_append n xs ys hn) [
+      | inr a ↦ elim (has_append n xs ys hn) [
         | inl b ↦ absurd (apart n m b a (record { sender = sym same.sender; incarnation = sym same.incarnation; number = sym same.number }))
         | inr b ↦ right m n a b same
       ]

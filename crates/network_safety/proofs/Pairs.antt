@@ -1,5 +1,5 @@
 -- Each packet that was sent is one of those from its sender to its receiver, and has a number there.
-use Rattle.std.proofs.Common.{◌≡◌, ◌<◌, ◌-◌, ℕ, suc, List, [], ◌∷◌, length, Bool, true, false, cond, Some, None, refl, sym, ap, ◌∙◌, subst, inl, inr, arith}
+use Rattle.std.proofs.Common.{◌≡◌, ◌<◌, ◌-◌, ℕ, List, [], ◌∷◌, length, Bool, true, false, Some, None, refl, sym, ap, ◌∙◌, subst, inl, inr, arith}
 use Rattle.std.specs.Prelude.{◌==◌, ◌&&◌, find, fold, nat_lt, nat_le, slice_get}
 use Rattle.std.proofs.lemmas.Bool.{eq-eqb, le-leb, lt-ltb}
 use Rattle.rsct_packet.specs.Search.{Has}
@@ -7,6 +7,7 @@ use Rattle.rsct_packet.proofs.HasLaws.{find_has, has_get}
 use Rattle.rsct_packet.proofs.FieldLaws.{both_true}
 use Rattle.node_state.specs.declared.packet.Packet.{Packet}
 use Rattle.world_model.specs.World.{Pair, World, is_pair, pair_with, pairs_with, posted, kth_in, kth_between}
+use Rattle.world_safety.proofs.Finding.{head_passes, head_fails}
 
 -- each pair counts its packets
 abbrev pub AreCounted : List Pair → Type 0
@@ -60,21 +61,14 @@ with_counted p (y ∷ ys) old = by (is_pair p.from p.to y) (with_counted p ys (�
     by false rest x (inl e) = old x (inl e)
     by false rest x (inr h) = rest x h
 
-module _ (test : Pair → Bool) (y : Pair) (ys : List Pair) where
-  passes : test y ≡ true → find test (y ∷ ys) ≡ Some y
-  passes e = ap (λ b. cond b (Some y) (find test ys)) e
-
-  fails : test y ≡ false → find test (y ∷ ys) ≡ find test ys
-  fails e = ap (λ b. cond b (Some y) (find test ys)) e
-
 new_paired : (p : Packet) (ys : List Pair) → IsPaired p (pairs_with p ys)
 unfolding pairs_with
-new_paired p [] = (first_pair p, passes (is_pair p.from p.to) (first_pair p) [] (own_pair p), inl refl)
+new_paired p [] = (first_pair p, head_passes (is_pair p.from p.to) (first_pair p) [] (own_pair p), inl refl)
 new_paired p (y ∷ ys) = by (is_pair p.from p.to y) refl (new_paired p ys)
   where
     by : (b : Bool) → is_pair p.from p.to y ≡ b → IsPaired p (pairs_with p ys) → IsPaired p (elim b [ true ↦ pair_with p y ∷ ys | false ↦ y ∷ pairs_with p ys ])
-    by true e rest = (pair_with p y, passes (is_pair p.from p.to) (pair_with p y) ys (same_pair p.from p.to p y ∙ e), has_itself p y)
-    by false e rest = (rest.0, fails (is_pair p.from p.to) y (pairs_with p ys) e ∙ rest.1, rest.2)
+    by true e rest = (pair_with p y, head_passes (is_pair p.from p.to) (pair_with p y) ys (same_pair p.from p.to p y ∙ e), has_itself p y)
+    by false e rest = (rest.0, head_fails (is_pair p.from p.to) y (pairs_with p ys) e ∙ rest.1, rest.2)
 
 old_paired : (q p : Packet) (ys : List Pair) → IsPaired p ys → IsPaired p (pairs_with q ys)
 unfolding pairs_with
@@ -83,14 +77,14 @@ old_paired q p (y ∷ ys) h = here (is_pair p.from p.to y) refl (is_pair q.from 
   where
     here : (b : Bool) → is_pair p.from p.to y ≡ b → (d : Bool) → IsPaired p (y ∷ ys) → (IsPaired p ys → IsPaired p (pairs_with q ys)) → IsPaired p (elim d [ true ↦ pair_with q y ∷ ys | false ↦ y ∷ pairs_with q ys ])
     here true e true h rest =
-        let is : y ≡ h.0 = (let f : Some y ≡ Some h.0 = sym (passes (is_pair p.from p.to) y ys e) ∙ h.1 in cc) in
-        (pair_with q y, passes (is_pair p.from p.to) (pair_with q y) ys (same_pair p.from p.to q y ∙ e), has_more q y p (subst (λ (z : Pair). Has p z.packets) (sym is) h.2))
-    here true e false h rest = (h.0, passes (is_pair p.from p.to) y (pairs_with q ys) e ∙ sym (passes (is_pair p.from p.to) y ys e) ∙ h.1, h.2)
+        let is : y ≡ h.0 = (let f : Some y ≡ Some h.0 = sym (head_passes (is_pair p.from p.to) y ys e) ∙ h.1 in cc) in
+        (pair_with q y, head_passes (is_pair p.from p.to) (pair_with q y) ys (same_pair p.from p.to q y ∙ e), has_more q y p (subst (λ (z : Pair). Has p z.packets) (sym is) h.2))
+    here true e false h rest = (h.0, head_passes (is_pair p.from p.to) y (pairs_with q ys) e ∙ sym (head_passes (is_pair p.from p.to) y ys e) ∙ h.1, h.2)
     here false e true h rest =
-        (h.0, fails (is_pair p.from p.to) (pair_with q y) ys (same_pair p.from p.to q y ∙ e) ∙ sym (fails (is_pair p.from p.to) y ys e) ∙ h.1, h.2)
+        (h.0, head_fails (is_pair p.from p.to) (pair_with q y) ys (same_pair p.from p.to q y ∙ e) ∙ sym (head_fails (is_pair p.from p.to) y ys e) ∙ h.1, h.2)
     here false e false h rest =
-        let r = rest (h.0, sym (fails (is_pair p.from p.to) y ys e) ∙ h.1, h.2) in
-        (r.0, fails (is_pair p.from p.to) y (pairs_with q ys) e ∙ r.1, r.2)
+        let r = rest (h.0, sym (head_fails (is_pair p.from p.to) y ys e) ∙ h.1, h.2) in
+        (r.0, head_fails (is_pair p.from p.to) y (pairs_with q ys) e ∙ r.1, r.2)
 
 pub posted_paired : (ps : List Packet) (w : World) → AllPaired w → AllPaired (fold posted w ps)
 unfolding posted

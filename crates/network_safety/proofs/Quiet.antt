@@ -1,52 +1,28 @@
 -- A node rests between events: so a question, and its answer, change nothing at it.
 use Rattle.std.proofs.Common.{◌≡◌, ℕ, List, [], ◌∷◌, Bool, true, false, refl, sym, ap, ◌∙◌, subst, inl, inr}
-use Rattle.std.specs.Prelude.{◌==◌, ◌⊎◌, find}
+use Rattle.std.specs.Prelude.{◌==◌, ◌⊎◌}
 use Rattle.rsct_packet.specs.Search.{Has}
-use Rattle.view_state.specs.Views.{is_frozen}
 use Rattle.node_state.specs.declared.config.Config.{Config}
-use Rattle.node_state.specs.declared.group.GroupRow.{GroupRow}
 use Rattle.node_state.specs.declared.packet.Body.{Body}
 use Rattle.node_state.specs.declared.packet.Body.TheVariants as body
 use Rattle.node_state.specs.declared.packet.Packet.{Packet}
 use Rattle.node_state.specs.declared.state.Core.{Core}
-use Rattle.node_state.specs.State.{row_of, led_of, row_found, frozen, led_groups, with_sessions, has_name}
 use Rattle.node_state.specs.Sending.{packet_on, send_on}
 use Rattle.node_state.specs.Status.{status_text}
 use Rattle.node_state.specs.HandOn.{Answering}
 use Rattle.node_state.specs.Ending.{end_step}
 use Rattle.node_state.specs.Step.{NodeEvent, Given, Garbage, at_work, started, stepped, take_body, packet_rule}
-use Rattle.provider_laws.proofs.resting.Orderly.{Orderly, alike}
-use Rattle.provider_laws.proofs.resting.Onward.{bones_of, led_same}
-use Rattle.provider_laws.proofs.resting.Trying.{Rest, rest_on}
-use Rattle.provider_laws.proofs.resting.Walking.{before_end, on_before_end, stepped_is}
-use Rattle.provider_laws.proofs.resting.Ending.{ended_rests, ended_frozen, ended_same, ended_orderly}
-use Rattle.provider_laws.proofs.resting.Law.{Resting}
+use Rattle.provider_laws.proofs.resting.Walking.{stepped_is}
+use Rattle.provider_laws.proofs.resting.Ending.{ended_same}
+use Rattle.provider_laws.proofs.resting.Law.{Resting, resting_same, started_rests, stepped_rests}
 
 -- ---- a node rests when it starts, and after each step
 
-pub same_rests : (s t : Core) → t.groups ≡ s.groups → t.views ≡ s.views → t.config ≡ s.config → Resting s → Resting t
-unfolding frozen row_of led_of
-same_rests s t groups views config k =
-    record { orderly = alike s t groups k.orderly; rests = λ thawed g i. rest_same g (k.rests (ap is_frozen (sym views) ∙ thawed) g (subst (Has g) (led_same s t (ap bones_of groups) views config) i)) }
-  where
-    rest_same : (g : List ℕ) → Rest s g → Rest t g
-    rest_same g r = rest_on s t g (λ h. ap (λ (rows : List GroupRow). (row_found h (find (has_name h) rows)).list) groups) (ap (λ (rows : List GroupRow). (row_found g (find (has_name g) rows)).led.waiting) groups) r
-
 pub start_rests : (c : Config) (n j : ℕ) → Resting (at_work (started c n j))
-unfolding started with_sessions led_groups
-start_rests c n j = record { orderly = record { order = tt; few = λ row i. absurd i }; rests = λ thawed g i. absurd i }
+start_rests c n j = resting_same (started c n j) (at_work (started c n j)) refl refl refl (started_rests c n j)
 
 pub step_rests : (f : Answering) (s : Core) (e : NodeEvent) → Resting s → Resting (at_work (stepped f s e))
-step_rests f s e k = same_rests (stepped f s e) (at_work (stepped f s e)) refl refl refl ended
-  where
-    u : Core
-    u = before_end f (at_work s) e
-
-    o : Orderly u
-    o = on_before_end f {s = at_work s} e (alike s (at_work s) refl k.orderly)
-
-    ended : Resting (stepped f s e)
-    ended = subst Resting (sym (stepped_is f s e)) (record { orderly = ended_orderly f u o; rests = λ thawed. ended_rests f u o (sym (ended_frozen f u o) ∙ thawed) })
+step_rests f s e k = resting_same (stepped f s e) (at_work (stepped f s e)) refl refl refl (stepped_rests f s e k.orderly)
 
 -- ---- questions and answers
 
@@ -67,7 +43,7 @@ pub record IsQuiet (s t : Core) : Type 0 where
   pub is : t ≡ record s { sends = sends; records = [] }
 
 rests_quiet : (f : Answering) (s u : Core) → Resting s → IsQuiet s u → end_step f u ≡ u
-rests_quiet f s u k q = ended_same f u (same_rests s u (ap (λ (z : Core). z.groups) q.is) (ap (λ (z : Core). z.views) q.is) (ap (λ (z : Core). z.config) q.is) k).rests
+rests_quiet f s u k q = ended_same f u (resting_same s u (ap (λ (z : Core). z.groups) q.is) (ap (λ (z : Core). z.views) q.is) (ap (λ (z : Core). z.config) q.is) k).rests
 
 nothing : (s : Core) → IsQuiet s (at_work s)
 nothing s = record { sends = []; answers = λ p h. absurd h; is = refl }

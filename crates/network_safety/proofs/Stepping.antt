@@ -3,6 +3,7 @@ use Rattle.std.proofs.Common.{◌≡◌, ◌<◌, ◌≤◌, ◌^◌, ℕ, Bool,
 use Rattle.std.specs.Prelude.{◌⊎◌, map}
 use Rattle.rsct_packet.specs.Lists.{reverse_onto}
 use Rattle.rsct_packet.specs.Search.{Has}
+use Rattle.rsct_packet.proofs.HasLaws.{has_append, append_has_left, append_has_right}
 use Rattle.provider_laws.proofs.resting.Law.{Resting}
 use Rattle.node_state.specs.declared.config.Config.{Config}
 use Rattle.node_state.specs.declared.packet.Packet.{Packet}
@@ -18,13 +19,12 @@ use Rattle.world_safety.specs.Events.{MayHappen}
 use Rattle.world_safety.specs.Mirrors.{core_at, inc_at}
 use Rattle.piece_link.specs.Pieces.{Message, can_cut, message_by, pieces_of}
 use Rattle.piece_link.specs.Answers.{Among, CanBeCut, SameKey, AreDistinct}
-use Rattle.piece_link.proofs.OnceLaw.{among_append}
 use Rattle.daemon_model.specs.Sent.{piece_to, calls_if, number_if, message_calls, Exchange, plain, sent_calls, number_after}
 use Rattle.daemon_model.specs.Daemon.{Daemon, stepped_by, left_for, stepped_for}
 use Rattle.network_model.specs.Network.{Net, made_since, noted_since, went_on}
 use Rattle.network_model.specs.Fits.{IsSend}
 use Rattle.network_safety.proofs.Quiet.{IsTalk, step_rests}
-use Rattle.network_safety.proofs.Messages.{among_left, among_right, message_of, messages_in, in_messages, IsOne, each_one, IsOneMessage, each_message, after_le, own_distinct, distinct_both, one_fits, goes_cut}
+use Rattle.network_safety.proofs.Messages.{message_of, messages_in, in_messages, IsOne, each_one, IsOneMessage, each_message, after_le, own_distinct, distinct_both, one_fits, goes_cut}
 use Rattle.network_safety.proofs.Joins.{IsJoinedOf}
 use Rattle.network_safety.proofs.WorldSteps.{Leaves}
 use Rattle.network_safety.proofs.Going.{More, made_is, noted_is}
@@ -119,14 +119,14 @@ module _ (net : Net) (w : World) (k : Wires net w) (n : ℕ) (d : Daemon) (at : 
     wires_on =
         record {
           all = k.all ++ g.new;
-          past = λ m h. elim (among_append m k.all g.new h) [ inl i ↦ old_past m i | inr i ↦ new_past m i ];
+          past = λ m h. elim (has_append m k.all g.new h) [ inl i ↦ old_past m i | inr i ↦ new_past m i ];
           distinct = distinct_both k.all g.new k.distinct g.distinct apart;
-          made = λ x h. elim (among_append x net.wire (made_since d e) h) [
-            | inl i ↦ made_later k.all (k.all ++ g.new) w v g.old (λ m j. among_left m k.all g.new j) x.call x.of (k.made x i)
+          made = λ x h. elim (has_append x net.wire (made_since d e) h) [
+            | inl i ↦ made_later k.all (k.all ++ g.new) w v g.old (λ m j. append_has_left m k.all g.new j) x.call x.of (k.made x i)
             | inr i ↦ g.made x i
           ];
           messages = k.messages;
-          sent = λ m h. among_left m k.all g.new (k.sent m h);
+          sent = λ m h. append_has_left m k.all g.new (k.sent m h);
           fits = k.fits;
           known = λ m h. known_later w v g.old m.bytes (k.known m h);
           up = each_set (λ m o. IsUpIf k.messages m (net.incarnations m) o) net.daemons n (Some e) (record { most = own_up.most; fits = own_up.fits; me = g.me ∙ own_up.me; incarnation = g.incarnation ∙ own_up.incarnation; rests = g.rests; joined = g.joined }) (λ m ne. k.up m);
@@ -172,7 +172,7 @@ module _ (net : Net) (w : World) (k : Wires net w) (n : ℕ) (d : Daemon) (at : 
     one_made : CanBeCut said → (bs : List (List ℕ)) → ((b : List ℕ) → Among b bs → Among b (pieces_of said)) → (x : Exchange) → Among x (map plain (map (piece_to 0 network) bs)) → IsMade (k.all ++ said ∷ []) w x.call x.of
     one_made fits [] within x h = absurd h
     one_made fits (b ∷ bs) within x (inl is) =
-        subst (λ (z : Exchange). IsMade (k.all ++ said ∷ []) w z.call z.of) (sym is) (λ c same. record { message = said; among = among_right said k.all (said ∷ []) (inl refl); fits = fits; none = none; piece = subst (λ z. Among z (pieces_of said)) same (within b (inl refl)) })
+        subst (λ (z : Exchange). IsMade (k.all ++ said ∷ []) w z.call z.of) (sym is) (λ c same. record { message = said; among = append_has_right said k.all (said ∷ []) (inl refl); fits = fits; none = none; piece = subst (λ z. Among z (pieces_of said)) same (within b (inl refl)) })
     one_made fits (b ∷ bs) within x (inr h) = one_made fits bs (λ c i. within c (inr i)) x h
 
     goes_if : (b : Bool) → can_cut bytes ≡ b → e.number ≡ number_if b d.number → e.calls ≡ d.calls ++ said_if b → GoesTo w e
@@ -226,7 +226,7 @@ module _ (c : Config) (net : Net) (es : List Answered) (w : World) (k : Stand c 
             incarnation = subst (λ j. j < 2 ^ 32) (sym (o.incarnation ∙ own.incarnation)) own.fits;
             cut = goes_cut o.of.packet o.goes;
             known = elim (s.sends o.of.packet o.has) [ inl t ↦ inl t | inr i ↦ inr (s.leaves.new o.of.packet i) ];
-            among = among_right (message_of o.of) k.wires.all (messages_in new) (in_messages new x o.of h o.is);
+            among = append_has_right (message_of o.of) k.wires.all (messages_in new) (in_messages new x o.of h o.is);
             piece = o.piece;
           })
 

@@ -1,8 +1,7 @@
 -- What calls keep, and what their answers come to.
-use Rattle.std.proofs.Common.{◌≡◌, ℕ, suc, ◌-◌, Bool, true, false, cond, List, [], ◌∷◌, length, Option, Some, None, Result, Ok, Err, refl, sym, ap, ◌∙◌, arith, eqb-true}
-use Rattle.std.specs.Prelude.{slice_get, not, ◌||◌}
+use Rattle.std.proofs.Common.{◌≡◌, ℕ, suc, ◌-◌, Bool, true, false, List, [], ◌∷◌, length, Option, Some, None, Result, Ok, Err, refl, sym, ap, ◌∙◌, arith, eqb-true}
+use Rattle.std.specs.Prelude.{slice_get, not}
 use Rattle.std.specs.List.{last_or, list_any}
-use Rattle.std.specs.Option.{option_map}
 use Rattle.rsct_packet.specs.Search.{place_where}
 use Rattle.rsct_packet.proofs.SearchLaws.{place_nowhere}
 use Rattle.subscribe_core.specs.declared.subs.ClientToken.{ClientToken}

@@ -85,11 +85,6 @@ pub row_is_reached : (g : List ℕ) (xs ys : List GroupRow) (i : ℕ) (x : Group
 row_is_reached g xs ys i x at opened read =
     read ∙ (ap (λ k. get_or ys k x) at ∙ (ap (λ zs. get_or zs (front_len (stops_at g) xs) x) opened ∙ read_row g x xs))
 
--- a row that was read there, and written
-pub set_is_row : (g : List ℕ) (change : GroupRow → GroupRow) (xs ys : List GroupRow) (i : ℕ) (x y : GroupRow) → i ≡ front_len (stops_at g) xs → ys ≡ row_opened g xs → x ≡ get_or ys i x → y ≡ change x → set ys i y ≡ rows_with g change xs
-set_is_row g change xs ys i x y at opened read changed =
-    row_lent g xs ys i y at opened ∙ row_written g change xs y (changed ∙ ap change (row_is_reached g xs ys i x at opened read))
-
 within_head : (eq lt : Bool) (new row : GroupRow) (rows opened : List GroupRow) (k : ℕ) → k < length opened → cond (eq || lt) 0 (suc k) < length {A = GroupRow} (elim eq [ true ↦ row ∷ rows | false ↦ elim lt [ true ↦ new ∷ row ∷ rows | false ↦ row ∷ opened ] ])
 within_head true lt new row rows opened k ih = omega arith
 within_head false true new row rows opened k ih = omega arith
@@ -102,10 +97,6 @@ within_row g (row ∷ rows) = within_head (bytes_eq row.name g) (name_lt g row.n
 
 pub opened_within : (g : List ℕ) (xs ys : List GroupRow) (i : ℕ) → i ≡ front_len (stops_at g) xs → ys ≡ row_opened g xs → i < length ys
 opened_within g xs ys i at opened = rw (at, opened) (within_row g xs)
-
--- what is read where the group's row stands, among rows in name order
-pub opened_row : (g : List ℕ) (xs ys : List GroupRow) (i : ℕ) (x : GroupRow) → InNameOrder xs → i ≡ front_len (stops_at g) xs → ys ≡ row_opened g xs → x ≡ get_or ys i x → x ≡ row_found g (find (has_name g) xs)
-opened_row g xs ys i x o at opened read = row_is_reached g xs ys i x at opened read ∙ reached_found g xs o
 
 found_head : (eq lt : Bool) (g : List ℕ) (new row : GroupRow) (rows opened : List GroupRow) (k : ℕ) → bytes_eq row.name g ≡ eq → (is_row_of g (slice_get rows k) ≡ true → rows ≡ opened)
     → is_row_of g (slice_get (row ∷ rows) (cond (eq || lt) 0 (suc k))) ≡ true → row ∷ rows ≡ elim eq [ true ↦ row ∷ rows | false ↦ elim lt [ true ↦ new ∷ row ∷ rows | false ↦ row ∷ opened ] ]
@@ -137,9 +128,6 @@ missing_row g (row ∷ rows) h = missing_head (bytes_eq row.name g) (name_lt g r
 pub opens_missing : (g : List ℕ) (xs : List GroupRow) (i : ℕ) (new : GroupRow) → i ≡ front_len (stops_at g) xs → is_row_of g (slice_get xs i) ≡ false → new ≡ new_row g → insert xs i new ≡ row_opened g xs
 opens_missing g xs i new at h made =
     ap (insert xs i) made ∙ (ap (λ k. insert xs k (new_row g)) at ∙ missing_row g xs (ap (λ k. is_row_of g (slice_get xs k)) (sym at) ∙ h))
-
--- what an edit of a row takes
-pub ruleset row_edits = (set_is_row, opened_within)
 
 -- what lending a row takes
 pub ruleset row_loan = (row_lent, row_is_reached, opened_within)

@@ -33,13 +33,13 @@ use Rattle.node_state.specs.State.{state_of, recorded, recorded_all, with_sessio
 use Rattle.node_state.specs.HandOn.{subscriber_name, note_of}
 use Rattle.node_state.specs.Applying.{is_in_base, number_of, dissolved, dissolved_if, base_note, entering_note, entering_noted}
 use Rattle.session_state.specs.Owners.{KeepsOwners}
-use Rattle.node_state.specs.Handed.{is_handed, handed_in, Along, Logged, logged_in}
+use Rattle.node_state.specs.Handed.{is_handed, handed_in, Logged, logged_in}
 use Rattle.node_state.proofs.AlongLaws.{LeavesStates, leaves_both, along_records}
 use Rattle.node_groups.specs.Keeps.{Stays}
 use Rattle.session_state.proofs.OwnerLaws.{owners_themselves}
 use Rattle.entry_delivery.specs.Received.{Handing, AreFor, told_by, logged_by, after_handings, Receive}
-use Rattle.entry_delivery.specs.Doing.{Stated, Does}
-use Rattle.entry_delivery.proofs.DoingLaws.{does_nothing, does_as, receive_then}
+use Rattle.entry_delivery.specs.Doing.{Does}
+use Rattle.entry_delivery.proofs.DoingLaws.{does_handing, does_nothing, does_as, receive_then}
 use Rattle.entry_delivery.proofs.OwnerLaws.{telling_owners}
 use Rattle.node_views.specs.Arriving.{note_at, notes_at, handed_at, note_handings}
 
@@ -51,27 +51,6 @@ told_stays s x rs r same e = record { records = rw e (omega (arith, length-appen
 
 pub noted_stays : (s : Core) (rs more : List Happened) → rs ≡ s.records ++ more → Stays s (record s { records = rs })
 noted_stays s rs more e = record { records = rw e (omega (arith, length-append s.records more)); sessions = (refl, refl); order = λ o. o }
-
--- ---- a row
-
--- a row that asks no client, and hands this to them
-pub does_handing : (scripts : List (Option (List (Option VoteItem)))) (P : List Handing → Type 0) (s t k : Core) (hs : List Handing) → P hs → t ≡ k → Stays s t → handed_in t.records ≡ handed_in s.records ++ told_by hs → AreFor s.sessions hs → KeepsOwners s.sessions t.sessions
-    → (along : Along s t) → Stated s along.records hs → Does scripts P s t (λ f. k)
-does_handing scripts P s t k hs p e stays told owned owners along stated =
-    record {
-      asked = [];
-      filled = tt;
-      placed = stays.records;
-      lives = stays.sessions.0;
-      does = λ f h. e;
-      handings = hs;
-      told = told;
-      owned = owned;
-      owners = owners;
-      along = along;
-      stated = stated;
-      received = p;
-    }
 
 -- ---- who is dissolved
 
@@ -87,7 +66,7 @@ dissolved_does : (scripts : List (Option (List (Option VoteItem)))) (P : List Ha
     → Does scripts P s t (λ f. dissolved s p r)
 unfolding dissolved recorded recorded_all with_sessions along_records
 dissolved_does scripts P s t p r live dissolving stays received =
-    does_handing scripts P s t (dissolved s p r) (handed_at (place_of s.sessions p) (happened.Told p r Dissolved) ∷ []) received dissolving stays
+    does_handing scripts P s t (dissolved s p r) (handed_at (place_of s.sessions p) (happened.Told p r Dissolved) ∷ []) received dissolving stays.records stays.sessions.0
     (ap (λ (x : Core). handed_in x.records) dissolving ∙ filter-append is_handed s.records (happened.Told p r Dissolved ∷ []))
     ((refl, λ none asked. live none), tt)
     (subst (λ (x : Core). KeepsOwners s.sessions x.sessions) (sym dissolving) (telling_owners s.sessions p r Dissolved))
@@ -191,8 +170,9 @@ pub noted_does : (scripts : List (Option (List (Option VoteItem)))) (P : List Ha
 unfolding entering_noted entering_note base_note note_of recorded_all along_records
 noted_does scripts P s rs bs e received =
     let more : List Happened = flat_map (notes_at s.views.me s.views.view s.views.members s.sessions bs) s.sessions.subs.live in
+    let stays = noted_stays s rs more e in
     does_handing scripts P s (record s { records = rs }) (entering_noted s bs) (flat_map (note_handings s.views.me s.views.view s.views.members s.sessions bs) s.sessions.subs.live) received
-    (ap (λ (xs : List Happened). record s { records = xs }) e) (noted_stays s rs more e)
+    (ap (λ (xs : List Happened). record s { records = xs }) e) stays.records stays.sessions.0
     (ap handed_in e
     ∙ (filter-append is_handed s.records more ∙ ap (λ (xs : List Happened). handed_in s.records ++ xs) (told_each s.views.me s.views.view s.views.members s.sessions bs s.sessions.subs.live)))
     (owned_each s.views.me s.views.view s.views.members s.sessions bs s.sessions.subs.live) (owners_themselves s.sessions)

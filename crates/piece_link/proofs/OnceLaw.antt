@@ -1,9 +1,10 @@
 -- A sender's answers rise: each is of a later incarnation or number than the one before.
 use Rattle.std.proofs.Common.{◌≡◌, ℕ, ◌≤◌, Bool, true, false, not, Option, Some, None, List, [], ◌∷◌, ◌++◌, length, inl, inr, refl, sym, ◌∙◌, ap, subst, arith, eqb-true}
-use Rattle.std.specs.Prelude.{◌⊎◌, ◌==◌, ◌&&◌}
+use Rattle.std.specs.Prelude.{◌==◌, ◌&&◌}
 use Rattle.std.proofs.lemmas.Bool.{cases_eq}
 use Rattle.std.proofs.lemmas.Bool.Decides.{nat_tests}
 use Rattle.rsct_packet.proofs.FieldLaws.{and_true}
+use Rattle.rsct_packet.proofs.HasLaws.{has_append}
 use Rattle.piece_link.specs.declared.piece.PieceHead.{PieceHead}
 use Rattle.piece_link.specs.declared.kept.Kept.{Kept}
 use Rattle.piece_link.specs.Joining.{Joining, Joined, Parts, is_less, is_newer, is_same, is_status, opened, has_part, with_part, closed, part_added, part_put, with_piece, chosen, first_taken, row_taken, row_of, taken}
@@ -111,11 +112,6 @@ row_answers (Some kept) head text m e = chosen_answers kept head text m (is_newe
 
 -- ---- over a list of datagrams
 
-pub among_append : {A : Type 0} (x : A) (xs ys : List A) → Among x (xs ++ ys) → Among x xs ⊎ Among x ys
-among_append x [] ys h = inr h
-among_append x (z ∷ xs) ys (inl e) = inl (inl e)
-among_append x (z ∷ xs) ys (inr h) = elim (among_append x xs ys h) [ inl a ↦ inl (inr a) | inr b ↦ inr b ]
-
 not_status : (head : PieceHead) → 1 ≤ head.sender → is_status head ≡ false
 not_status head h = let e : (head.sender == 0) ≡ false = grind (arith, nat_tests) in rw e refl
 
@@ -158,7 +154,7 @@ later_above : (bs : List (List ℕ)) (j : Joining) (a : Message) → Among a (an
 unfolding answers_to
 later_above [] j a h some = absurd h
 later_above (b ∷ bs) j a h some =
-    elim (among_append a (answer_to j b) (answers_to (taken j b).joining bs) h) [
+    elim (has_append a (answer_to j b) (answers_to (taken j b).joining bs) h) [
       | inl here ↦ answer_by j b (piece_at b) (taken j b).message a refl refl here some
       | inr later ↦ datagram_keeps a.sender j b a.incarnation a.number (later_above bs (taken j b).joining a later some)
     ]

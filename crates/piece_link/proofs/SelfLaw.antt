@@ -3,13 +3,14 @@ use Rattle.std.proofs.Common.{◌≡◌, ℕ, ◌*◌, ◌≤◌, ◌<◌, Bool,
 use Rattle.std.specs.Prelude.{◌==◌}
 use Rattle.std.proofs.lemmas.List.{take_all}
 use Rattle.rsct_packet.proofs.FieldLaws.{and_true}
+use Rattle.rsct_packet.proofs.HasLaws.{has_append}
 use Rattle.piece_link.specs.declared.kept.Kept.{Kept}
 use Rattle.piece_link.specs.Joining.{Joining, Joined, Parts, is_newer, is_same, is_status, opened, has_part, with_part, whole_of, closed, part_added, part_put, chosen, first_taken, row_chosen, row_taken, taken}
 use Rattle.piece_link.specs.Pieces.{Message, piece_at, piece_count, data_of, head_of, piece_of}
 use Rattle.piece_link.specs.Answers.{Among, CanBeCut, SameKey, AreDistinct, AreDrawn, answer_for, answer_to, answers_to, AlwaysJoinedToThemselves}
 use Rattle.piece_link.proofs.ReadLaws.{piece_again, has_index, count_covers}
 use Rattle.piece_link.proofs.StepLaws.{status_taken, piece_is_taken}
-use Rattle.piece_link.proofs.OnceLaw.{same_parts, among_append}
+use Rattle.piece_link.proofs.OnceLaw.{same_parts}
 use Rattle.piece_link.proofs.WholeLaws.{Ordered, EachIs, ordered_with, each_with, whole_is}
 
 abbrev pub PartsAre : Message → Option Parts → Type 0
@@ -139,7 +140,7 @@ self_from ms (b ∷ bs) j fits distinct drawn all a h =
     let below : i.0 < piece_count (length d.0.bytes) = omega (arith, i.2) in
     let at : piece_at b ≡ Some (record { head = head_of d.0 i.0; text = data_of d.0.bytes i.0 }) = ap piece_at i.3 ∙ piece_again d.0 i.0 (fits d.0 d.1) below in
     let t = taken_by ms d.0 i.0 j b (is_status (head_of d.0 i.0)) distinct d.1 (fits d.0 d.1) below i.3 refl all in
-    elim (among_append a (answer_to j b) (answers_to (taken j b).joining bs) h) [
+    elim (has_append a (answer_to j b) (answers_to (taken j b).joining bs) h) [
       | inl here ↦ answer_among ms d.0 i.0 (taken j b).message a d.1 t.message (subst (λ o. Among a (answer_for o (taken j b).message)) at here)
       | inr later ↦ self_from ms bs (taken j b).joining fits distinct (λ (x : List ℕ) (k : Among x bs). drawn x (inr k)) t.good a later
     ]

@@ -1,5 +1,6 @@
 pub mod Alone
-pub mod Bases
+pub mod Sides
+pub mod Hands
 pub mod States
 pub mod Turns
 pub mod Doing

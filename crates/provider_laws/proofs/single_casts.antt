@@ -1,5 +1,6 @@
 pub mod Handed
 pub mod Asking
+pub mod Entering
 pub mod Casting
 pub mod Doing
 pub mod Seen

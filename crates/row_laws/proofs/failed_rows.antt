@@ -11,11 +11,11 @@ pub mod Waiting
 pub mod Sends
 pub mod Hands
 pub mod Puts
-pub mod InView
 pub mod Bases
 pub mod Casts
 pub mod Leading
 pub mod Ending
+pub mod Founded
 pub mod Fitting
 pub mod Asked
 pub mod Entering

@@ -2,7 +2,7 @@ pub mod Changes
 pub mod Leading
 pub mod Sessions
 pub mod Rules
-pub mod Whose
+pub mod InView
 pub mod Viewing
 pub mod Handing
 pub mod Attending

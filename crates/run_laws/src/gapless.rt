@@ -16,7 +16,7 @@ pub fn takers_are_providers()
 
 /// So in the event of a put each provider of the node that takes part at its place hears it, unless it was let go by an earlier
 /// event or is let go by this one.
-#[tactic(auto, using(crate::proofs::gapless::TakerLaw::takers_hear))]
+#[tactic(auto, using(crate::proofs::gapless::HeardLaw::takers_hear))]
 pub fn takers_hear_each_put()
     ensures { TakersHear }
 {}

@@ -7,7 +7,7 @@ use Rattle.rsct_packet.specs.Search.{Has}
 use Rattle.run_safety.specs.Group.{member, Standing, Packet, Append, Record, Put}
 use Rattle.run_safety.specs.Moves.{Leads, Changes}
 use Rattle.run_safety.proofs.Order.{lt_refl, cases_view, lt_not_same}
-use Rattle.run_safety.proofs.Prefix.{IsPrefix, prefix_refl, prefix_trans, prefix_push, prefix_next}
+use Rattle.run_safety.proofs.Prefix.{IsPrefix, prefix_refl, prefix_trans, prefix_push, prefix_next, at_end}
 use Rattle.run_safety.proofs.Parts.{Onward, Unused, Growing, PacketOk, RecordOk, NodeOk, packet_on, record_on, added, member_parts}
 use Rattle.run_safety.proofs.Keep.{Inv, each, onwards, same_logs, belows, one_more}
 
@@ -25,10 +25,6 @@ extends_grows log log' v e x = record { at = λ u. at u (cases_view u v) }
         subst P (sym s) (subst (IsPrefix (log v)) (sym x.here) (prefix_push (log v) e))
     at u (inr ne) = subst (IsPrefix (log u)) (sym (x.there u ne)) (prefix_refl (log u))
 
-at_end : (xs : List Entry) (e : Entry) → slice_get (xs ++ e ∷ []) (length xs) ≡ Some e
-at_end [] e = refl
-at_end (x ∷ xs) e = at_end xs e
-
 module _ (nodes : ℕ → Standing) (packets : List Packet) (trace : List Record) (log : ViewId → List Entry) (lead : Leads) (inv : Inv nodes packets trace log lead) where
   longer_onward : (n : ℕ) (e : Entry) → (nodes n).view ≡ (nodes n).promise → Onward (nodes n) (record (nodes n) { list = (nodes n).list ++ e ∷ [] })
   longer_onward n e same =
@@ -44,7 +40,7 @@ module _ (nodes : ℕ → Standing) (packets : List Packet) (trace : List Record
       let o = onwards nodes now n y c (longer_onward n e same) in
       let g = extends_grows log log' x.view e ext in
       let whole : x.list ++ e ∷ [] ≡ log' x.view = ap (λ l. l ++ e ∷ []) (ok.whole x.inc leads) ∙ sym ext.here in
-      let entry : slice_get (log' x.view) (length x.list) ≡ Some e = subst (λ l. slice_get l (length x.list) ≡ Some e) whole (at_end x.list e) in
+      let entry : slice_get (log' x.view) (length x.list) ≡ Some e = subst (λ l. slice_get l (length x.list) ≡ Some e) whole (at_end x.list e []) in
       record {
         node = each (NodeOk log' lead) nodes now n y c (record {
           below = ok.below;

@@ -7,6 +7,7 @@ use Rattle.rsct_packet.specs.declared.ids.ProviderId.{ProviderId}
 use Rattle.proposal_core.specs.declared.entry.Entry.{Entry}
 use Rattle.proposal_core.specs.declared.group_state.GroupState.{GroupState}
 use Rattle.rsct_packet.specs.Search.{Has}
+use Rattle.rsct_packet.proofs.HasLaws.{find_has, filter_has, append_has_left}
 use Rattle.run_safety.specs.Past.{fold_from}
 use Rattle.run_safety.specs.ViewOrder.{is_same, Le}
 use Rattle.run_safety.specs.Group.{member, Standing, Reply, members_of, Origin, Packet, Answer, Install, In, Based, Line, Noted, kept, puts_from}
@@ -17,7 +18,7 @@ use Rattle.run_safety.proofs.Past.{reply_member}
 use Rattle.run_safety.proofs.Moves.{Good}
 use Rattle.run_safety.proofs.Founds.{none_yet, found_new}
 use Rattle.run_safety.proofs.Lines.{has_entered, note_entered, kept_entered}
-use Rattle.run_safety.proofs.Tests.{found_in, any_has, has_any, has_filter, has_front, same_self}
+use Rattle.run_safety.proofs.Tests.{any_has, has_any, same_self}
 use Rattle.std.specs.Prelude.{find, filter}
 use Rattle.std.proofs.lemmas.Bool.{and_parts, eqb-true, not-true}
 use Rattle.rsct_packet.specs.Providers.{among, same_provider}
@@ -66,7 +67,7 @@ leads_member rs ss side v b w own = at (find test b.state.members) refl
 
     not_live : (p : ProviderId) → Has p s.members → live p ≡ false → among b.state.failed p ≡ true
     not_live p h e =
-        let k : Has p (filter (λ p. not (live p)) (present s)) = has_filter (λ p. not (live p)) (present s) p (has_front p s.members _ h) (ap not e) in
+        let k : Has p (filter (λ p. not (live p)) (present s)) = filter_has (λ p. not (live p)) p (present s) (append_has_left p s.members _ h) (ap not e) in
         has_any (λ q. same_provider q p) b.state.failed p (subst (λ l. Has p l) (sym failed) k) (same_self p)
 
     is_there : (p : ProviderId) → live p ≡ true → Has (member p.node p.inc) (members_of rs)
@@ -84,7 +85,7 @@ leads_member rs ss side v b w own = at (find test b.state.members) refl
     at : (o : Option ProviderId) → find test b.state.members ≡ o → Has (leading v o) (members_of rs)
     at None e = own
     at (Some p) e =
-        let k = found_in test b.state.members p e in
+        let k = find_has test b.state.members p e in
         by p (subst (λ l. Has p l) members k.0) (not-true (among b.state.failed p) k.1) (live p) refl
 
 module _ (o : Opening) (nodes : ℕ → Standing) (ps : List Packet) (all : List Line) (log : ViewId → List Entry) (lead : Leads) (bases : Bases) (good : Good o nodes ps (kept all) log lead) (old : BasesOk ps all bases) where

@@ -1,5 +1,5 @@
 -- The cut is the longest list that a member held, and each that comes along has it.
-use Rattle.std.proofs.Common.{◌≤◌, ◌≡◌, ℕ, ◌⊎◌, List, [], length, sym, ap, ◌∙◌, subst, inl, inr, arith, length-append}
+use Rattle.std.proofs.Common.{◌≤◌, ◌≡◌, ℕ, ◌⊎◌, List, [], length, sym, ap, ◌∙◌, subst, inl, inr, arith}
 use Rattle.rsct_packet.specs.declared.ids.ViewId.{ViewId}
 use Rattle.rsct_packet.specs.declared.ids.Member.{Member}
 use Rattle.proposal_core.specs.declared.entry.Entry.{Entry}
@@ -7,13 +7,9 @@ use Rattle.rsct_packet.specs.Search.{Has}
 use Rattle.run_safety.specs.Group.{member, Standing, Reply, members_of, Packet, Answer, Install, Record, In}
 use Rattle.run_safety.specs.GroupLists.{held, From, SameLists, IsCut, CutHolds, SameMembers}
 use Rattle.run_safety.specs.Moves.{Opening, Born, Leads, Longest}
-use Rattle.run_safety.proofs.Prefix.{IsPrefix}
 use Rattle.run_safety.proofs.Tracks.{from_one}
 use Rattle.run_safety.proofs.Keep.{Inv}
 use Rattle.run_safety.proofs.Past.{Past, member_reply, reply_member, Origin, born_number, born_member, born_same}
-
-prefix_length : (xs ys : List Entry) → IsPrefix xs ys → length xs ≤ length ys
-prefix_length xs ys p = let e = ap length p.is in omega (arith, length-append xs p.rest)
 
 module _ (o : Opening) (nodes : ℕ → Standing) (packets : List Packet) (trace : List Record) (log : ViewId → List Entry) (lead : Leads) (inv : Inv nodes packets trace log lead) (past : Past o nodes packets trace lead) where
   pub law_same_lists : SameLists trace

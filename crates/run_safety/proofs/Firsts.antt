@@ -9,7 +9,7 @@ use Rattle.run_safety.specs.Group.{member, Record, In, Put, Begins, puts_from}
 use Rattle.run_safety.specs.Moves.{Leads}
 use Rattle.run_safety.specs.GroupLaws.{Earlier, ByLeader}
 use Rattle.run_safety.proofs.Order.{cases_view}
-use Rattle.run_safety.proofs.Prefix.{IsPrefix, prefix_get}
+use Rattle.run_safety.proofs.Prefix.{IsPrefix, prefix_get, at_end}
 use Rattle.run_safety.proofs.Appends.{Extends}
 
 pub record Firsts (trace : List Record) (log : ViewId → List Entry) (lead : Leads) : Type 0 where
@@ -61,7 +61,3 @@ firsts_many n v (e ∷ es) xs i trace log lead l p s =
       put = λ u k f h. let q = s.put u k f h in (q.0, q.1, inr q.2);
       first = (inr (s.put v i e there), s.first);
     })
-  where
-    at_end : (xs : List Entry) (e : Entry) (es : List Entry) → slice_get (xs ++ e ∷ es) (length xs) ≡ Some e
-    at_end [] e es = refl
-    at_end (x ∷ xs) e es = at_end xs e es

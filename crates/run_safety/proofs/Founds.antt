@@ -15,18 +15,13 @@ use Rattle.run_safety.proofs.Keep.{Inv, onwards, same_logs, belows}
 use Rattle.run_safety.proofs.Enters.{keep_enter}
 use Rattle.run_safety.proofs.Past.{Made, Past, past_send, member_reply, reply_member, Origin, born_number}
 use Rattle.run_safety.proofs.PastIn.{past_enter}
-use Rattle.run_safety.proofs.Moves.{Good}
+use Rattle.run_safety.proofs.Moves.{Good, gave_front}
 
 -- what an answer says, of the sources that it went into
 stands_gave : (x : Standing) (v : ViewId) (j : ℕ) (u : ViewId) (xs : List Entry) (ss : ViewId → List Entry) → IsPrefix xs (ss u) → Bound x v j u xs → Gave x v j ss
 stands_gave x v j u xs ss p (inl l) = inl l
 stands_gave x v j u xs ss p (inr h) =
     inr (h.0, h.1, λ lt. let e = h.2 lt in subst (λ (k : ViewId × List Entry). IsPrefix k.1 (ss k.0)) (λ z. (sym e.0 z, sym e.1 z)) p)
-
--- a node that entered no view yet in which it would use what the sources have
-pub gave_front : (x : Standing) (v : ViewId) (ss : ViewId → List Entry) → Lt x.view v → Gave x v x.inc ss → IsPrefix x.list (ss x.view)
-gave_front x v ss lt (inl l) = absurd (omega arith)
-gave_front x v ss lt (inr h) = h.2 lt
 
 module _ (packets : List Packet) (trace : List Record) (n : ℕ) (x : Standing) (rs : List Reply) (ss : ViewId → List Entry) (nodes : ℕ → Standing) (log : ViewId → List Entry) (lead : Leads) (is : nodes n ≡ x) (inv : Inv nodes packets trace log lead) (ok : Collected packets n x rs ss) where
   reply_within : (r : Reply) → Has r rs → IsPrefix r.list (log r.view)

@@ -1,6 +1,5 @@
 -- Lines with and without their notes.
-use Rattle.std.proofs.Common.{refl, Some, None, Option, ◌≡◌, ℕ, zero, suc, ◌+◌, ◌⊎◌, List, [], ◌∷◌, ◌++◌, length, drop, sym, ap, ◌∙◌, subst, inl, inr, ⊎_elim}
-use Rattle.std.specs.Prelude.{slice_get}
+use Rattle.std.proofs.Common.{refl, Some, None, Option, ◌≡◌, ℕ, ◌+◌, ◌⊎◌, List, [], ◌∷◌, ◌++◌, length, drop, sym, ap, ◌∙◌, subst, inl, inr, ⊎_elim}
 use Rattle.rsct_packet.specs.declared.ids.ViewId.{ViewId}
 use Rattle.rsct_packet.specs.declared.ids.Member.{Member}
 use Rattle.proposal_core.specs.declared.entry.Entry.{Entry}
@@ -80,4 +79,3 @@ note_entered y n x v ms ss b all h =
     at (inl k) = inl k
     at (inr (inl q)) = absurd (cc)
     at (inr (inr k)) = inr (note_lines y n x.view (length x.list) (drop (length x.list) (ss x.view)) all k)
-

@@ -42,6 +42,11 @@ past_plain o nodes packets trace lead past p plain ok =
 abbrev pub reply_at : ℕ → Standing → Reply
 reply_at n x = record { node = n; inc = x.inc; view = x.view; list = x.list }
 
+-- a node that entered no view yet in which it would use what the sources have
+pub gave_front : (x : Standing) (v : ViewId) (ss : ViewId → List Entry) → Lt x.view v → Gave x v x.inc ss → IsPrefix x.list (ss x.view)
+gave_front x v ss lt (inl l) = absurd (omega arith)
+gave_front x v ss lt (inr h) = h.2 lt
+
 module _ (o : Opening) (nodes : ℕ → Standing) (packets : List Packet) (trace : List Record) (log : ViewId → List Entry) (lead : Leads) (good : Good o nodes packets trace log lead) where
   inv : Inv nodes packets trace log lead
   inv = good.inv
@@ -111,10 +116,6 @@ module _ (o : Opening) (nodes : ℕ → Standing) (packets : List Packet) (trace
         inv = keep_enter nodes packets trace log lead inv now n v ms ss packets at lt front (ok.sources x.view) (λ j e. leader_inc o nodes packets trace log lead inv packets past inv.one stands_of n j v ms ss sent among (past.led v n j e)) c (λ p h. h) (λ p h. packet_on nodes now log log (belows nodes packets trace log lead inv) on (same_logs log) p (inv.packet p h)) inv.one sent;
         past = past_enter o nodes packets trace log lead inv packets past inv.one stands_of now n v ms ss up quiet.at at lt front among sent c;
       }
-    where
-      gave_front : (x : Standing) (v : ViewId) (ss : ViewId → List Entry) → Lt x.view v → Gave x v x.inc ss → IsPrefix x.list (ss x.view)
-      gave_front x v ss lt (inl l) = absurd (omega arith)
-      gave_front x v ss lt (inr h) = h.2 lt
 
   -- a leader is in its view with the incarnation that was named
   leader_is : (v : ViewId) (n j : ℕ) → Led packets trace v n j → (nodes n).view ≡ v → j ≡ (nodes n).inc

@@ -1,5 +1,5 @@
 -- Who notes a base has entered its view.
-use Rattle.std.proofs.Common.{refl, Some, None, Option, ◌≡◌, ℕ, ◌+◌, ◌⊎◌, List, [], ◌∷◌, length, drop, sym, subst, inl, inr}
+use Rattle.std.proofs.Common.{Some, Option, ◌≡◌, ℕ, ◌+◌, ◌⊎◌, List, ◌∷◌, length, drop, sym, subst, inl, inr}
 use Rattle.rsct_packet.specs.declared.ids.ViewId.{ViewId}
 use Rattle.rsct_packet.specs.declared.ids.Member.{Member}
 use Rattle.proposal_core.specs.declared.entry.Entry.{Entry}

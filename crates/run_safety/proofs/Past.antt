@@ -44,17 +44,6 @@ pub record Past (o : Opening) (nodes : ℕ → Standing) (packets : List Packet)
   pub answers : (v : ViewId) (r : Reply) → Has (Answer v r) packets → From trace r.node r.inc v r.view × (held r.node r.view trace ≡ length r.list)
   pub made : (v : ViewId) (ms : List Member) (ss : ViewId → List Entry) → Has (Install v ms ss) packets → Made packets v ms ss
 
-made_on : (packets more : List Packet) → ((p : Packet) → Has p packets → Has p more) → (v : ViewId) (ms : List Member) (ss : ViewId → List Entry) → Made packets v ms ss → Made more v ms ss
-made_on packets more f v ms ss h =
-    record {
-      replies = h.replies;
-      members = h.members;
-      longest = h.longest;
-      sent = λ r i. f (Answer v r) (h.sent r i);
-      single = h.single;
-      later = h.later;
-    }
-
 origin_on : (o : Opening) (packets more : List Packet) → ((p : Packet) → Has p packets → Has p more) → (n j : ℕ) (v : ViewId) (ms : List Member) → Origin o packets n j v ms → Origin o more n j v ms
 origin_on o packets more f n j v ms (inl e) = inl e
 origin_on o packets more f n j v ms (inr h) = inr (h.0, f (Install v ms h.0) h.1, h.2)

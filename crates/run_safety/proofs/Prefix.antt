@@ -21,6 +21,11 @@ prefix_trans {xs = xs} p q =
 pub prefix_push : (xs : List Entry) (e : Entry) → IsPrefix xs (xs ++ e ∷ [])
 prefix_push xs e = record { rest = e ∷ []; is = refl }
 
+-- what comes after a list
+pub at_end : (xs : List Entry) (e : Entry) (es : List Entry) → slice_get (xs ++ e ∷ es) (length xs) ≡ Some e
+at_end [] e es = refl
+at_end (x ∷ xs) e es = at_end xs e es
+
 pub prefix_get : (xs ys : List Entry) → IsPrefix xs ys → (i : ℕ) (e : Entry) → slice_get xs i ≡ Some e → slice_get ys i ≡ Some e
 prefix_get xs ys p i e h = subst (λ l. slice_get l i ≡ Some e) p.is (front xs p.rest i e h)
   where

@@ -1,5 +1,5 @@
 -- Each entry of a log that closes a phase has the tally that its kind says, and each fits those before it.
-use Rattle.std.proofs.Common.{refl, Some, ◌≡◌, ℕ, ◌⊎◌, ◌≤◌, ◌<◌, List, [], ◌∷◌, ◌++◌, length, take, Bool, true, false, sym, ap, ◌∙◌, subst, ⊎_elim, arith}
+use Rattle.std.proofs.Common.{refl, Some, ◌≡◌, ℕ, ◌⊎◌, ◌<◌, List, [], ◌∷◌, length, take, Bool, true, false, sym, ap, ◌∙◌, subst, ⊎_elim, arith}
 use Rattle.std.specs.Prelude.{slice_get, if◌then◌else◌}
 use Rattle.std.proofs.lemmas.List.{take_at}
 use Rattle.rsct_packet.specs.declared.ids.ViewId.{ViewId}

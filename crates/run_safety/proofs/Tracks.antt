@@ -12,7 +12,7 @@ use Rattle.run_safety.specs.ViewOrder.{is_same}
 use Rattle.run_safety.specs.Group.{Record, In, Put, Begins, puts_from}
 use Rattle.run_safety.specs.GroupLists.{Rises, puts_of, held_by, held, InOrder, From}
 use Rattle.run_safety.proofs.Order.{le_antisym, eq_true, eq_same}
-use Rattle.run_safety.proofs.Prefix.{IsPrefix, prefix_get}
+use Rattle.run_safety.proofs.Prefix.{IsPrefix, prefix_get, at_end}
 
 -- the node or the view is another
 abbrev pub Other : ℕ → ViewId → ℕ → ViewId → Type 0
@@ -149,10 +149,6 @@ records_puts P n v log xs (e ∷ es) i tr l p put h r at =
     let l' : i + 1 ≡ length (xs ++ e ∷ []) = rw length-append (rw l refl) in
     records_puts P n v log (xs ++ e ∷ []) es (i + 1) (Put n v i e ∷ tr) l' p' put (λ q. λ (w : Has q (Put n v i e ∷ tr)). both q w here) r at
   where
-    at_end : (xs : List Entry) (e : Entry) (es : List Entry) → slice_get (xs ++ e ∷ es) (length xs) ≡ Some e
-    at_end [] e es = refl
-    at_end (x ∷ xs) e es = at_end xs e es
-
     both : (q : Record) → Has q (Put n v i e ∷ tr) → slice_get log i ≡ Some e → P q
     both q (inl s) here = subst P (sym s) (put i e here)
     both q (inr s) here = h q s

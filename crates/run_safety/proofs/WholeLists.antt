@@ -17,15 +17,15 @@ use Rattle.run_safety.specs.Tallies.{IsTallied}
 use Rattle.run_safety.specs.Moves.{Leads, Changes, Opening, Alone, Together, Born, Quiet, Collected, SetAt, MayLead, based, entered, grown, Due}
 use Rattle.run_safety.specs.GroupLaws.{AskedAndUntold, AskedFirst}
 use Rattle.run_safety.proofs.Order.{eq_true, eq_same, cases_view}
-use Rattle.run_safety.proofs.Prefix.{IsPrefix, prefix_refl, prefix_get, prefix_next, caught_up}
+use Rattle.run_safety.proofs.Prefix.{IsPrefix, prefix_refl, prefix_get, prefix_next, caught_up, at_end}
 use Rattle.run_safety.proofs.Tracks.{put_many, has_many}
 use Rattle.run_safety.proofs.Appends.{Extends, extends_grows}
 use Rattle.run_safety.proofs.Past.{reply_member, born_number}
 use Rattle.std.specs.Prelude.{find}
 use Rattle.rsct_packet.specs.Providers.{among}
 use Rattle.rsct_packet.proofs.HasLaws.{has_get, has_drop}
-use Rattle.run_safety.proofs.Moves.{Good, move_lead, move_follow, move_start, move_enter, move_name}
-use Rattle.run_safety.proofs.Founds.{move_found, found_unled, gave_front, within, own_front}
+use Rattle.run_safety.proofs.Moves.{Good, gave_front, move_lead, move_follow, move_start, move_enter, move_name}
+use Rattle.run_safety.proofs.Founds.{move_found, found_unled, within, own_front}
 use Rattle.run_safety.proofs.PastIn.{start_unled}
 use Rattle.run_safety.proofs.Firsts.{Firsts, at_longer, firsts_other, firsts_name, firsts_lead, firsts_many}
 use Rattle.run_safety.proofs.Lines.{kept_entered, has_entered, note_entered}
@@ -52,10 +52,6 @@ log_extends log v e =
     by u ne true q = absurd (ne (eq_true u v q))
     by u ne false q = refl
 
-at_end : (xs : List Entry) (e : Entry) → slice_get (xs ++ e ∷ []) (length xs) ≡ Some e
-at_end [] e = refl
-at_end (x ∷ xs) e = at_end xs e
-
 -- an entry of the longer log is old, or the new one
 log_cases : (log log' : ViewId → List Entry) (v : ViewId) (e : Entry) → Extends log log' v e → (u : ViewId) (i : ℕ) (f : Entry) → slice_get (log' u) i ≡ Some f → (slice_get (log u) i ≡ Some f) ⊎ ((u ≡ v) × (i ≡ length (log v)) × (f ≡ e))
 log_cases log log' v e ext u i f h = by (cases_view u v)
@@ -64,7 +60,7 @@ log_cases log log' v e ext u i f h = by (cases_view u v)
     new s g (inl a) = inl (subst (λ w. slice_get (log w) i ≡ Some f) (sym s) a)
     new s g (inr b) =
         let k : slice_get (log v ++ e ∷ []) (length (log v)) ≡ Some f = subst (λ k. slice_get (log v ++ e ∷ []) k ≡ Some f) b g in
-        let l = at_end (log v) e in
+        let l = at_end (log v) e [] in
         let same : f ≡ e = cc in
         inr (s, b, same)
 
@@ -156,7 +152,7 @@ module _ (o : Opening) (nodes : ℕ → Standing) (ps : List Packet) (all : List
       all_of = (w.good.inv.node n).whole (nodes n).inc led
 
       here : slice_get (log_with w.log (nodes n).view e (nodes n).view) (length (nodes n).list) ≡ Some e
-      here = ap (λ l. slice_get l (length (nodes n).list)) ext.here ∙ subst (λ l. slice_get (w.log (nodes n).view ++ e ∷ []) (length l) ≡ Some e) (sym all_of) (at_end (w.log (nodes n).view) e)
+      here = ap (λ l. slice_get l (length (nodes n).list)) ext.here ∙ subst (λ l. slice_get (w.log (nodes n).view ++ e ∷ []) (length l) ≡ Some e) (sym all_of) (at_end (w.log (nodes n).view) e [])
 
       asked : (u : ViewId) (i : ℕ) (p : ProviderId) (r : ℕ) (f : Entry) → slice_get (log_with w.log (nodes n).view e u) i ≡ Some f → Has (p, r) (carried f) → (y : Proposal) × Has (Request u p r y) ps × Meets p y f
       asked u i p r f h d = by (log_cases w.log (log_with w.log (nodes n).view e) (nodes n).view e ext u i f h)

@@ -1,6 +1,6 @@
 -- What the records of a run say of the past. A history is a run with the latest event first, and in each event the
 -- latest record first.
-use Rattle.std.specs.Prelude.{◌≡◌, ℕ, ◌+◌, Bool, ◌&&◌, ◌==◌, ◌⊎◌, List, [], ◌∷◌, ◌++◌, reverse, map, flat_map, take, Option, Some, None, if◌then◌else◌}
+use Rattle.std.specs.Prelude.{ℕ, ◌+◌, Bool, ◌&&◌, ◌==◌, List, [], ◌∷◌, ◌++◌, reverse, map, flat_map, take, Option, Some, None, if◌then◌else◌}
 use Rattle.std.specs.Str.{bytes_eq}
 use Rattle.rsct_packet.specs.declared.ids.ViewId.{ViewId}
 use Rattle.rsct_packet.specs.Ids.{same_view}

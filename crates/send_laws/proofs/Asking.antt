@@ -1,6 +1,6 @@
 -- The install of a node that asks itself alone is made of its own lists, so it may be entered.
 use Rattle.std.proofs.Common.{◌≡◌, ◌≤◌, ℕ, List, [], ◌∷◌, length, map, filter, Some, None, Option, Bool, true, false, cond, refl, sym, ap, ◌∙◌, subst, inl, inr, arith}
-use Rattle.std.specs.Prelude.{IsTrue, not, ◌==◌, ◌||◌, find, is_some, nat_le}
+use Rattle.std.specs.Prelude.{IsTrue, not, ◌==◌, ◌||◌, is_some, nat_le}
 use Rattle.std.specs.Str.{bytes_eq}
 use Rattle.std.proofs.lemmas.Bool.{and_parts}
 use Rattle.std.proofs.lemmas.Bool.Decides.{nat_tests}
@@ -31,9 +31,9 @@ use Rattle.view_state.specs.declared.views.ViewWork.{ViewWork}
 use Rattle.view_state.specs.Views.{view_sent_all, gathering_set, promised, begin_install, gathered, gather_on, own_answer, ask_others, next_view, may_ask, ask_if, ask_rule, prepare_again, note_stuck, tick_asks, asks_or_ages, gathering_ticks, views_at_work}
 use Rattle.node_state.specs.declared.group.GroupRow.{GroupRow}
 use Rattle.node_state.specs.declared.state.Core.{Core}
-use Rattle.node_state.specs.State.{AllAfter, InNameOrder, row_found, row_of, list_of, state_of, held_rows, has_name}
+use Rattle.node_state.specs.State.{list_of, state_of, held_rows}
 use Rattle.node_state.specs.Applying.{part_of_list, own_parts}
-use Rattle.node_state.proofs.NameOrder.{text_same, text_self, lt_self, row_itself, after_has}
+use Rattle.node_state.proofs.NameOrder.{text_same, lt_self, row_itself}
 use Rattle.step_refinement.proofs.Parts.{own_differ}
 use Rattle.send_laws.specs.Bound.{Room, Stands, Fine, FineIf}
 use Rattle.send_laws.proofs.BaseRooms.{bases_room, base_by_name}

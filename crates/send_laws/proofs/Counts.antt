@@ -1,5 +1,5 @@
 -- How lists shorten, and how records, rows and packets are counted.
-use Rattle.std.proofs.Common.{◌≡◌, ◌≤◌, ℕ, ◌+◌, List, [], ◌∷◌, ◌++◌, length, map, filter, find, Some, Bool, true, false, cond, refl, sym, ap, subst, arith}
+use Rattle.std.proofs.Common.{◌≡◌, ◌≤◌, ℕ, ◌+◌, List, [], ◌∷◌, ◌++◌, length, filter, find, Some, Bool, true, false, cond, refl, sym, ap, subst, arith}
 use Rattle.std.specs.Str.{bytes_eq}
 use Rattle.rsct_packet.specs.Text.{name_lt}
 use Rattle.proposal_core.specs.Fold.{present}
@@ -15,14 +15,6 @@ kept_few test [] = omega arith
 kept_few test (x ∷ xs) =
     let h = kept_few test xs in
     elim (test x) as (λ b. length (cond b (x ∷ filter test xs) (filter test xs)) ≤ length (x ∷ xs)) [ true ↦ omega arith | false ↦ omega arith ]
-
-pub none_long : {A : Type 0} (xs : List A) → length xs ≤ 0 → xs ≡ []
-none_long [] h = refl
-none_long (x ∷ xs) h = absurd (omega (arith, h))
-
-pub mapped_long : {A B : Type 0} (f : A → B) (xs : List A) → length (map f xs) ≡ length xs
-mapped_long f [] = refl
-mapped_long f (x ∷ xs) = let h : length (map f xs) ≡ length xs = mapped_long f xs in omega arith
 
 pub puts_both : (xs ys : List Happened) → puts_of (xs ++ ys) ≡ puts_of xs + puts_of ys
 puts_both [] ys = omega arith

@@ -1,10 +1,9 @@
 -- What is put as a view is entered: nothing is sent of it yet, and a ballot is kept for each that hears it.
-use Rattle.std.proofs.Common.{◌≡◌, ◌≤◌, ℕ, ◌+◌, ◌*◌, ◌-◌, List, [], ◌∷◌, length, fold, flat_map, drop, Some, None, Option, Bool, true, false, refl, sym, ap, ◌∙◌, subst, inl, inr, arith}
-use Rattle.std.specs.Prelude.{nat_le, nat_lt, find}
+use Rattle.std.proofs.Common.{◌≡◌, ◌≤◌, ℕ, ◌+◌, ◌*◌, List, [], ◌∷◌, length, fold, flat_map, Some, None, Option, Bool, true, false, refl, sym, ap, ◌∙◌, subst, inl, inr, arith}
+use Rattle.std.specs.Prelude.{find}
 use Rattle.std.specs.Str.{bytes_eq}
 use Rattle.rsct_packet.specs.declared.ids.ProviderId.{ProviderId}
 use Rattle.rsct_packet.specs.declared.ids.ProtoId.{ProtoId}
-use Rattle.rsct_packet.specs.declared.ids.ViewId.{ViewId}
 use Rattle.rsct_packet.specs.Search.{Has}
 use Rattle.proposal_core.specs.declared.entry.Entry.{Entry}
 use Rattle.proposal_core.specs.declared.group_state.GroupState.{GroupState}
@@ -19,10 +18,8 @@ use Rattle.session_state.specs.declared.state.SessionState.{SessionState}
 use Rattle.session_state.specs.HandOn.{hearers, casts_out}
 use Rattle.session_state.specs.HandOn as session
 use Rattle.view_state.specs.declared.install.Part.{Part}
-use Rattle.view_state.specs.Parts.{part_len}
-use Rattle.view_state.specs.Cut.{all_fit, lacking_if, lacking_of}
+use Rattle.view_state.specs.Cut.{all_fit, lacking_of}
 use Rattle.view_exchange.specs.Longest.{NamesDiffer}
-use Rattle.view_bases.proofs.CutLaws.{fit_ends}
 use Rattle.view_state.specs.declared.views.Views.{Views}
 use Rattle.node_state.specs.declared.group.GroupRow.{GroupRow}
 use Rattle.node_state.specs.declared.state.Core.{Core}
@@ -32,6 +29,8 @@ use Rattle.node_state.specs.HandOn.{Answering, fills, heard, notes, noted, ballo
 use Rattle.node_state.specs.Leading.{put, put_and_hand}
 use Rattle.node_state.specs.Applying.{Lacking, lacking_in, fill_lists}
 use Rattle.node_state.proofs.NameOrder.{row_here, row_there}
+use Rattle.step_refinement.proofs.Fits.{both}
+use Rattle.step_refinement.proofs.Fills.{lacking_tried}
 use Rattle.send_laws.specs.Bound.{puts_of, waits_of, Room, Stands}
 use Rattle.send_laws.specs.Lasting.{Lasting}
 use Rattle.send_laws.proofs.Parts.{Goes, free_then, goes_recorded_all, goes_sessions}
@@ -199,15 +198,11 @@ pub record FilledList (g : List ℕ) (s t : Core) : Type 0 where
   pub views : t.views ≡ s.views
   pub there : (h : List ℕ) → (g ≡ h → ⊥) → list_of t h ≡ list_of s h
 
-both_fit : (b c : Bool) → elim b as (λ _. Bool) [ false ↦ false | true ↦ c ] ≡ true → (b ≡ true) × (c ≡ true)
-both_fit true c e = (refl, e)
-both_fit false c e = absurd cc
-
 fill_list : (f : Answering) (g : List ℕ) (es : List Entry) (s : Core) → all_fit s.views.view (list_of s g) es ≡ true → Stands s → FilledList g s (fold (λ u e. put_and_hand f u None g e) s es)
 unfolding all_fit fits_at_end
 fill_list f g [] s h k = record { holds = holds_same s k; views = refl; there = λ y ne. refl }
 fill_list f g (e ∷ es) s h k =
-    let b = both_fit (entry_fits (list_of s g) e) (all_fit s.views.view (with_entry (list_of s g) s.views.view e) es) h in
+    let b = both (entry_fits (list_of s g) e) (all_fit s.views.view (with_entry (list_of s g) s.views.view e) es) h in
     let t : Core = put_and_hand f s None g e in
     let o : FilledOne g s t (with_entry (list_of s g) s.views.view e) = fill_one f s g e b.0 k in
     let z : all_fit s.views.view (list_of t g) es ≡ true = subst (λ l. all_fit s.views.view l es ≡ true) (sym o.here) b.1 in
@@ -249,22 +244,6 @@ fill_all f (x ∷ xs) s h a k =
     let r : FilledAll t (fill_lists f t xs) = fill_all f xs t (fit_still s t x.name o.views o.there xs a.0 h.1) a.1 o.holds.stands in
     record { holds = holds_free s t (fill_lists f t xs) o.holds r.holds; views = r.views ∙ o.views }
 
-lacking_fit : (v : ViewId) (l : GroupView) (p : Part) (es : List Entry) → lacking_of v l p ≡ Some es → all_fit v l es ≡ true
-unfolding lacking_of lacking_if
-lacking_fit v l p es q = by (nat_le (part_len p) l.len) (nat_lt l.len p.start) q
-  where
-    rest : List Entry
-    rest = drop (l.len - p.start) p.entries
-
-    at : (b : Bool) → all_fit v l rest ≡ b → lacking_if b rest ≡ Some es → all_fit v l es ≡ true
-    at true e q = let z : rest ≡ es = cc in subst (λ x. all_fit v l x ≡ true) z e
-    at false e q = absurd cc
-
-    by : (b c : Bool) → elim b as (λ _. Option (List Entry)) [ true ↦ Some [] | false ↦ elim c as (λ _. Option (List Entry)) [ true ↦ None | false ↦ lacking_if (all_fit v l rest) rest ] ] ≡ Some es → all_fit v l es ≡ true
-    by true c q = let z : [] ≡ es = cc in subst (λ x. all_fit v l x ≡ true) z (fit_ends v l)
-    by false true q = absurd cc
-    by false false q = at (all_fit v l rest) refl q
-
 -- what lacks is of the parts, in turn
 record Lacks (s : Core) (ps : List Part) (xs : List Lacking) : Type 0 where
   pub fit : FitIn s xs
@@ -280,7 +259,7 @@ lacks s (p ∷ ps) xs d q = by (lacking_of s.views.view (list_of s p.name) p) (l
     one : (es : List Entry) (ys : List Lacking) → lacking_of s.views.view (list_of s p.name) p ≡ Some es → Lacks s ps ys → Lacks s (p ∷ ps) (record { name = p.name; entries = es } ∷ ys)
     one es ys e r =
         record {
-          fit = (lacking_fit s.views.view (list_of s p.name) p es e, r.fit);
+          fit = (lacking_tried s.views.view (list_of s p.name) p es e, r.fit);
           apart = ((λ y h same. let k = r.named y h in d.0 k.0 k.1 (sym k.2 ∙ sym same)), r.apart);
           named = λ y h. named_in y h;
         }

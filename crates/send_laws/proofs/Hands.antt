@@ -1,6 +1,7 @@
 -- How many ballots are sent as an entry is handed on: one for each that hears it at most.
 use Rattle.std.proofs.Common.{◌≡◌, ◌≤◌, ℕ, ◌+◌, List, [], ◌∷◌, ◌++◌, length, map, filter, fold, flat_map, Some, None, Option, Bool, true, false, refl, arith, length-append}
 use Rattle.std.specs.Prelude.{is_none}
+use Rattle.std.proofs.lemmas.Bool.{and_parts}
 use Rattle.rsct_packet.specs.declared.ids.ProviderId.{ProviderId}
 use Rattle.rsct_packet.specs.declared.ids.ProtoId.{ProtoId}
 use Rattle.proposal_core.specs.declared.entry.Entry.{Entry}
@@ -23,7 +24,7 @@ use Rattle.node_state.specs.Sending.{vote_of}
 use Rattle.node_state.specs.HandOn.{Answering, fills, cast_record, cast_records, heard, note_of, notes, noted, ballot_sent, cast_sent_of, casts_sent, hand_on}
 use Rattle.send_laws.specs.Bound.{puts_of, Room, Stands}
 use Rattle.send_laws.proofs.Counts.{kept_few, puts_both}
-use Rattle.send_laws.proofs.Rooms.{both, begins_room}
+use Rattle.send_laws.proofs.Rooms.{begins_room}
 use Rattle.send_laws.proofs.Parts.{Goes, goes_same, goes_more, free_then, fold_each, goes_sent_if, goes_recorded_all, goes_sessions}
 
 -- ---- who hears
@@ -35,9 +36,9 @@ idle_joiners (Some run) e = absurd cc
 brought_room : (st : GroupState) (e : Entry) → fits st e ≡ true → Room st → length st.members + length (joiners_in st.running) + length (brought_by e) ≤ 64
 unfolding fits
 brought_room st (Once x) f r =
-    let a = both (is_none st.running) (can_begin st x) f in omega (arith, idle_joiners st.running a.0, begins_room st x (omega arith) a.1)
+    let a = and_parts (is_none st.running) (can_begin st x) f in omega (arith, idle_joiners st.running a.0, begins_room st x (omega arith) a.1)
 brought_room st (Begin x) f r =
-    let a = both (is_none st.running) (can_begin st x) f in omega (arith, idle_joiners st.running a.0, begins_room st x (omega arith) a.1)
+    let a = and_parts (is_none st.running) (can_begin st x) f in omega (arith, idle_joiners st.running a.0, begins_room st x (omega arith) a.1)
 brought_room st (Phase c) f r = omega arith
 brought_room st (Approve c) f r = omega arith
 brought_room st (Reject c) f r = omega arith

@@ -1,6 +1,8 @@
 -- What the leader of a group sends: a hundred packets for each entry that it puts, at most.
 use Rattle.std.proofs.Common.{◌≡◌, ◌≤◌, ℕ, zero, suc, ◌+◌, ◌*◌, List, [], ◌∷◌, ◌++◌, length, map, filter, Some, None, Option, Bool, true, false, refl, sym, ◌∙◌, subst, arith}
 use Rattle.std.specs.Prelude.{not, nat_le, ◌==◌, ◌-◌, max, drop, if◌then◌else◌}
+use Rattle.std.proofs.lemmas.Bool.{and_parts}
+use Rattle.std.proofs.lemmas.List.{length-map}
 use Rattle.rsct_packet.specs.declared.ids.ProviderId.{ProviderId}
 use Rattle.rsct_packet.specs.declared.ids.Member.{Member}
 use Rattle.rsct_packet.specs.Providers.{among}
@@ -28,8 +30,8 @@ use Rattle.node_state.specs.HandOn.{Answering, hand_on}
 use Rattle.node_state.specs.Leading.{put, put_and_hand, forget_least, with_waiting, wait_if, new_members_wait, appended, append_if_fits, tally_set, tally_for, tally_opened, with_tally, closing_entry, is_phase, closes_from, closes, begin_many, begins}
 use Rattle.send_laws.specs.Bound.{puts_of, waits_of, Room, Stands}
 use Rattle.send_laws.specs.Lasting.{Lasting}
-use Rattle.send_laws.proofs.Counts.{kept_few, mapped_long, puts_both}
-use Rattle.send_laws.proofs.Rooms.{both, room_after}
+use Rattle.send_laws.proofs.Counts.{kept_few, puts_both}
+use Rattle.send_laws.proofs.Rooms.{room_after}
 use Rattle.send_laws.proofs.Parts.{Goes, goes_same, goes_then, then_free, fold_free, goes_row, goes_led, goes_sent_all}
 use Rattle.send_laws.proofs.Hands.{goes_handed}
 
@@ -62,7 +64,7 @@ puts_put s g e k =
 
 pub fit_state : (s : Core) (g : List ℕ) (e : Entry) → fits_at_end s g e ≡ true → fits (state_of s g) e ≡ true
 unfolding fits_at_end entry_fits state_of
-fit_state s g e h = (both (fits (list_of s g).state e) (has_room (list_of s g) e) h).0
+fit_state s g e h = (and_parts (fits (list_of s g).state e) (has_room (list_of s g) e) h).0
 
 -- a follower hands on what it puts
 pub goes_put_and_handed : (f : Answering) (s : Core) (to : Option ℕ) (g : List ℕ) (e : Entry) → fits_at_end s g e ≡ true → Stands s → Goes 0 s (put_and_hand f s to g e)
@@ -121,7 +123,7 @@ goes_members_wait s g before after k =
 pub others_few : (s : Core) → Stands s → length (others s) ≤ 32
 unfolding others others_of
 others_few s k =
-    omega (arith, kept_few (λ n. not (n == s.views.me)) (map (λ (m : Member). m.node) s.views.members), mapped_long (λ (m : Member). m.node) s.views.members, k.few)
+    omega (arith, kept_few (λ n. not (n == s.views.me)) (map (λ (m : Member). m.node) s.views.members), length-map s.views.members (λ (m : Member). m.node), k.few)
 
 pub goes_appended : (f : Answering) (s : Core) (g : List ℕ) (e : Entry) → fits_at_end s g e ≡ true → Stands s → Goes 0 s (appended f s g e)
 unfolding appended

@@ -1,6 +1,7 @@
 -- What is sent of what a node owes to the leaders of groups, in a tick.
 use Rattle.std.proofs.Common.{◌≡◌, ◌≤◌, ℕ, ◌+◌, List, [], ◌∷◌, length, filter, fold, Some, None, Option, Bool, true, false, cond, refl, ap, ◌∙◌, subst, arith}
 use Rattle.std.specs.Prelude.{◌&&◌, ◌==◌, is_some, is_none}
+use Rattle.std.proofs.lemmas.Bool.{and_parts}
 use Rattle.rsct_packet.specs.declared.ids.ProviderId.{ProviderId}
 use Rattle.proposal_core.specs.Lists.{state_in}
 use Rattle.proposal_core.specs.Fold.{present, runs}
@@ -19,7 +20,6 @@ use Rattle.node_state.specs.Sending.{send_on, sent, send_if_known, send_request_
 use Rattle.node_state.specs.Ticks.{is_lost, lost_told, tick_owed}
 use Rattle.send_laws.specs.Bound.{is_own, owned_of, owed_count, Stands}
 use Rattle.send_laws.proofs.Counts.{own_in}
-use Rattle.send_laws.proofs.Rooms.{both}
 use Rattle.send_laws.proofs.Parts.{Goes, goes_same, goes_then, goes_more, fold_each, goes_sent_if}
 use Rattle.send_laws.proofs.Rules.{nothing_of}
 use Rattle.send_laws.proofs.Ticks.{goes_requests_sent, goes_votes_again}
@@ -101,7 +101,7 @@ fewer p q more (x ∷ xs) = by (p x) (q x) (more x) (fewer p q more xs)
 
 lost_own : (s : Core) (p : ProviderId) → is_lost s p ≡ true → is_own s.views.me s.views.inc p ≡ true
 unfolding is_lost
-lost_own s p e = (both (p.node == s.views.me && p.inc == s.views.inc) (is_none (provider_of s.sessions p)) e).0
+lost_own s p e = (and_parts (p.node == s.views.me && p.inc == s.views.inc) (is_none (provider_of s.sessions p)) e).0
 
 goes_lost : (s : Core) (row : GroupRow) → Stands s → Goes (own_in s.views.me s.views.inc row) s (lost_told s row)
 unfolding lost_told

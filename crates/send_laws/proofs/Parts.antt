@@ -1,6 +1,8 @@
 -- What a part of a step adds, and how parts come one after another.
-use Rattle.std.proofs.Common.{◌≡◌, ◌≤◌, ◌<◌, ◌⊎◌, ℕ, ◌+◌, List, [], ◌∷◌, ◌++◌, length, fold, Some, None, Option, true, refl, sym, ap, ◌∙◌, subst, inl, inr, arith, length-append}
+use Rattle.std.proofs.Common.{◌≡◌, ◌≤◌, ◌<◌, ◌⊎◌, ℕ, ◌+◌, ◌*◌, List, [], ◌∷◌, ◌++◌, length, fold, Some, None, Option, true, refl, sym, ap, ◌∙◌, subst, inl, inr, arith, length-append}
 use Rattle.std.specs.Prelude.{is_some}
+use Rattle.std.proofs.Math.Nat.{mul-suc, mul-zero}
+use Rattle.std.proofs.lemmas.List.{nil_from_length}
 use Rattle.rsct_packet.specs.Search.{Has}
 use Rattle.rsct_packet.proofs.HasLaws.{has_append}
 use Rattle.proposal_core.specs.Lists.{state_in}
@@ -16,7 +18,7 @@ use Rattle.node_state.specs.Sending.{send_on, sent, send_all, send_if_known, pac
 use Rattle.node_state.proofs.NameOrder.{KeepsName, cases_text, row_here, row_there, rows_ordered}
 use Rattle.send_laws.specs.Bound.{puts_of, Room, Stands, Within}
 use Rattle.send_laws.specs.Lasting.{WaitsFew, FewBody, FewSent, Lasting}
-use Rattle.send_laws.proofs.Counts.{none_long, joins_in, puts_both, waits_with}
+use Rattle.send_laws.proofs.Counts.{joins_in, puts_both, waits_with}
 
 -- from one state to another in the same view
 pub record Goes (c : ℕ) (s t : Core) : Type 0 where
@@ -52,13 +54,15 @@ goes_fold c f one [] s k = goes_same s k
 goes_fold c f one (x ∷ xs) s k =
     let a : Goes c s (f s x) = one s x k in goes_then c (times c xs) s (f s x) (fold f (f s x) xs) a (goes_fold c f one xs (f s x) a.stands)
 
-pub times_none : {A : Type 0} (xs : List A) → times 0 xs ≡ 0
-times_none [] = refl
-times_none (x ∷ xs) = let h : times 0 xs ≡ 0 = times_none xs in omega arith
+pub times_each : {A : Type 0} (c : ℕ) (xs : List A) → times c xs ≡ c * length xs
+times_each c [] = sym (mul-zero c)
+times_each c (x ∷ xs) = omega (arith, times_each c xs, mul-suc c (length xs))
 
-pub times_one : {A : Type 0} (xs : List A) → times 1 xs ≡ length xs
-times_one [] = refl
-times_one (x ∷ xs) = let h : times 1 xs ≡ length xs = times_one xs in omega arith
+times_none : {A : Type 0} (xs : List A) → times 0 xs ≡ 0
+times_none xs = omega (arith, times_each 0 xs)
+
+times_one : {A : Type 0} (xs : List A) → times 1 xs ≡ length xs
+times_one xs = omega (arith, times_each 1 xs)
 
 pub fold_free : {A : Type 0} (f : Core → A → Core) → ((s : Core) (x : A) → Stands s → Goes 0 s (f s x)) → (xs : List A) (s : Core) → Stands s → Goes 0 s (fold f s xs)
 fold_free f one xs s k = subst (λ c. Goes c s (fold f s xs)) (times_none xs) (goes_fold 0 f one xs s k)
@@ -102,7 +106,7 @@ fewer_wait row new same few w = record { few = omega (arith, few, w.few); known 
   where
     by : (row.led.waiting.joins ≡ []) ⊎ (is_some row.leader ≡ true) → (new.led.waiting.joins ≡ []) ⊎ (is_some new.leader ≡ true)
     by (inl e) =
-        let z : length row.led.waiting.joins ≡ 0 = ap length e in inl (none_long new.led.waiting.joins (omega (arith, few, z)))
+        let z : length row.led.waiting.joins ≡ 0 = ap length e in inl (nil_from_length new.led.waiting.joins (omega (arith, few, z)))
     by (inr e) = inr (subst (λ o. is_some o ≡ true) (sym same) e)
 
 -- what is led changes

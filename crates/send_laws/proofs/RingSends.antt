@@ -1,6 +1,8 @@
 -- How many packets an adapter's ring sends in one step: 97 in a tick, 64 for a packet.
 use Rattle.std.proofs.Common.{◌≡◌, ◌≤◌, ℕ, ◌+◌, ◌*◌, List, [], ◌∷◌, length, map, Some, None, Option, Bool, true, false, refl, sym, ap, ◌∙◌, subst, arith, length-append}
 use Rattle.std.specs.Prelude.{not, ◌&&◌, ◌==◌, nat_le, is_none}
+use Rattle.std.proofs.lemmas.Bool.{and_parts}
+use Rattle.std.proofs.lemmas.List.{length-map}
 use Rattle.rsct_packet.specs.declared.ids.RingId.{RingId}
 use Rattle.rsct_packet.specs.declared.mask.Mask.{Mask}
 use Rattle.rsct_packet.specs.Ids.{same_ring, last_u32, risen}
@@ -17,8 +19,7 @@ use Rattle.adapter_ring.specs.declared.ring.Gathering.{Gathering}
 use Rattle.adapter_ring.specs.declared.work.RingWork.{RingWork}
 use Rattle.adapter_ring.specs.Addresses.{has_addr, outside}
 use Rattle.adapter_ring.specs.Rings.{neighbour, upstream, ring_leads, is_shared, patience, ring_send, ring_send_all, ring_set, ring_close, ring_gathering, next_ring, ring_numbered, ring_gather_on, ring_gather, ring_alone, send_heartbeat, ring_proclaim, ring_beat, buries, death_counts, death_rule, death_told_to, tell_death, ring_wait_on, ring_wait, ring_ages_of, ring_age, ring_tick, heartbeat_rule, answers_proclaim, proclaim_rule, takes_join, join_rule, may_promise, ptc_rule, ack_rule_of, ack_rule, is_promised, commit_rule, all_lower, packet_rule, ring_rule, at_work, ring_step}
-use Rattle.send_laws.proofs.Counts.{kept_few, mapped_long}
-use Rattle.send_laws.proofs.Rooms.{both}
+use Rattle.send_laws.proofs.Counts.{kept_few}
 
 pub nodes_few : (m : Mask) → length (nodes_of m) ≤ 32
 unfolding nodes_of
@@ -39,7 +40,7 @@ sent_many : (w : RingWork) (to : List ℕ) (p : RingPacket) → Adds (length to)
 unfolding ring_send_all
 sent_many w to p =
     let f : ℕ → RingSend = λ n. record { network = w.ring.net; to = n; packet = p } in
-    omega (arith, length-append w.sends (map f to), mapped_long f to)
+    omega (arith, length-append w.sends (map f to), length-map to f)
 
 sent_same : (w : RingWork) (to : ℕ) (p : RingPacket) → (ring_send w to p).ring.gathering ≡ w.ring.gathering
 unfolding ring_send
@@ -135,7 +136,7 @@ beats_few w c few = by (risen w.ring.beat == w.ring.settings.every)
     by : (b : Bool) → Adds (1 + c) w (elim b [ true ↦ ring_proclaim (send_heartbeat z) | false ↦ record w { ring = record (w.ring) { beat = risen w.ring.beat } } ])
     by true =
         let h = heart (is_shared z.ring) in
-        let p : Adds c (send_heartbeat z) (ring_proclaim (send_heartbeat z)) = proclaim (send_heartbeat z) (ring_leads (send_heartbeat z).ring && is_none (send_heartbeat z).ring.gathering) (λ e. few (subst (λ x. is_none x ≡ true) h.1 (both (ring_leads (send_heartbeat z).ring) (is_none (send_heartbeat z).ring.gathering) e).1)) in
+        let p : Adds c (send_heartbeat z) (ring_proclaim (send_heartbeat z)) = proclaim (send_heartbeat z) (ring_leads (send_heartbeat z).ring && is_none (send_heartbeat z).ring.gathering) (λ e. few (subst (λ x. is_none x ≡ true) h.1 (and_parts (ring_leads (send_heartbeat z).ring) (is_none (send_heartbeat z).ring.gathering) e).1)) in
         omega (arith, h.0, p)
     by false = omega arith
 
@@ -143,14 +144,14 @@ beats_few w c few = by (risen w.ring.beat == w.ring.settings.every)
 death_idle : (r : Ring) (id : RingId) (d : ℕ) → death_counts r id d ≡ true → is_none r.gathering ≡ true
 unfolding death_counts
 death_idle r id d e =
-    let a = both (same_ring id r.id && not (d == r.me) && has_node r.members d && is_none r.gathering) (buries r d) e in
-    (both (same_ring id r.id && not (d == r.me) && has_node r.members d) (is_none r.gathering) a.0).1
+    let a = and_parts (same_ring id r.id && not (d == r.me) && has_node r.members d && is_none r.gathering) (buries r d) e in
+    (and_parts (same_ring id r.id && not (d == r.me) && has_node r.members d) (is_none r.gathering) a.0).1
 
 join_idle : (r : Ring) (from : ℕ) (ms : Mask) → takes_join r from ms ≡ true → is_none r.gathering ≡ true
 unfolding takes_join
 join_idle r from ms e =
-    let a = both (ring_leads r && is_none r.gathering && has_node ms from) (all_lower r ms) e in
-    let b = both (ring_leads r && is_none r.gathering) (has_node ms from) a.0 in (both (ring_leads r) (is_none r.gathering) b.0).1
+    let a = and_parts (ring_leads r && is_none r.gathering && has_node ms from) (all_lower r ms) e in
+    let b = and_parts (ring_leads r && is_none r.gathering) (has_node ms from) a.0 in (and_parts (ring_leads r) (is_none r.gathering) b.0).1
 
 none_young : (o : Option Gathering) → is_none o ≡ true → Young o
 none_young None e = tt

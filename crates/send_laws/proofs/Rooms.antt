@@ -1,6 +1,7 @@
 -- A group keeps room for its providers under any entry.
 use Rattle.std.proofs.Common.{◌≡◌, ◌≤◌, ℕ, ◌+◌, List, [], ◌∷◌, length, Some, None, Option, Bool, true, false, refl, sym, subst, arith, length-append}
-use Rattle.std.specs.Prelude.{◌&&◌, nat_le, is_none}
+use Rattle.std.specs.Prelude.{nat_le, is_none}
+use Rattle.std.proofs.lemmas.Bool.{and_parts}
 use Rattle.std.proofs.lemmas.Bool.Decides.{nat_tests}
 use Rattle.rsct_packet.specs.declared.ids.ProviderId.{ProviderId}
 use Rattle.rsct_packet.specs.declared.ids.ViewId.{ViewId}
@@ -16,14 +17,10 @@ use Rattle.proposal_core.specs.Fold.{max_providers, joins_of, joiners_in, fallen
 use Rattle.send_laws.specs.Bound.{Room}
 use Rattle.send_laws.proofs.Counts.{kept_few}
 
-pub both : (a b : Bool) → (a && b) ≡ true → (a ≡ true) × (b ≡ true)
-both true b e = (refl, e)
-both false b e = absurd cc
-
 pub begins_room : (s : GroupState) (x : Proposal) → length s.members ≤ 64 → can_begin s x ≡ true → length s.members + length (joins_of x) ≤ 64
 unfolding can_begin
 begins_room s (Join ps attrs n) m h =
-    let k = (both (none_among s.members ps) (nat_le (length s.members + length ps) max_providers) h).1 in grind (arith, nat_tests)
+    let k = (and_parts (none_among s.members ps) (nat_le (length s.members + length ps) max_providers) h).1 in grind (arith, nat_tests)
 begins_room s (Leave p r) m h = omega arith
 begins_room s (Fail out) m h = omega arith
 begins_room s (Expel p r out) m h = omega arith
@@ -110,8 +107,8 @@ begun_room s v i x r h =
 applied_room : (s : GroupState) (v : ViewId) (i : ℕ) (e : Entry) → fits s e ≡ true → Room s → Room (apply s v i e)
 unfolding apply fits
 applied_room s v i (Once x) f r =
-    let b = begun_room s v i x r (both (is_none s.running) (can_begin s x) f).1 in approved_room (begun s v i x) v i None (begun s v i x).running b b
-applied_room s v i (Begin x) f r = begun_room s v i x r (both (is_none s.running) (can_begin s x) f).1
+    let b = begun_room s v i x r (and_parts (is_none s.running) (can_begin s x) f).1 in approved_room (begun s v i x) v i None (begun s v i x).running b b
+applied_room s v i (Begin x) f r = begun_room s v i x r (and_parts (is_none s.running) (can_begin s x) f).1
 applied_room s v i (Phase c) f r = next_room s c.value s.running refl r
 applied_room s v i (Approve c) f r = approved_room s v i c.value s.running r r
 applied_room s v i (Reject c) f r = rejected_room s s.running r

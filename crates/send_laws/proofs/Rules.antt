@@ -1,6 +1,6 @@
 -- What the rules of the packets of a view send: a fixed number, beside a hundred for each put, and for a name the
 -- outstanding requests.
-use Rattle.std.proofs.Common.{◌≡◌, ◌≤◌, ◌<◌, ℕ, ◌+◌, List, [], ◌∷◌, ◌++◌, length, filter, Some, None, Option, Bool, true, false, inr, refl, sym, subst, arith, length-append}
+use Rattle.std.proofs.Common.{◌≡◌, ◌≤◌, ◌<◌, ℕ, List, [], ◌∷◌, ◌++◌, length, filter, Some, None, Option, Bool, true, false, inr, refl, sym, subst, arith, length-append}
 use Rattle.std.specs.Prelude.{nat_le, nat_lt, not, is_some, is_none, ◌&&◌, ◌==◌}
 use Rattle.std.proofs.lemmas.Bool.Decides.{nat_tests}
 use Rattle.std.specs.Option.{unwrap_or}

@@ -1,5 +1,6 @@
 -- What stays few between two events: at each node that is up, and in all that was sent. A start and a step keep it.
-use Rattle.std.proofs.Common.{◌≡◌, ◌≤◌, ℕ, ◌+◌, List, [], ◌++◌, length, filter, Option, Some, None, refl, sym, subst, inl, ⊎_elim, arith}
+use Rattle.std.proofs.Common.{◌≡◌, ◌≤◌, ℕ, List, [], ◌++◌, length, filter, Option, Some, None, refl, sym, subst, inl, ⊎_elim, arith}
+use Rattle.std.proofs.lemmas.List.{length-map}
 use Rattle.rsct_packet.specs.declared.ids.Member.{Member}
 use Rattle.rsct_packet.specs.Mask.{nodes_of}
 use Rattle.rsct_packet.specs.Search.{Has}
@@ -17,7 +18,7 @@ use Rattle.node_state.specs.Step.{at_work, own_ring, own_rings, first_members, s
 use Rattle.step_refinement.specs.Rules.{at_node}
 use Rattle.step_refinement.proofs.Changed.{each_set}
 use Rattle.send_laws.specs.Lasting.{FewSent, Lasting}
-use Rattle.send_laws.proofs.Counts.{kept_few, mapped_long}
+use Rattle.send_laws.proofs.Counts.{kept_few}
 use Rattle.send_laws.proofs.RingSends.{nodes_few}
 
 -- of a node that is up
@@ -38,12 +39,12 @@ rings_few c Fixed n inc = omega arith
 rings_few c Asked n inc = omega arith
 rings_few c Rings n inc =
     let z : length (filter (has_adapter c n) networks) ≤ 4 = kept_few (has_adapter c n) networks in
-    omega (arith, z, mapped_long (own_ring c n inc) (filter (has_adapter c n) networks))
+    omega (arith, z, length-map (filter (has_adapter c n) networks) (own_ring c n inc))
 
 members_few : (c : Config) (mode : Mode) (n inc : ℕ) → length (first_members c mode n inc) ≤ 32
 unfolding first_members
 members_few c Fixed n inc =
-    let f : ℕ → Member = λ m. record { node = m; inc = 1 } in omega (arith, nodes_few c.nodes, mapped_long f (nodes_of c.nodes))
+    let f : ℕ → Member = λ m. record { node = m; inc = 1 } in omega (arith, nodes_few c.nodes, length-map (nodes_of c.nodes) f)
 members_few c Asked n inc = omega arith
 members_few c Rings n inc = omega arith
 

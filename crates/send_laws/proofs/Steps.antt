@@ -1,6 +1,7 @@
 -- How many packets a whole step sends.
 use Rattle.std.proofs.Common.{◌≡◌, ◌≤◌, ℕ, ◌+◌, ◌*◌, List, [], ◌∷◌, length, filter, None, Bool, true, false, cond, inl, inr, refl, ap, arith}
 use Rattle.std.specs.Prelude.{◌==◌}
+use Rattle.std.proofs.lemmas.List.{length-map}
 use Rattle.rsct_packet.specs.declared.mask.Mask.{Mask}
 use Rattle.rsct_packet.specs.Search.{Has}
 use Rattle.view_state.specs.declared.packet.ViewPacket.{ViewPacket}
@@ -25,7 +26,6 @@ use Rattle.node_state.specs.Calls.{take_call}
 use Rattle.node_state.specs.Step.{NodeEvent, is_used, used_if, take_order, view_rule, take_body, packet_rule, event_rule, at_work, stepped}
 use Rattle.node_state.specs.Step.NodeEvent.{Ticks, Asks, Given, Calls, Garbage}
 use Rattle.send_laws.specs.Bound.{puts_of, waits_of, Stands, FineIf, FewAnswers, owed_count, brought, brought_by, brought_in, brought_to, led_count, Ready}
-use Rattle.send_laws.proofs.Counts.{mapped_long}
 use Rattle.send_laws.proofs.Parts.{Goes, goes_same, goes_sent_on}
 use Rattle.send_laws.proofs.Rules.{goes_lookup, goes_name, goes_request, goes_tell, goes_entry, goes_ack, goes_vote, goes_gone}
 use Rattle.send_laws.proofs.Calls.{goes_call}
@@ -134,7 +134,7 @@ waits_led s (row ∷ rows) h = by (leads_in s row) (h row (inl refl)).1 (waits_l
 
 led_long : (s : Core) → length (led_groups s) ≡ length (filter (leads_in s) s.groups)
 unfolding led_groups
-led_long s = mapped_long (λ (row : GroupRow). row.name) (filter (leads_in s) s.groups)
+led_long s = length-map (filter (leads_in s) s.groups) (λ (row : GroupRow). row.name)
 
 -- the step as it is taken
 pub moves_stepped : (f : Answering) (s : Core) (e : NodeEvent) → Ready (at_work s) e → Moves (486 + 2 * owed_count (at_work s) + 512 * led_count (at_work s)) (at_work s) (stepped f s e)

@@ -1,6 +1,7 @@
 -- What the parts of a tick send.
-use Rattle.std.proofs.Common.{◌≡◌, ◌≤◌, ℕ, zero, suc, ◌+◌, ◌*◌, ◌-◌, List, [], ◌∷◌, length, filter, fold, take, drop, Some, None, Option, Bool, true, false, refl, subst, arith}
+use Rattle.std.proofs.Common.{◌≡◌, ◌≤◌, ℕ, ◌+◌, ◌*◌, ◌-◌, List, [], ◌∷◌, length, filter, fold, take, drop, Some, None, Option, Bool, true, false, refl, subst, arith}
 use Rattle.std.specs.Prelude.{not, ◌&&◌, ◌==◌, find}
+use Rattle.std.proofs.lemmas.List.{length-take}
 use Rattle.rsct_packet.specs.declared.mask.Mask.{Mask}
 use Rattle.rsct_packet.specs.Mask.{nodes_of}
 use Rattle.proposal_core.specs.declared.entry.Entry.{Entry}
@@ -31,7 +32,7 @@ use Rattle.node_state.specs.Leading.{with_tally, closes}
 use Rattle.node_state.specs.Ticks.{ring_put, set_records, ring_taken, ring_rule_of, ring_rule, row_reported, take_report, rings_union, report_of, send_report, rings_tick, tick_rings, late_appended, announced, ticked_in, tally_ticks, entries_sent, list_sent_again, sent_again, tick_group, tick_led}
 use Rattle.send_laws.specs.Bound.{puts_of, Stands}
 use Rattle.send_laws.proofs.Counts.{kept_few}
-use Rattle.send_laws.proofs.Parts.{Goes, times, goes_same, goes_then, goes_more, then_free, free_then, goes_fold, fold_each, goes_sent, goes_sent_on, goes_sent_all, goes_recorded_all}
+use Rattle.send_laws.proofs.Parts.{Goes, times, times_each, goes_same, goes_then, goes_more, then_free, free_then, goes_fold, fold_each, goes_sent, goes_sent_on, goes_sent_all, goes_recorded_all}
 use Rattle.send_laws.proofs.Leads.{others_few, goes_appended_if, goes_with_tally, goes_closes}
 use Rattle.send_laws.proofs.Rules.{nothing_of, goes_request_sent}
 use Rattle.send_laws.proofs.Calls.{goes_kept_sent}
@@ -110,10 +111,6 @@ goes_report_sent s m k =
     let few : length ns ≤ 32 = omega (arith, kept_few (λ n. not (n == s.views.me)) (nodes_of m), nodes_few m) in
     goes_more (length ns) 32 s (send_all t ns b) few (free_then (length ns) s t (send_all t ns b) a (goes_sent_all ns t b tt a.stands))
 
-times_97 : {A : Type 0} (xs : List A) → times 97 xs ≡ 97 * length xs
-times_97 [] = refl
-times_97 (x ∷ xs) = let h : times 97 xs ≡ 97 * length xs = times_97 xs in omega arith
-
 -- (1) of at most four rings
 pub goes_rings_part : (s : Core) → length s.rings ≤ 4 → Stands s → Goes 420 s (tick_rings s)
 unfolding tick_rings rings_tick
@@ -130,7 +127,7 @@ goes_rings_part s four k = by (is_rings s.config.mode)
 
     by : (b : Bool) → Goes 420 s (elim b [ true ↦ send_report t (rings_union t.rings) | false ↦ s ])
     by true =
-        goes_more (times 97 s.rings + 32) 420 s (send_report t (rings_union t.rings)) (omega (arith, times_97 s.rings, four)) (goes_then (times 97 s.rings) 32 s t (send_report t (rings_union t.rings)) gt (goes_report_sent t (rings_union t.rings) gt.stands))
+        goes_more (times 97 s.rings + 32) 420 s (send_report t (rings_union t.rings)) (omega (arith, times_each 97 s.rings, four)) (goes_then (times 97 s.rings) 32 s t (send_report t (rings_union t.rings)) gt (goes_report_sent t (rings_union t.rings) gt.stands))
     by false = nothing_of 420 s k
 
 -- ---- what is owed
@@ -182,21 +179,12 @@ goes_entries to g i stable (e ∷ es) s k =
     let b : Goes (length es) t (entries_sent to g (i + 1) stable es t) = goes_entries to g (i + 1) stable es t a.stands in
     goes_more (1 + length es) (length (e ∷ es)) s (entries_sent to g (i + 1) stable es t) (omega arith) (goes_then 1 (length es) s t (entries_sent to g (i + 1) stable es t) a b)
 
-taken_few : {A : Type 0} (n : ℕ) (xs : List A) → length (take n xs) ≤ n
-taken_few zero xs = omega arith
-taken_few (suc n) [] = omega arith
-taken_few (suc n) (x ∷ xs) = let h : length (take n xs) ≤ n = taken_few n xs in omega arith
-
 goes_list_again : (s : Core) (g : List ℕ) (n first : ℕ) (o : Option GroupView) → Stands s → Goes 16 s (list_sent_again s g n first o)
 unfolding list_sent_again
 goes_list_again s g n first None k = nothing_of 16 s k
 goes_list_again s g n first (Some l) k =
     let es : List Entry = take 16 (drop (first - l.start) l.entries) in
-    goes_more (length es) 16 s (entries_sent n g first (least_acked s g) es s) (taken_few 16 (drop (first - l.start) l.entries)) (goes_entries n g first (least_acked s g) es s k)
-
-times_16 : {A : Type 0} (xs : List A) → times 16 xs ≡ 16 * length xs
-times_16 [] = refl
-times_16 (x ∷ xs) = let h : times 16 xs ≡ 16 * length xs = times_16 xs in omega arith
+    goes_more (length es) 16 s (entries_sent n g first (least_acked s g) es s) (omega (arith, length-take 16 (drop (first - l.start) l.entries))) (goes_entries n g first (least_acked s g) es s k)
 
 pub goes_group_ticks : (f : Answering) (s : Core) (g : List ℕ) → Stands s → Goes 512 s (tick_group f s g)
 unfolding tick_group sent_again
@@ -205,11 +193,7 @@ goes_group_ticks f s g k =
     let a : Goes 0 s t = goes_tally_ticks f s g (led_of s g).tally k in
     let u : Core = fold (sent_again g) t (others t) in
     let b : Goes (times 16 (others t)) t u = goes_fold 16 (sent_again g) (λ x n h. goes_list_again x g n (acked_by x (row_of x g) n) (row_of x g).list h) (others t) t a.stands in
-    goes_more (times 16 (others t)) 512 s u (omega (arith, times_16 (others t), others_few t a.stands)) (free_then (times 16 (others t)) s t u a b)
-
-times_512 : {A : Type 0} (xs : List A) → times 512 xs ≡ 512 * length xs
-times_512 [] = refl
-times_512 (x ∷ xs) = let h : times 512 xs ≡ 512 * length xs = times_512 xs in omega arith
+    goes_more (times 16 (others t)) 512 s u (omega (arith, times_each 16 (others t), others_few t a.stands)) (free_then (times 16 (others t)) s t u a b)
 
 -- (5) of each led group up to 16 entries again to each other member
 pub goes_led_part : (f : Answering) (s : Core) → Stands s → Goes (512 * length (led_groups s)) s (tick_led f s)
@@ -219,4 +203,4 @@ goes_led_part f s k = by (frozen s)
     by : (b : Bool) → Goes (512 * length (led_groups s)) s (elim b [ true ↦ s | false ↦ fold (tick_group f) s (led_groups s) ])
     by true = nothing_of (512 * length (led_groups s)) s k
     by false =
-        subst (λ c. Goes c s (fold (tick_group f) s (led_groups s))) (times_512 (led_groups s)) (goes_fold 512 (tick_group f) (goes_group_ticks f) (led_groups s) s k)
+        subst (λ c. Goes c s (fold (tick_group f) s (led_groups s))) (times_each 512 (led_groups s)) (goes_fold 512 (tick_group f) (goes_group_ticks f) (led_groups s) s k)

@@ -1,6 +1,7 @@
 -- How many packets the rules of views send, and that they leave the view as it is.
 use Rattle.std.proofs.Common.{◌≡◌, ◌≤◌, ℕ, ◌+◌, List, [], ◌∷◌, length, map, filter, Some, None, Option, Bool, true, false, cond, refl, ◌∙◌, arith, length-append}
 use Rattle.std.specs.Prelude.{not, ◌&&◌, ◌==◌, nat_le}
+use Rattle.std.proofs.lemmas.List.{length-map}
 use Rattle.rsct_packet.specs.declared.ids.ViewId.{ViewId}
 use Rattle.rsct_packet.specs.declared.ids.Member.{Member}
 use Rattle.rsct_packet.specs.declared.mask.Mask.{Mask}
@@ -19,7 +20,7 @@ use Rattle.view_state.specs.declared.views.RingAsk.{RingAsk}
 use Rattle.view_state.specs.declared.views.ViewWork.{ViewWork}
 use Rattle.view_state.specs.Views.{is_frozen, is_coordinator, others_of, view_sent, view_sent_all, gathering_set, promised, begin_install, gathered, gather_on, own_answer, ask_others, next_view, may_ask, ask_if, ask_rule, answered, prepare, prepare_rule, answer_to, answer_rule, refused_by, refuse_to, refuse_rule, installed, install_rule, taken_rule, aged, prepare_again, tick_asks, note_stuck, asks_or_ages, gathering_ticks, install_again_of, install_again}
 use Rattle.send_laws.specs.Bound.{FewAnswers}
-use Rattle.send_laws.proofs.Counts.{kept_few, mapped_long}
+use Rattle.send_laws.proofs.Counts.{kept_few}
 use Rattle.send_laws.proofs.RingSends.{nodes_few}
 
 -- so many packets more, in the same view
@@ -49,7 +50,7 @@ works_all : (w : ViewWork) (ns : List ℕ) (p : ViewPacket) → Works (length ns
 unfolding view_sent_all
 works_all w ns p =
     let f : ℕ → ViewSend = λ n. record { to = n; packet = p } in
-    record { sends = omega (arith, length-append w.sends (map f ns), mapped_long f ns); members = refl; view = refl; me = refl; inc = refl }
+    record { sends = omega (arith, length-append w.sends (map f ns), length-map ns f); members = refl; view = refl; me = refl; inc = refl }
 
 works_set : (w : ViewWork) (g : Option Exchange) → Works 0 w (gathering_set w g)
 unfolding gathering_set
@@ -62,7 +63,7 @@ works_promised w v = record { sends = omega arith; members = refl; view = refl; 
 others_few : (me : ℕ) (ms : List Member) → length (others_of me ms) ≤ length ms
 unfolding others_of
 others_few me ms =
-    omega (arith, kept_few (λ n. not (n == me)) (map (λ (m : Member). m.node) ms), mapped_long (λ (m : Member). m.node) ms)
+    omega (arith, kept_few (λ n. not (n == me)) (map (λ (m : Member). m.node) ms), length-map ms (λ (m : Member). m.node))
 
 works_installs : (w : ViewWork) (i : Install) (b : Bool) → Works (length i.members) w (begin_install w i b)
 unfolding begin_install

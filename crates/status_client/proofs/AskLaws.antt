@@ -1,17 +1,18 @@
 -- A question over a link: how it is opened, asked and answered.
-use Rattle.std.proofs.Common.{◌≡◌, ℕ, Bool, true, false, List, [], ◌∷◌, Option, refl, sym, ◌∙◌, ap, subst}
+use Rattle.std.proofs.Common.{◌≡◌, ℕ, Bool, true, List, [], ◌∷◌, Option, refl, subst}
 use Rattle.hags_io.specs.declared.link.LinkCall.{LinkCall}
 use Rattle.hags_io.specs.Links.{Counts, Same, Tells, was_opened}
 use Rattle.node_state.specs.declared.config.Config.{Config}
 use Rattle.node_state.specs.declared.packet.Packet.{Packet}
 use Rattle.daemon_model.specs.Sent.{Went, packet_calls}
 use Rattle.daemon_model.specs.Opens.{all_opens}
+use Rattle.daemon_run.specs.Ends.{WasOpened}
 use Rattle.daemon_run.proofs.EndLaws.{tells_kept, same_tells, went_before}
 use Rattle.daemon_run.proofs.KeepLaws.{same_on}
 use Rattle.status_client.specs.declared.question.Asking.{Asking}
 use Rattle.status_client.specs.Question.{question_at, question_packet, question_piece, question_call}
 use Rattle.status_client.specs.Waiting.{Waited, nothing_heard}
-use Rattle.status_client.specs.Asked.{Answered, Unanswered, Failing, Asked, AsksThen, WasOpened, EndsByLink, NotOpened, Ran}
+use Rattle.status_client.specs.Asked.{Answered, Unanswered, Failing, Asked, AsksThen}
 
 -- the packet of a question is short, so that it goes out in one piece
 one_piece : (c : Config) (asking : Asking) (question : ℕ) → packet_calls 0 0 1 (question_packet c asking question) ≡ question_call c asking question ∷ []
@@ -62,9 +63,3 @@ asks_then c asking o p q r done a d e u v P is same told kept first next h = rec
   opened = subst (λ (t : Bool). WasOpened o r t) is (tells_kept o q r (was_opened 0 done) (same_tells o p q (was_opened 0 done) same told) kept);
   asked = record { moment = h.moment; read = h.read; sent = h.sent; went = went_before a e h.sent _ (same_on a d e first next) h.went; then = h.then };
 }
-
-pub not_opened : (o p q : Option (Option (ℕ × Bool))) (done : Bool) (a d e : Option (List LinkCall)) (P : Type 0) → done ≡ false → Same o p → Tells p q (was_opened 0 done) → Same a d → Same d e → EndsByLink o q a e P
-not_opened o p q done a d e P is same told first next = NotOpened (subst (λ (t : Bool). WasOpened o q t) is (same_tells o p q (was_opened 0 done) same told)) (same_on a d e first next)
-
-pub ran : (o q : Option (Option (ℕ × Bool))) (a e : Option (List LinkCall)) (P : Type 0) → P → EndsByLink o q a e P
-ran o q a e P p = Ran p

@@ -1,15 +1,16 @@
 -- Receives, one after the other.
-use Rattle.std.proofs.Common.{◌≡◌, ℕ, ◌+◌, ◌<◌, ◌≤◌, min, List, [], ◌∷◌, ◌++◌, fold, length, Option, Some, None, refl, sym, ◌∙◌, ap, subst, append_assoc, append-nil, arith}
+use Rattle.std.proofs.Common.{◌≡◌, ℕ, ◌+◌, ◌<◌, ◌≤◌, min, List, [], ◌∷◌, ◌++◌, Option, Some, None, refl, sym, ◌∙◌, ap, subst, arith}
 use Rattle.std.proofs.lemmas.List.{length-append}
 use Rattle.hags_io.specs.declared.link.LinkCall.{LinkCall}
 use Rattle.hags_io.specs.declared.link.LinkCall.TheVariants as call
 use Rattle.hags_io.specs.Links.{Grows}
 use Rattle.piece_link.specs.Joining.{Joining, Joined, joined_as, taken}
 use Rattle.daemon_model.specs.Lives.{most_failed}
+use Rattle.daemon_run.specs.Keeping.{IsReceive}
 use Rattle.daemon_run.proofs.WentLaws.{grows_none, grows_on}
 use Rattle.status_client.specs.declared.waiting.Waiting.{Waiting}
 use Rattle.status_client.specs.Question.{answer_of, reply_to}
-use Rattle.status_client.specs.Waiting.{Waited, heard, heard_all, answer_by, IsReceive, GoesOn}
+use Rattle.status_client.specs.Waiting.{Waited, heard, heard_all, answer_by, GoesOn}
 use Rattle.status_client.specs.Asked.{waited, Hears, WaitsOn, Answered, Unanswered, Failing}
 
 -- ---- a datagram

@@ -1,14 +1,16 @@
 -- What is left of a question: how it went out, and what came.
-use Rattle.std.specs.Prelude.{◌≡◌, ℕ, ◌<◌, ◌≤◌, Bool, true, false, List, [], ◌∷◌, ◌++◌, length, Option, Some, None}
+use Rattle.std.specs.Prelude.{◌≡◌, ℕ, ◌<◌, ◌≤◌, Bool, true, List, [], ◌∷◌, ◌++◌, length, Option, Some, None}
 use Rattle.hags_io.specs.declared.link.LinkCall.{LinkCall}
-use Rattle.hags_io.specs.Links.{Counts, Grows, Same, Tells, was_opened}
+use Rattle.hags_io.specs.Links.{Counts, Grows}
 use Rattle.node_state.specs.declared.config.Config.{Config}
 use Rattle.daemon_model.specs.Sent.{Went}
 use Rattle.daemon_model.specs.Lives.{most_failed}
+use Rattle.daemon_run.specs.Ends.{WasOpened}
+use Rattle.daemon_run.specs.Keeping.{IsReceive}
 use Rattle.status_client.specs.declared.question.Asking.{Asking}
 use Rattle.status_client.specs.declared.waiting.Waiting.{Waiting}
 use Rattle.status_client.specs.Question.{question_at, question_call}
-use Rattle.status_client.specs.Waiting.{Waited, nothing_heard, heard, heard_all, answer_by, IsReceive, GoesOn}
+use Rattle.status_client.specs.Waiting.{Waited, heard, heard_all, answer_by, GoesOn}
 
 -- ---- receives
 
@@ -71,16 +73,7 @@ pub record Asked (c : Config) (asking : Asking) (a : Option (List LinkCall)) (u 
   pub went : Went a sent (question_call c asking (question_at moment) ∷ [])
   pub then : P (question_at moment) sent
 
--- the link was to be opened, at a port that is free
-abbrev pub WasOpened : Option (Option (ℕ × Bool)) → Option (Option (ℕ × Bool)) → Bool → Type 0
-WasOpened o r done = Tells o r (was_opened 0 done)
-
--- it was opened, and then this
+-- the link was opened, and then this
 pub record AsksThen (c : Config) (asking : Asking) (o r : Option (Option (ℕ × Bool))) (a : Option (List LinkCall)) (u v : Option (List ℕ)) (P : ℕ → Option (List LinkCall) → Type 0) : Type 0 where
   pub opened : WasOpened o r true
   pub asked : Asked c asking a u v P
-
--- it could not be opened, and nothing more was done; or this
-pub data EndsByLink (o r : Option (Option (ℕ × Bool))) (a b : Option (List LinkCall)) (P : Type 0) : Type 0 where
-  NotOpened : WasOpened o r false → Same a b → EndsByLink o r a b P
-  Ran : P → EndsByLink o r a b P

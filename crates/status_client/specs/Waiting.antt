@@ -1,10 +1,10 @@
 -- What a status client receives, one receive after the other.
 use Rattle.std.specs.Prelude.{◌≡◌, ℕ, ◌<◌, List, [], ◌∷◌, fold, Option, None}
 use Rattle.hags_io.specs.declared.link.LinkCall.{LinkCall}
-use Rattle.hags_io.specs.declared.link.LinkCall.TheVariants as call
 use Rattle.piece_link.specs.Joining.{Joining}
 use Rattle.daemon_model.specs.Daemon.{joined_by, failed_by}
 use Rattle.daemon_model.specs.Lives.{most_failed}
+use Rattle.daemon_run.specs.Keeping.{IsReceive}
 use Rattle.status_client.specs.Question.{answer_of}
 
 -- what it joins, and how many receives failed in a row, up to 16
@@ -24,10 +24,6 @@ heard_all w gots = fold heard w gots
 -- the text of the answer, where this receive completes it
 unfoldable pub answer_by : ℕ → Waited → LinkCall → Option (List ℕ)
 answer_by question w got = answer_of question (joined_by got w.joining).message
-
-abbrev pub IsReceive : LinkCall → Type 0
-IsReceive (call.Sent node network bytes out) = ⊥
-IsReceive _ = Unit {0}
 
 -- all are receives; none of them completes the answer, and none is the sixteenth in a row that fails
 abbrev pub GoesOn : ℕ → Waited → List LinkCall → Type 0

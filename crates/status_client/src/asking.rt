@@ -1,11 +1,12 @@
 //! A question to a daemon.
 ghost use Rattle.std.specs.Prelude.{◌≡◌, ◌≤◌, ◌+◌, IfOk, OnErr, Err};
 ghost use Rattle.hags_io.specs.Edges.{Rose};
-ghost use Rattle.hags_io.specs.Links.{Tells};
+ghost use Rattle.hags_io.specs.Links.{Same, Tells};
 ghost use Rattle.daemon_model.specs.Settings.{all_places};
+ghost use Rattle.daemon_run.specs.Ends.{EndsByLink};
 ghost use Rattle.daemon_run.specs.Keeping.{KeepsLink};
 ghost use Rattle.status_client.specs.Waiting.{nothing_heard};
-ghost use Rattle.status_client.specs.Asked.{Answered, Unanswered, Failing, Asked, AsksThen, EndsByLink};
+ghost use Rattle.status_client.specs.Asked.{Answered, Unanswered, Failing, Asked, AsksThen};
 
 use crate::question::{Asking, question_packet};
 use crate::waiting::{AskFault, Waiting};
@@ -58,7 +59,7 @@ fn converse<L: Link, M: Clock>(
 ///
 /// `NoReply` where none of the receives that it may do brought a reply to this question; `LinkFault` where the link
 /// could not be opened, or 16 receives in a row failed before one; `NoMemory` where memory has run out.
-#[tactic(auto, using(crate::proofs::AskLaws::asks_then, crate::proofs::AskLaws::not_opened, crate::proofs::AskLaws::ran, daemon_run::proofs::EndLaws::tells_kept, daemon_run::proofs::KeepLaws::same_on))]
+#[tactic(auto, using(crate::proofs::AskLaws::asks_then, daemon_run::proofs::EndLaws::not_opened, daemon_run::proofs::EndLaws::ran, daemon_run::proofs::EndLaws::tells_kept, daemon_run::proofs::KeepLaws::same_on))]
 pub fn ask<L: Link, M: Clock>(
     alloc: Global,
     config: &Config,
@@ -77,7 +78,7 @@ pub fn ask<L: Link, M: Clock>(
         (M.moments clock.new) (λ question sent. Unanswered question asking.turns nothing_heard sent
         (L.calls link.new)) }
     ensures failing { result ≡ Err AskFault.LinkFault → EndsByLink (L.opened link.old)
-        (L.opened link.new) (L.calls link.old) (L.calls link.new) (AsksThen config.now asking
+        (L.opened link.new) (Same (L.calls link.old) (L.calls link.new)) (AsksThen config.now asking
         (L.opened link.old) (L.opened link.new) (L.calls link.old) (M.moments clock.old)
         (M.moments clock.new) (λ question sent. Failing question asking.turns nothing_heard sent
         (L.calls link.new))) }

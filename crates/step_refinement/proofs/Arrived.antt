@@ -34,7 +34,7 @@ use Rattle.node_state.specs.HandOn.{subscriber_name, note_of}
 use Rattle.node_state.specs.Applying.{is_in_base, number_of, dissolved, dissolved_if, group_dissolved, sides_dissolved, base_note, entering_note, entering_noted, taken_sent, owed_sent}
 use Rattle.run_safety.specs.Past.{History, earlier, view_now, records_of}
 use Rattle.run_safety.specs.Sight.{lines_of}
-use Rattle.run_safety.specs.Group.{Noted, Asked, Told}
+use Rattle.run_safety.specs.Group.{Noted}
 use Rattle.run_safety.specs.Group as group
 use Rattle.step_refinement.specs.Ghost.{asking}
 use Rattle.step_refinement.specs.Tied.{Numbered, Scene, lines_now, Tied}

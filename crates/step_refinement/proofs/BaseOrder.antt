@@ -107,7 +107,8 @@ row_of_base g (b ∷ bs) = by (bytes_eq b.name g) (row_of_base g bs)
 abbrev pub base_noted : ℕ → ViewId → Base → Happened
 base_noted n v b = happened.Base n v b.name b.from b.len b.state
 
-none_named : (g : List ℕ) (bs : List Base) → AllAfter g (map base_row bs) → base_named bs g ≡ None
+-- no base of a name whom all come after
+pub none_named : (g : List ℕ) (bs : List Base) → AllAfter g (map base_row bs) → base_named bs g ≡ None
 unfolding base_row
 none_named g bs a = by (base_named bs g) refl
   where

@@ -1,12 +1,12 @@
 -- What the end of a step leaves of a row: a list that is held stays held, no join comes to wait, and where at most one
 -- join waited without a list, none waits.
 use Rattle.std.proofs.Common.{◌≡◌, ◌≤◌, ◌⊎◌, ℕ, zero, suc, List, [], ◌∷◌, length, Option, Some, None, Bool, true, false, refl, sym, ap, ◌∙◌, subst, inl, inr, arith}
-use Rattle.std.specs.Prelude.{not, filter, find, fold, map, is_some}
+use Rattle.std.specs.Prelude.{not, filter, find, fold, is_some}
 use Rattle.rsct_packet.specs.declared.ids.ProviderId.{ProviderId}
 use Rattle.rsct_packet.specs.Lists.{is_empty}
 use Rattle.rsct_packet.specs.Providers.{among}
 use Rattle.rsct_packet.specs.Search.{Has}
-use Rattle.rsct_packet.proofs.HasLaws.{find_has, filter_has}
+use Rattle.rsct_packet.proofs.HasLaws.{find_has, filter_has, map_has}
 use Rattle.group_attr.specs.declared.attrs.Phases.{Phases}
 use Rattle.group_attr.specs.declared.attrs.Phases.TheVariants.{One, Many}
 use Rattle.group_attr.specs.declared.attrs.Attrs.{Attrs}
@@ -39,7 +39,7 @@ use Rattle.proposal_core.specs.Fold.{max_phases}
 use Rattle.node_state.specs.Deciding.{keep_decision, refused, known_state, lacks_source, source_len}
 use Rattle.node_state.specs.Ending.{Pass, quiet, begun_now, failures_begin, due_begins, source_begins, attrs_for, carried_len, source_refused, joins_begin, or_due, or_joins, may_begin, first_begins, group_begins, one_pass, passes}
 use Rattle.node_state.proofs.NameOrder.{KeepsName, cases_text, text_same, row_here, row_there, rows_ordered}
-use Rattle.step_refinement.proofs.Idle.{none_held, held_none}
+use Rattle.step_refinement.proofs.Idle.{none_held, held_none, forgotten_held}
 use Rattle.step_refinement.proofs.Appending.{sent_all_is, handed_rows, joins_kept}
 
 -- what is left of the group's row
@@ -55,15 +55,6 @@ pub drop_fewer : {A : Type 0} (b : Bool) (xs : List A) → length (left_of b xs)
 drop_fewer true xs = omega arith
 drop_fewer false [] = omega arith
 drop_fewer false (x ∷ xs) = omega arith
-
-mapped_has : {A B : Type 0} (f : A → B) (x : A) (xs : List A) → Has x xs → Has (f x) (map f xs)
-mapped_has f x [] h = absurd h
-mapped_has f x (y ∷ xs) (inl e) = inl (ap f e)
-mapped_has f x (y ∷ xs) (inr h) = inr (mapped_has f x xs h)
-
-forgotten_held : (m : ℕ) (l : Option GroupView) → is_some l ≡ true → is_some (list_forgotten m l) ≡ true
-forgotten_held m None e = e
-forgotten_held m (Some l) e = refl
 
 module _ (g : List ℕ) where
   onward_same : (c : Core) → Onward g c c
@@ -462,7 +453,7 @@ module _ (g : List ℕ) where
         by (Some row) e =
             let h = find_has (has_name g) c.groups row e in
             let in_order : leads_in c row ≡ true = ap (λ o. leads_in c (row_found g o)) (sym e) ∙ led in
-            let i = mapped_has (λ (row : GroupRow). row.name) row (filter (leads_in c) c.groups) (filter_has (leads_in c) row c.groups h.0 in_order) in
+            let i = map_has (λ (row : GroupRow). row.name) row (filter (leads_in c) c.groups) (filter_has (leads_in c) row c.groups h.0 in_order) in
             inl (subst (λ z. Has z (led_groups c)) (text_same row.name g h.1) i)
 
     pass_none : (k : ℕ) (c : Core) → InNameOrder c.groups → WaitsAtMost 1 c → Has g (led_groups c) ⊎ WaitsAtMost 0 c → InNameOrder (one_pass (suc k) f c).core.groups × WaitsAtMost 0 (one_pass (suc k) f c).core

@@ -52,7 +52,7 @@ use Rattle.step_refinement.proofs.ViewRules.{same_of, apart_of}
 use Rattle.step_refinement.proofs.Refusals.{refusing}
 use Rattle.step_refinement.proofs.Decisions.{NoOlder, Unbegun, Fresh, with_decision, with_here, with_there, decided_still}
 use Rattle.step_refinement.proofs.Deciding.{refused_goes}
-use Rattle.step_refinement.proofs.Idle.{led_lightens}
+use Rattle.step_refinement.proofs.Idle.{led_lightens, no_joins}
 use Rattle.step_refinement.proofs.Begun.{drop_fewer, led_begun}
 use Rattle.step_refinement.proofs.Appending.{MayPut, may_carry_none, busy_open, state_open, Leading, led_goes, begins_goes}
 use Rattle.step_refinement.proofs.SessionLaws.{provider_self, provider_same}
@@ -464,10 +464,6 @@ step_begun g w n f s t = by (same_view s.views.promise s.views.view) refl
     promised : (o : Option Exchange) → GathersIf t.ghost g n s.views.inc s.views.view s.views.promise o → t.ghost.asks ≡ false → s.views.promise ≡ s.views.view
     promised None h a = h a
     promised (Some e) h a = absurd (let z : true ≡ false = sym h.asks ∙ a in cc)
-
-    no_joins : (xs : List ProviderId) → length xs ≤ 0 → xs ≡ []
-    no_joins [] e = refl
-    no_joins (x ∷ xs) e = absurd (omega (arith, e))
 
     by : (b : Bool) → same_view s.views.promise s.views.view ≡ b → Begun g (elim (not b) as (λ _. Core) [ true ↦ s | false ↦ passes (suc (length s.groups * max_places)) (suc (length s.groups * max_places)) f s ])
     by false e fixed led bare =

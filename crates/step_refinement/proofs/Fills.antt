@@ -397,7 +397,7 @@ lacking_is x g full whole s (p ∷ ps) xs d k c e =
         ap (collected g) z ∙ ap (λ b. if b then es ++ collected g ys else collected g ys) r ∙ rest ys c q
 
 -- what a list lacks was tried at its end
-lacking_tried : (v : ViewId) (l : GroupView) (p : Part) (es : List Entry) → lacking_of v l p ≡ Some es → all_fit v l es ≡ true
+pub lacking_tried : (v : ViewId) (l : GroupView) (p : Part) (es : List Entry) → lacking_of v l p ≡ Some es → all_fit v l es ≡ true
 unfolding lacking_of lacking_if
 lacking_tried v l p es = by (nat_le (part_len p) l.len) (nat_lt l.len p.start) (all_fit v l (drop (l.len - p.start) p.entries)) refl
   where

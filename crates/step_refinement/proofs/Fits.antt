@@ -32,7 +32,8 @@ unfolding with_entry
 pushed_state v [] l = refl
 pushed_state v (x ∷ xs) l = pushed_state v xs (with_entry l v x)
 
-both : (b c : Bool) → elim b as (λ _. Bool) [ false ↦ false | true ↦ c ] ≡ true → (b ≡ true) × (c ≡ true)
+-- what holds together, apart
+pub both : (b c : Bool) → elim b as (λ _. Bool) [ false ↦ false | true ↦ c ] ≡ true → (b ≡ true) × (c ≡ true)
 both true c e = (refl, e)
 both false c e = absurd (cc)
 

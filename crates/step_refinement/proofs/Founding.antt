@@ -33,7 +33,7 @@ use Rattle.node_state.specs.HandOn.{Answering}
 use Rattle.node_state.specs.Applying.{Lacking, lacking_in, lacking, fill_lists, base_leader, view_entered, sides_dissolved, entering_noted, taken_sent, owed_sent, entered, entered_if, apply_install}
 use Rattle.view_state.specs.Cut.{lacking_of}
 use Rattle.run_safety.specs.ViewOrder.{Lt}
-use Rattle.run_safety.specs.Group.{member, members_of, Standing, Reply, Origin, In, Line, Kept, kept, lines_from}
+use Rattle.run_safety.specs.Group.{member, members_of, Standing, Reply, Origin, In, Kept, kept, lines_from}
 use Rattle.run_safety.specs.Group as group
 use Rattle.run_safety.specs.Bases.{Bases, leader_of}
 use Rattle.run_safety.specs.Moves.{Leads, Opening, Life, Quiet, Collected, based, Founds}

@@ -77,7 +77,7 @@ pub none_held : (l : Option GroupView) → (is_some l ≡ true → ⊥) → l �
 none_held None ne = refl
 none_held (Some l) ne = absurd (ne refl)
 
-no_joins : (xs : List ProviderId) → length xs ≤ 0 → xs ≡ []
+pub no_joins : (xs : List ProviderId) → length xs ≤ 0 → xs ≡ []
 no_joins [] e = refl
 no_joins (x ∷ xs) e = absurd (omega (arith, e))
 
@@ -123,9 +123,9 @@ led_lightens f fewer = record { bare = λ row e. e; held = λ row e. e; joins = 
 pub leader_lightens : (m : ℕ) → Lightens (λ row. record row { leader = Some m })
 leader_lightens m = record { bare = λ row e. e; held = λ row e. e; joins = λ row. omega arith }
 
+pub forgotten_held : (m : ℕ) (l : Option GroupView) → is_some l ≡ true → is_some (list_forgotten m l) ≡ true
+forgotten_held m None e = e
+forgotten_held m (Some l) e = refl
+
 pub forgets_lighten : (m : ℕ) → Lightens (λ row. record row { list = list_forgotten m row.list })
-forgets_lighten m = record { bare = λ row e. ap (list_forgotten m) e; held = λ row e. held row.list e; joins = λ row. omega arith }
-  where
-    held : (l : Option GroupView) → is_some l ≡ true → is_some (list_forgotten m l) ≡ true
-    held None e = e
-    held (Some l) e = refl
+forgets_lighten m = record { bare = λ row e. ap (list_forgotten m) e; held = λ row e. forgotten_held m row.list e; joins = λ row. omega arith }

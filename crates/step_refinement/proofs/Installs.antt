@@ -22,7 +22,7 @@ use Rattle.node_state.specs.Applying.{Lacking, lacking, fill_lists, view_entered
 use Rattle.node_state.specs.Step.{view_rule, take_body}
 use Rattle.run_safety.specs.ViewOrder.{Lt, Le}
 use Rattle.run_safety.specs.Sight.{lines_with, lines_of}
-use Rattle.run_safety.specs.Group.{member, Standing, Origin, Record, In, Put, Note, Based, Heard, Asked, Told, Line, Kept, Noted, kept, lines_from, puts_from}
+use Rattle.run_safety.specs.Group.{member, Standing, kept}
 use Rattle.run_safety.specs.Group as group
 use Rattle.run_safety.specs.Moves.{Quiet, Enters}
 use Rattle.run_safety.proofs.Parts.{Entered}

@@ -29,7 +29,7 @@ use Rattle.step_refinement.proofs.RowWorks.{waits_of}
 
 module _ (w : Scene) (n : ℕ) (s : Core) (none : s.records ≡ []) (all : (h : List ℕ) → Tied h w n s) where
   -- what was put before the event, its group sees
-  seen : (h : List ℕ) (m : ℕ) (u : ViewId) (k : ℕ) (e : Entry) → Has (happened.Put m u h k e) (records_of w.before) → Has (Put m u k e) (kept (all h).ghost.all)
+  pub seen : (h : List ℕ) (m : ℕ) (u : ViewId) (k : ℕ) (e : Entry) → Has (happened.Put m u h k e) (records_of w.before) → Has (Put m u k e) (kept (all h).ghost.all)
   seen h m u k e i =
       let lines : (all h).ghost.all ≡ Kept Begins ∷ lines_of h w.before = (all h).lines ∙ ap (λ z. lines_with h (reverse z) w.before (lines_of h w.before)) none in
       subst (λ z. Has (Put m u k e) (kept z)) (sym lines) (inr (put_seen m u h k e w.before i))

@@ -1,25 +1,19 @@
 -- What the leaders of groups do in a view that was entered: failed members wait, and the phase that runs opens anew.
-use Rattle.std.proofs.Common.{◌≡◌, ℕ, List, [], ◌∷◌, Some, Bool, true, false, cond, refl, sym, ap, ◌∙◌, subst, inl, inr}
-use Rattle.std.specs.Prelude.{filter, fold, find, is_some}
-use Rattle.std.specs.Str.{bytes_eq}
+use Rattle.std.proofs.Common.{◌≡◌, ℕ, List, [], ◌∷◌, Bool, true, false, refl, inl, inr}
+use Rattle.std.specs.Prelude.{filter, fold, is_some}
 use Rattle.rsct_packet.specs.declared.ids.ProviderId.{ProviderId}
 use Rattle.rsct_packet.specs.Providers.{among}
-use Rattle.rsct_packet.specs.Text.{name_lt}
 use Rattle.rsct_packet.specs.Search.{Has}
-use Rattle.rsct_packet.proofs.HasLaws.{has_filter, has_map}
 use Rattle.proposal_core.specs.declared.proposal.Cause.TheVariants.{Died}
 use Rattle.batch_rules.specs.Waiting.{add_failure}
-use Rattle.node_state.specs.declared.group.GroupRow.{GroupRow}
 use Rattle.node_state.specs.declared.state.Core.{Core}
-use Rattle.node_state.specs.State.{AllAfter, InNameOrder, row_found, row_of, leads_in, leads, led_groups, state_of, has_name}
+use Rattle.node_state.specs.State.{leads, led_groups, state_of}
 use Rattle.node_state.specs.HandOn.{Answering}
 use Rattle.node_state.specs.Leading.{with_waiting, tally_opened}
 use Rattle.node_state.specs.Applying.{wait_failed, phase_reopened, lead, lead_groups}
 use Rattle.step_refinement.specs.Tied.{Scene, Tied}
-use Rattle.node_state.proofs.NameOrder.{text_same, text_self, lt_self, led_are_led}
+use Rattle.node_state.proofs.NameOrder.{led_are_led}
 use Rattle.step_refinement.proofs.Appending.{Leading, waits_goes, opened_goes, closed_goes}
-
--- ---- rows by their names
 
 module _ (g : List ℕ) (w : Scene) (n : ℕ) (s : Core) (f : Answering) (thawed : s.views.promise ≡ s.views.view) where
   wait_goes : (h : List ℕ) (ps : List ProviderId) (c : Core) → Leading g w n s c → Leading g w n s (fold (λ d p. with_waiting d h (add_failure p Died)) c ps)

@@ -30,14 +30,14 @@ use Rattle.node_state.specs.Sending.{sent}
 use Rattle.node_state.specs.HandOn.{Answering}
 use Rattle.node_state.specs.Following.{take_lookup, requests_of, named, is_name_used, take_name, take_tell}
 use Rattle.node_state.specs.Step.{is_used, used_if, take_body}
-use Rattle.run_safety.specs.Group.{member, Standing, In, kept}
+use Rattle.run_safety.specs.Group.{member, In, kept}
 use Rattle.run_safety.specs.Group as group
 use Rattle.run_safety.specs.GroupLists.{puts_of}
-use Rattle.run_safety.specs.Moves.{Opening, Alone, Together, Born}
+use Rattle.run_safety.specs.Moves.{Opening, Alone}
 use Rattle.run_safety.specs.Moves as moves
 use Rattle.run_safety.proofs.Order.{cases_view}
 use Rattle.run_safety.proofs.Prefix.{IsPrefix}
-use Rattle.run_safety.proofs.Past.{Origin}
+use Rattle.run_safety.proofs.Past.{Origin, born_number}
 use Rattle.run_safety.proofs.Whole.{Whole}
 use Rattle.run_safety.proofs.Lives.{whole, always_same_members}
 use Rattle.step_refinement.specs.Ghost.{asking, Ghost, Goes, Lives, Seen}
@@ -133,10 +133,6 @@ module _ (g : List ℕ) (x : Ghost) (v : ViewId) (l : Member) (was : x.leads v �
 
 -- ---- members of a view lead it
 
-born_first : (o : Opening) (n j : ℕ) (v : ViewId) (ms : List Member) → Born o n j v ms → v.number ≡ 1
-born_first Alone n j v ms b = ap (λ (z : ViewId). z.number) b.0
-born_first (Together u all) n j v ms b = ap (λ (z : ViewId). z.number) b.0 ∙ b.3
-
 -- who leads is a member
 leader_member : {o : Opening} (x : Ghost) → Lives o x → (n j : ℕ) (v : ViewId) (ms : List Member) → Has (In n j v ms) (kept x.all) → (m i : ℕ) → x.leads v ≡ Some (member m i) → Has (member m i) ms
 leader_member {o = o} x life n j v ms h m i e = by (k.good.past.led v m i e)
@@ -146,7 +142,7 @@ leader_member {o = o} x life n j v ms h m i e = by (k.good.past.led v m i e)
 
     installed : (ns : List Member) (ss : ViewId → List Entry) → Has (group.Install v ns ss) x.ps → Has (member m i) ns → Origin o x.ps n j v ms → Has (member m i) ms
     installed ns ss a b (inl born) =
-        absurd (let l = (k.good.past.made v ns ss a).later in let one = born_first o n j v ms born in omega arith)
+        absurd (let l = (k.good.past.made v ns ss a).later in let one = born_number o n j v ms born in omega arith)
     installed ns ss a b (inr q) = subst (Has (member m i)) (k.good.inv.one v ns ms ss q.0 a q.1).0 b
 
     by : moves.Led x.ps (kept x.all) v m i → Has (member m i) ms

@@ -46,7 +46,7 @@ use Rattle.step_refinement.proofs.Turns.{Fewer, turns_pushed, turns_packets, tur
 
 -- ---- lists with one more entry
 
-fold_pushed : (v : ViewId) (xs : List Entry) (s : GroupState) (i : ℕ) (e : Entry) → fold_from v s i (xs ++ e ∷ []) ≡ after (fold_from v s i xs) v (i + length xs) e
+pub fold_pushed : (v : ViewId) (xs : List Entry) (s : GroupState) (i : ℕ) (e : Entry) → fold_from v s i (xs ++ e ∷ []) ≡ after (fold_from v s i xs) v (i + length xs) e
 fold_pushed v [] s i e = let q : i ≡ i + 0 = omega arith in ap (λ k. after s v k e) q
 fold_pushed v (x ∷ xs) s i e =
     let q : (i + 1) + length xs ≡ i + suc (length xs) = omega arith in

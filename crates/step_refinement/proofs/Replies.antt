@@ -1,8 +1,7 @@
 -- What a coordinator has gathered, as an install carries it: the list of a group that is carried from each old view is the
 -- longest of the answers from there, and the group's base is that of the install.
 use Rattle.std.proofs.Common.{◌≡◌, ◌⊎◌, ◌≤◌, ◌<◌, ℕ, List, [], ◌∷◌, length, drop, Option, Some, None, Bool, true, false, cond, refl, sym, ap, ◌∙◌, subst, inl, inr, ⊎_elim, length-drop, arith}
-use Rattle.std.specs.Prelude.{◌==◌, ◌&&◌, ◌||◌, not, map, filter, find, fold, is_some, is_none}
-use Rattle.std.specs.List.{list_any}
+use Rattle.std.specs.Prelude.{◌==◌, ◌&&◌, ◌||◌, not, map, filter, find, fold, is_some}
 use Rattle.std.specs.Option.{option_map}
 use Rattle.std.specs.Str.{bytes_eq}
 use Rattle.std.proofs.lemmas.Bool.{eqb-true, eq-eqb, and_parts}
@@ -16,7 +15,7 @@ use Rattle.rsct_packet.specs.Mask.{has_node}
 use Rattle.rsct_packet.specs.Providers.{same_provider, among}
 use Rattle.rsct_packet.specs.Search.{Has}
 use Rattle.rsct_packet.specs.Text.{name_lt}
-use Rattle.rsct_packet.proofs.HasLaws.{append_has_left, find_has, find_none}
+use Rattle.rsct_packet.proofs.HasLaws.{append_has_left, find_has}
 use Rattle.rsct_packet.proofs.MaskLaws.{has_is_node}
 use Rattle.proposal_core.specs.declared.entry.Entry.{Entry}
 use Rattle.proposal_core.specs.declared.group_state.GroupState.{GroupState}
@@ -41,11 +40,13 @@ use Rattle.run_safety.specs.Bases.{base_state, state_of_list, side_state, is_can
 use Rattle.run_safety.specs.Moves.{Longest, Collected}
 use Rattle.run_safety.proofs.Order.{eq_true, eq_same}
 use Rattle.run_safety.proofs.Past.{member_reply, reply_member}
+use Rattle.run_safety.proofs.Tests.{any_has, has_any}
 use Rattle.step_refinement.specs.Ghost.{Ghost, Seen, Carries, CarriesIf, part_of, Gathers, origin_of}
 use Rattle.node_state.proofs.NameOrder.{text_same, text_self}
 use Rattle.step_refinement.proofs.BaseOrder.{base_name}
 use Rattle.step_refinement.proofs.Acks.{has_member}
-use Rattle.step_refinement.proofs.Sides.{SourcesAre, sources_are}
+use Rattle.step_refinement.proofs.ViewRules.{same_of}
+use Rattle.step_refinement.proofs.Sides.{SourcesAre, sources_are, and_true, or_right}
 
 -- ---- small laws
 
@@ -58,27 +59,6 @@ both_ways true true f g = refl
 both_ways true false f g = sym (f refl)
 both_ways false true f g = g refl
 both_ways false false f g = refl
-
-and_true : (a b : Bool) → a ≡ true → b ≡ true → (a && b) ≡ true
-and_true true b e f = f
-and_true false b e f = absurd (cc)
-
-or_right : (a b : Bool) → b ≡ true → (a || b) ≡ true
-or_right true b e = refl
-or_right false b e = e
-
-any_true : {A : Type 0} (test : A → Bool) (xs : List A) (x : A) → Has x xs → test x ≡ true → list_any test xs ≡ true
-any_true test [] x h e = absurd h
-any_true test (y ∷ ys) x (inl q) e = ap (λ b. b || list_any test ys) (ap test (sym q) ∙ e)
-any_true test (y ∷ ys) x (inr h) e = or_right (test y) (list_any test ys) (any_true test ys x h e)
-
-any_one : {A : Type 0} (test : A → Bool) (xs : List A) → list_any test xs ≡ true → (x : A) × Has x xs × (test x ≡ true)
-any_one test [] e = absurd (cc)
-any_one {A = A} test (y ∷ ys) e = by (test y) refl e (any_one test ys)
-  where
-    by : (b : Bool) → test y ≡ b → (b || list_any test ys) ≡ true → (list_any test ys ≡ true → (x : A) × Has x ys × (test x ≡ true)) → (x : A) × ((x ≡ y) ⊎ Has x ys) × (test x ≡ true)
-    by true q e more = (y, inl refl, q)
-    by false q e more = let k = more e in (k.0, inr k.1, k.2)
 
 some_is : {A : Type 0} (a b : A) → Some a ≡ Some b → a ≡ b
 some_is a b e = cc
@@ -96,10 +76,6 @@ part_is g (q ∷ ps) p d (inr h) e =
 
 part_has : (g : List ℕ) (ps : List Part) (p : Part) → part_of g ps ≡ Some p → Has p ps × (p.name ≡ g)
 part_has g ps p e = let k = find_has (λ (q : Part). bytes_eq q.name g) ps p e in (k.0, text_same p.name g k.1)
-
-part_none : (g : List ℕ) (ps : List Part) (p : Part) → part_of g ps ≡ None → Has p ps → p.name ≡ g → ⊥
-part_none g ps p e h s =
-    find_none (λ (q : Part). bytes_eq q.name g) ps p (ap is_none e) h (subst (λ z. bytes_eq z g ≡ true) (sym s) (text_self g))
 
 -- a part that shows a list is as long as it
 pub carries_len : (x : Ghost) (v : ViewId) (full : List Entry) (p : Part) → Carries x v full p → part_len p ≡ length full
@@ -284,10 +260,7 @@ module _ (x : Ghost) (g : List ℕ) (n inc : ℕ) (v promise : ViewId) (e : Exch
   at_view : (u : ViewId) (s : Source) → source_at i.sources u ≡ Some s → Has s i.sources × (s.view ≡ u)
   unfolding source_at
   at_view u s q =
-      let k = find_has (λ (z : Source). same_view z.view u) i.sources s q in (k.0, same s.view u k.1)
-    where
-      same : (a b : ViewId) → same_view a b ≡ true → a ≡ b
-      same a b e = grind (arith, nat_tests)
+      let k = find_has (λ (z : Source). same_view z.view u) i.sources s q in (k.0, same_of s.view u k.1)
 
   choice : (u : ViewId) → (l : List Entry) × Choice u l
   choice u = by (source_at i.sources u) refl
@@ -380,12 +353,12 @@ module _ (x : Ghost) (g : List ℕ) (n inc : ℕ) (v promise : ViewId) (e : Exch
       let b = h.came r.0 r.1 in
       let same : b.0 ≡ a.0 = h.single b.0 a.0 b.1 a.1 (sym b.2.node ∙ r.2 ∙ sym a.2) in
       let view : r.0.view ≡ s.view = b.2.view ∙ ap (λ (z : Answer). z.view) same ∙ a.3 in
-      any_true (λ (z : Reply). z.node == p.node && (z.inc == p.inc && is_same z.view s.view)) rs r.0 r.1 (and_true (r.0.node == p.node) (r.0.inc == p.inc && is_same r.0.view s.view) (eq-eqb r.0.node p.node r.2) (and_true (r.0.inc == p.inc) (is_same r.0.view s.view) (eq-eqb r.0.inc p.inc r.3) (subst (λ z. is_same z s.view ≡ true) (sym view) (eq_same s.view))))
+      has_any (λ (z : Reply). z.node == p.node && (z.inc == p.inc && is_same z.view s.view)) rs r.0 r.1 (and_true (r.0.node == p.node) (r.0.inc == p.inc && is_same r.0.view s.view) (eq-eqb r.0.node p.node r.2) (and_true (r.0.inc == p.inc) (is_same r.0.view s.view) (eq-eqb r.0.inc p.inc r.3) (subst (λ z. is_same z s.view ≡ true) (sym view) (eq_same s.view))))
 
   live_here : (s : Source) → Has s i.sources → (p : ProviderId) → is_live rs s.view p ≡ true → is_live_from i s p ≡ true
   unfolding is_live_from
   live_here s k p q =
-      let r = any_one (λ (z : Reply). z.node == p.node && (z.inc == p.inc && is_same z.view s.view)) rs q in
+      let r = any_has (λ (z : Reply). z.node == p.node && (z.inc == p.inc && is_same z.view s.view)) rs q in
       let a = and_parts (r.0.node == p.node) (r.0.inc == p.inc && is_same r.0.view s.view) r.2 in
       let b = and_parts (r.0.inc == p.inc) (is_same r.0.view s.view) a.1 in
       let node : r.0.node ≡ p.node = eqb-true r.0.node p.node a.0 in
@@ -394,7 +367,7 @@ module _ (x : Ghost) (g : List ℕ) (n inc : ℕ) (v promise : ViewId) (e : Exch
       let view : s.view ≡ c.0.view = sym (eq_true r.0.view s.view b.1) ∙ c.2.view in
       let there : has_node s.nodes p.node ≡ true = subst (λ z. has_node s.nodes z ≡ true) (sym c.2.node ∙ node) (sources.holds c.0 c.1 s k view) in
       let mine : Has (member r.0.node r.0.inc) i.members = subst (Has (member r.0.node r.0.inc)) (sym members_are) (reply_member r.0 rs r.1) in
-      let is : is_member i.members p.node p.inc ≡ true = any_true (λ (m : Member). m.node == p.node && m.inc == p.inc) i.members (member r.0.node r.0.inc) mine (and_true (r.0.node == p.node) (r.0.inc == p.inc) a.0 b.0) in
+      let is : is_member i.members p.node p.inc ≡ true = has_any (λ (m : Member). m.node == p.node && m.inc == p.inc) i.members (member r.0.node r.0.inc) mine (and_true (r.0.node == p.node) (r.0.inc == p.inc) a.0 b.0) in
       and_true (is_member i.members p.node p.inc) (has_node s.nodes p.node) is there
 
   live : (s : Source) → Has s i.sources → is_live_from i s ≡ is_live rs s.view

@@ -100,7 +100,7 @@ module _ (g : List ℕ) where
       by true = λ r h. fold_unseen s.rings s all r (subst (Has r) (report_records ticked (rings_union ticked.rings)) h)
 
   -- no node put anything
-  rings_quiet : (w : Scene) (s : Core) → s.records ≡ [] → Quiet (kept (lines_now g w (tick_rings s)))
+  pub rings_quiet : (w : Scene) (s : Core) → s.records ≡ [] → Quiet (kept (lines_now g w (tick_rings s)))
   rings_quiet w s none =
       let all : UnseenAll (tick_rings s).records = rings_unseen s (λ r h. absurd (subst (Has r) none h)) in
       subst (λ l. Quiet (kept l)) (sym (lines_none g (tick_rings s).records w.before (lines_of g w.before) all)) (record { at = λ m u. refl })
@@ -136,7 +136,8 @@ module _ (w : Scene) (n : ℕ) (f : Answering) (s : Core) (none : s.records ≡ 
   body_tied p (body.Query question what) is to sent g = query_is_tied question what g w n f s p (all g)
   body_tied p (body.Reply question text) is to sent g = reply_is_tied question text g w n f s p (all g)
 
-  acted_tied : (e : NodeEvent) → Arises w e → (g : List ℕ) → Tied g w n (acted f s e)
+  -- the rule of the event
+  pub acted_tied : (e : NodeEvent) → Arises w e → (g : List ℕ) → Tied g w n (acted f s e)
   unfolding packet_rule
   acted_tied Ticks arises g =
       let rings : (h : List ℕ) → Tied h w n (tick_rings s) = λ h. rings_part_tied h w n s (all h) in
@@ -151,7 +152,8 @@ module _ (w : Scene) (n : ℕ) (f : Answering) (s : Core) (none : s.records ≡ 
       by false e = all g
       by true e = body_tied p p.body refl (eqb-true p.to s.views.me e ∙ (all g).own.0.stands.me) arises g
 
-stepped_is : (f : Answering) (s : Core) (e : NodeEvent) → stepped f s e ≡ end_step f (acted f (at_work s) e)
+-- a step is its rule, and the end
+pub stepped_is : (f : Answering) (s : Core) (e : NodeEvent) → stepped f s e ≡ end_step f (acted f (at_work s) e)
 unfolding stepped event_rule tick_rule
 stepped_is f s Ticks = refl
 stepped_is f s (Asks mask) = refl
@@ -159,7 +161,7 @@ stepped_is f s (Given p) = refl
 stepped_is f s (Calls c) = refl
 stepped_is f s Garbage = refl
 
-begun_at_work : (g : List ℕ) (s : Core) → Begun g s → Begun g (at_work s)
+pub begun_at_work : (g : List ℕ) (s : Core) → Begun g s → Begun g (at_work s)
 unfolding leads leads_in leader_in row_of
 begun_at_work g s h = h
 

@@ -19,7 +19,7 @@ use Rattle.client_callbacks.specs.declared.ballot.Filled.{Filled}
 use Rattle.client_callbacks.specs.Ballots.{BallotView}
 use Rattle.session_state.specs.declared.casts.Cast.{Cast}
 use Rattle.session_state.specs.declared.state.SessionState.{SessionState}
-use Rattle.session_state.specs.HandOn.{hearers, casts_out, is_dissolved}
+use Rattle.session_state.specs.HandOn.{hearers, casts_out}
 use Rattle.session_state.specs.HandOn as session
 use Rattle.node_state.specs.declared.group.Led.{Led}
 use Rattle.node_state.specs.declared.happened.Happened.{Happened}
@@ -33,7 +33,7 @@ use Rattle.node_state.specs.Leading.{put, put_and_hand, forget_least, with_waiti
 use Rattle.step_walk.proofs.Waiting.{Few, Apart, MildWaits, fails_few, fails_apart}
 use Rattle.rsct_packet.specs.Providers.{differ}
 use Rattle.proposal_core.specs.Lists.{list_or_new}
-use Rattle.std.proofs.Common.{zero, suc, ◌∙◌}
+use Rattle.std.proofs.Common.{◌∙◌}
 use Rattle.step_walk.proofs.Changes.{put_sent, handing}
 use Rattle.step_walk.proofs.Kept.{IsCast, CastIs, cast_is_on, casts_recorded}
 use Rattle.step_walk.proofs.Evidence.{Saying, delivered, KeepsBeside}

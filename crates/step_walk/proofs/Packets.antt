@@ -1,5 +1,4 @@
 -- What keeps each change keeps what is owed, the rules of packets of groups, and the tick of what is led.
-use Rattle.std.proofs.Common.{zero, suc}
 use Rattle.proposal_core.specs.Fold.{joins_of}
 use Rattle.proposal_core.specs.Lists.{list_or_new}
 use Rattle.std.proofs.Common.{◌++◌}
@@ -74,7 +73,7 @@ cast_decided l q v value message (Some t) = refl
 
 -- ---- why requests are refused
 
-join_fair : (s : Core) (g : List ℕ) (q : ProviderId) (a : Attrs) → Fairly (join_refusal s g q a)
+pub join_fair : (s : Core) (g : List ℕ) (q : ProviderId) (a : Attrs) → Fairly (join_refusal s g q a)
 unfolding join_refusal
 join_fair s g q a =
     by (not idle && not (agree a st.attrs)) (has_instance here q) (lacks_source s source q.node) (nat_le max_providers (length here)) (is_none st.running && is_at_limit (list_of s g))
@@ -108,7 +107,7 @@ full_fair s g None = by (is_at_limit (list_of s g))
     by true = refl
     by false = tt
 
-other_fair : (s : Core) (g : List ℕ) (q : ProviderId) (x : Proposal) → Fairly (other_refusal s g q x)
+pub other_fair : (s : Core) (g : List ℕ) (q : ProviderId) (x : Proposal) → Fairly (other_refusal s g q x)
 unfolding other_refusal
 other_fair s g q x = by (is_no_member (state_of s g) (led_of s g).gone q x) (has_other_source (state_of s g).attrs x)
   where
@@ -229,11 +228,8 @@ module _ (P : Core → Type 0) (Between : List ℕ → Core → Type 0) (Begun :
     any : KeepsBeside S Any
     any = steadily Unasked s0 P k.order Any b
 
-    closes_still : {s : Core} (g : List ℕ) → IsLed Unasked s0 g → S s → S (closes f s g)
-    closes_still g ok p = at_closes S (λ g. Steady (Between g) Unasked s0) Begun (IsLed Unasked s0) sb (steady_between P Between Begun Unasked k s0) (steady_led P Between Begun Unasked k s0) f g ok p
-
     pub closed_still : {s : Core} (g : List ℕ) → IsLed Unasked s0 g → S s → S (closes f s g)
-    closed_still g ok p = closes_still g ok p
+    closed_still g ok p = at_closes S (λ g. Steady (Between g) Unasked s0) Begun (IsLed Unasked s0) sb (steady_between P Between Begun Unasked k s0) (steady_led P Between Begun Unasked k s0) f g ok p
 
     -- a tally changes
     counted : {s : Core} (g : List ℕ) (t : Option TallyView) → P (with_tally s g t) → S s → S (with_tally s g t)
@@ -244,7 +240,7 @@ module _ (P : Core → Type 0) (Between : List ℕ → Core → Type 0) (Begun :
     unfolding tally_failed
     failed_still g q ok None e p = p
     failed_still {s} g q ok (Some t) e p =
-        closes_still g ok (counted g (Some (tally_fail q t)) (rules.fails s g q t (led_now Unasked s0 s g ok p.1) e p.0) p)
+        closed_still g ok (counted g (Some (tally_fail q t)) (rules.fails s g q t (led_now Unasked s0 s g ok p.1) e p.0) p)
 
     gone_still : (g : List ℕ) (q : ProviderId) → IsLed Unasked s0 g → S s0 → S (gone_present f s0 g q)
     unfolding gone_present wait_gone
@@ -268,7 +264,7 @@ module _ (P : Core → Type 0) (Between : List ℕ → Core → Type 0) (Begun :
     ticks_still {s} g ok (Some t) e p =
         let u : Core = announced f s g t (s.sessions.level == 2 && expires t) in
         let h : S u = late_still g ok t e (s.sessions.level == 2 && expires t) p in
-        closes_still g ok (counted g (ticked_in (led_of u g).tally) (rules.ticks u g (led_now Unasked s0 u g ok h.1) h.0) h)
+        closed_still g ok (counted g (ticked_in (led_of u g).tally) (rules.ticks u g (led_now Unasked s0 u g ok h.1) h.0) h)
 
     group_still : {s : Core} (g : List ℕ) → IsLed Unasked s0 g → S s → S (tick_group f s g)
     unfolding tick_group

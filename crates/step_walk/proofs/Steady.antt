@@ -1,12 +1,8 @@
 -- While a node leads, which groups it leads stays: so what keeps each change with the evidence that its group is led keeps
 -- each change of the groups that were led before.
-use Rattle.std.proofs.Common.{◌≡◌, ◌⊎◌, ◌∙◌, ℕ, List, [], ◌∷◌, Option, Some, Bool, true, false, cond, refl, sym, ap, subst, inl, inr, ⊎_elim}
+use Rattle.std.proofs.Common.{◌≡◌, ◌⊎◌, ◌∙◌, ℕ, List, [], ◌∷◌, Option, Some, Bool, refl, ap, subst, inl, inr, ⊎_elim}
 use Rattle.proposal_core.specs.declared.proposal.Proposal.{Proposal}
-use Rattle.std.specs.Prelude.{filter, find}
-use Rattle.std.specs.Str.{bytes_eq}
-use Rattle.rsct_packet.specs.Text.{name_lt}
 use Rattle.rsct_packet.specs.Search.{Has}
-use Rattle.rsct_packet.proofs.HasLaws.{has_filter, has_map}
 use Rattle.proposal_core.specs.declared.entry.Entry.{Entry}
 use Rattle.proposal_core.specs.Lists.{list_or_new, with_entry}
 use Rattle.client_callbacks.specs.declared.ballot.Filled.{Filled}
@@ -14,14 +10,12 @@ use Rattle.node_state.specs.declared.group.GroupRow.{GroupRow}
 use Rattle.node_state.specs.declared.packet.Body.{Body}
 use Rattle.node_state.specs.declared.packet.Body.TheVariants as body
 use Rattle.node_state.specs.declared.state.Core.{Core}
-use Rattle.node_state.specs.State.{AllAfter, InNameOrder, row_found, row_of, with_row, with_led, len_of, is_this, leader_by, leader_in, leads_in, leads, led_groups, recorded, recorded_all, with_sessions, has_name}
+use Rattle.node_state.specs.State.{InNameOrder, row_of, with_row, with_led, len_of, is_this, leader_by, leader_in, leads_in, leads, led_groups, recorded, recorded_all, with_sessions}
 use Rattle.node_state.specs.Sending.{sent, send_on, send_all}
 use Rattle.node_state.specs.Leading.{put, tally_set, tally_opened}
 use Rattle.node_state.specs.Deciding.{keep_decision}
-use Rattle.node_state.proofs.NameOrder.{KeepsName, cases_text, row_here, row_there, text_same, text_self, lt_self, led_are_led}
+use Rattle.node_state.proofs.NameOrder.{KeepsName, cases_text, row_here, row_there, led_are_led}
 use Rattle.step_walk.proofs.Evidence.{IsLed, delivered, KeepsBeside, KeepsLed, Keeping}
-
--- ---- rows by their names
 
 -- ---- who leads
 

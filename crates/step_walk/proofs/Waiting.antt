@@ -1,11 +1,11 @@
 -- In a group at most 64 joins and 64 failures wait, and joins that wait differ, whatever changes.
 use Rattle.std.proofs.Common.{ap, ◌∙◌, ◌≡◌, ◌≤◌, ◌<◌, ℕ, List, [], ◌∷◌, ◌++◌, length, Option, Some, None, Bool, true, false, cond, refl, arith, length-append}
-use Rattle.std.specs.Prelude.{◌||◌, ◌&&◌, not, filter, nat_lt, if◌then◌else◌}
+use Rattle.std.specs.Prelude.{◌&&◌, not, filter, nat_lt, if◌then◌else◌}
 use Rattle.std.proofs.lemmas.Bool.{ltb-true}
 use Rattle.rsct_packet.specs.declared.ids.ProviderId.{ProviderId}
 use Rattle.rsct_packet.specs.Providers.{same_provider, among, without, differ}
 use Rattle.rsct_packet.proofs.ProviderLaws.{filter_differs}
-use Rattle.std.proofs.lemmas.Bool.{and_parts, or_parts}
+use Rattle.std.proofs.lemmas.Bool.{and_parts}
 use Rattle.group_attr.specs.declared.attrs.Batch.{Batch}
 use Rattle.proposal_core.specs.declared.proposal.Cause.{Cause}
 use Rattle.proposal_core.specs.declared.entry.Vote.{Vote}
@@ -62,14 +62,6 @@ cast_few l p v value message None k = k
 cast_few l p v value message (Some t) k = k
 
 -- ---- joins that wait differ
-
-filter_among : (f : ProviderId → Bool) (xs : List ProviderId) (q : ProviderId) → among xs q ≡ false → among (filter f xs) q ≡ false
-filter_among f [] q e = refl
-filter_among f (x ∷ xs) q e = let k = or_parts (same_provider x q) (among xs q) e in by (f x) k.0 (filter_among f xs q k.1)
-  where
-    by : (b : Bool) → same_provider x q ≡ false → among (filter f xs) q ≡ false → among (if b then x ∷ filter f xs else filter f xs) q ≡ false
-    by true d rest = ap (λ c. c || among (filter f xs) q) d ∙ rest
-    by false d rest = rest
 
 -- those that are left, and those that are chosen
 pub left_differ : (b : Bool) (xs : List ProviderId) → differ xs ≡ true → differ (left_of b xs) ≡ true

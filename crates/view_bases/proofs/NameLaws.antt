@@ -197,4 +197,3 @@ next_is ss last k e le =
 
 pub before_more : (ns : List (List ℕ)) (k : ℕ) → name_before ns (k + 1) ≡ slice_get ns k
 before_more ns k = let e : k + 1 ≡ suc k = omega arith in ap (name_before ns) e
-

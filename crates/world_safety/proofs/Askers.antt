@@ -35,17 +35,16 @@ use Rattle.world_model.specs.declared.event.Event.TheVariants as event
 use Rattle.world_model.specs.World.{Node, Script, Started, World, inc_in, scripts_after, is_node, node_at, kth_between, posted, handled, traced, after_step, started_at, starts_if, node_starts, stops_if, shows_if, world_of, world_new}
 use Rattle.run_safety.specs.Past.{History, EachRecord, Within, earlier, history_of}
 use Rattle.run_safety.specs.Sight.{lines_with, lines_of}
-use Rattle.run_safety.specs.Group.{member, Line, Kept, Noted, Put, Based, Heard, kept}
+use Rattle.run_safety.specs.Group.{member, Note, Line, Kept, Noted, Put, Based, Heard, kept}
 use Rattle.run_safety.specs.Group as group
 use Rattle.run_safety.specs.Moves.{Leads}
 use Rattle.run_safety.specs.GroupLaws.{ByLeader}
 use Rattle.run_safety.proofs.Lives.{whole}
 use Rattle.step_refinement.specs.Ghost.{Ghost}
-use Rattle.step_refinement.specs.Tied.{ShowsBody, ShowsLeader, Closed, Scene, NodeIsIf, Rests}
+use Rattle.step_refinement.specs.Tied.{ShowsBody, ShowsLeader, Closed, Scene, Rests}
 use Rattle.step_refinement.specs.Runs.{Reached}
 use Rattle.step_refinement.proofs.Acks.{used_is}
 use Rattle.step_refinement.proofs.RunLaw.{reached_rests}
-use Rattle.entry_laws.proofs.closing_rows.Evident.{put_back}
 use Rattle.entry_laws.specs.source_order.Meant.{DeliveriesAreNoted}
 use Rattle.entry_laws.specs.source_order.Sources.{RecordedBase, PutBefore}
 use Rattle.entry_laws.proofs.source_order.Steps.{looked_at, looked_by}
@@ -61,6 +60,9 @@ use Rattle.world_safety.proofs.Moments.{front_may}
 use Rattle.world_safety.proofs.Further.{goes_further, Turned, turned_at, trace_is}
 use Rattle.world_safety.proofs.HeardStates.{answered_last}
 use Rattle.world_safety.proofs.Turned.{onto_is}
+use Rattle.row_laws.proofs.hearing.Listening.{reached_attends}
+use Rattle.run_safety.proofs.SightLaws.{line_recorded, kept_line}
+use Rattle.run_laws.proofs.seen_runs.Sights.{cut}
 
 -- ---- what was sent stays sent
 
@@ -203,33 +205,12 @@ module _ (c : Config) where
               let same : h ≡ g = ap (λ (z : List ℕ × ℕ). z.0) pair in
               let from : p.from ≡ m = ap (λ (z : List ℕ × ℕ). z.1) pair in
               record { packet = p; given = refl; view = u; looks_up = is ∙ ap (body.Lookup u) same; from = from; to = eqb-true p.to s.views.me a.0; used = b.0; coordinator = b.1 }
-      by (body.Ring x) is e = absurd (cc)
-      by (body.Report rows) is e = absurd (cc)
-      by (body.View y) is e = absurd (cc)
-      by (body.Name u h k) is e = absurd (cc)
-      by (body.Request u h q r phases y) is e = absurd (cc)
-      by (body.Tell u h q r y) is e = absurd (cc)
-      by (body.Entry u h i k y) is e = absurd (cc)
-      by (body.Ack u h k) is e = absurd (cc)
-      by (body.Vote u h proto phase q ballot value message) is e = absurd (cc)
-      by (body.Gone u h q) is e = absurd (cc)
-      by (body.Query question what) is e = absurd (cc)
-      by (body.Reply question text) is e = absurd (cc)
-  looking s Ticks g m e = absurd (cc)
-  looking s (Asks mask) g m e = absurd (cc)
-  looking s (Calls d) g m e = absurd (cc)
-  looking s step.Garbage g m e = absurd (cc)
+      by _ is e = absurd (cc)
+  looking s _ g m e = absurd (cc)
 
   module _ (done : List Answered) (e : Answered) (may : AllMayHappen c (events_in (done ++ e ∷ []))) (old : Tables done) where
     t : Turned c done e
     t = turned_at c done e may
-
-    -- the node is itself
-    itself : (s : Scene) (k : Reached c s) (n : ℕ) (core : Core) → s.cores n ≡ Some core → core.views.me ≡ n
-    itself s k n core up =
-        let r : Rests [] s = reached_rests c s k [] in
-        let is : NodeIsIf s.config r.ghost [] n (s.incs n) (Some core) = subst (λ o. NodeIsIf s.config r.ghost [] n (s.incs n) o) up (r.nodes n) in
-        is.0.stands.me
 
     stepped_named : (n : ℕ) (core : Core) → (x : StepOf t.scene (answered_after c done) e.event (reverse t.next.records) n core) → t.next.scene.cores n ≡ Some core → Named (done ++ e ∷ []) n core
     stepped_named n core x up g m q =
@@ -242,7 +223,7 @@ module _ (c : Config) where
         there = sym (t.mirrors.cores n) ∙ x.up
 
         me : x.core.views.me ≡ n
-        me = itself t.scene t.reached n x.core x.up
+        me = ((reached_attends c t.scene t.reached).up n x.core x.up).me
 
         looked : Looking x.core x.what g m → Out x.core.views.view
         looked k =
@@ -278,7 +259,7 @@ module _ (c : Config) where
             subst Out view (⊎_elim (λ (a : node_of g x.core.names ≡ Some m). named_on done e may n x.core.views.view g (old n x.core there g m a)) (λ (a : looked_by (at_work x.core) x.what ≡ Some (g, m)). looked (looking x.core x.what g m a)) z.1)
         by (inr b) =
             let d : RecordedBase core.views.me core.views.view g (reverse core.records) = subst (λ (y : Core). RecordedBase y.views.me y.views.view g (reverse y.records)) (sym x.is) b in
-            let own : core.views.me ≡ n = itself t.next.scene t.next.reached n core up in
+            let own : core.views.me ≡ n = ((reached_attends c t.next.scene t.next.reached).up n core up).me in
             let now : Has (happened.Base n core.views.view g d.old d.len d.base) (reverse t.next.records ++ (answered_after c done).trace) = append_has_left (happened.Base n core.views.view g d.old d.len d.base) (reverse t.next.records) (answered_after c done).trace (subst (λ z. Has (happened.Base z core.views.view g d.old d.len d.base) (reverse t.next.records)) own (x.records (happened.Base core.views.me core.views.view g d.old d.len d.base) d.there)) in
             let whole : reverse t.next.records ++ (answered_after c done).trace ≡ (answered_after c (done ++ e ∷ [])).trace = sym (onto_is t.next.records (answered_after c done).trace) ∙ sym t.next.trace ∙ ap (λ (w : World). w.trace) (sym (answered_last c done e)) in
             inl (record { old = d.old; len = d.len; base = d.base; there = subst (Has (happened.Base n core.views.view g d.old d.len d.base)) whole now })
@@ -309,6 +290,10 @@ module _ (c : Config) where
 
 -- where the leader of a view is this node, each first put is its own
 module _ (leads : Leads) (v : ViewId) (g : List ℕ) (leader : ℕ) (is : (n j : ℕ) → leads v ≡ Some (member n j) → n ≡ leader) where
+  note_led : (x : Note) (b : Bool) (all : List Line) → ByLeader leads (kept ((if b then Noted x ∷ [] else []) ++ all)) → Unit {0} × ByLeader leads (kept all)
+  note_led x true all z = (tt, z)
+  note_led x false all z = (tt, z)
+
   -- of the lines of a record
   one_led : (r : Happened) (now : List Happened) (before : History) → ByLeader leads (kept (lines_with g (r ∷ now) before (lines_of g before))) → RecordLed leader v g now before r × ByLeader leads (kept (lines_with g now before (lines_of g before)))
   one_led (happened.Put n u h i e) now before k = by (bytes_eq h g) refl k
@@ -318,35 +303,15 @@ module _ (leads : Leads) (v : ViewId) (g : List ℕ) (leader : ℕ) (is : (n j :
 
       first : ((j : ℕ) × (leads u ≡ Some (member n j))) ⊎ ((m : ℕ) × (f : Entry) × Has (Put m u i f) (kept all)) → h ≡ g → u ≡ v → h ≡ g → (n ≡ leader) ⊎ PutBefore (earlier now before) v g i
       first (inl z) here at same = inl (is n z.0 (ap leads (sym at) ∙ z.1))
-      first (inr z) here at same = inr (z.0, z.1, put_back g z.0 v i z.1 now before (subst (λ w. Has (Put z.0 w i z.1) (kept all)) at z.2))
+      first (inr z) here at same = inr (z.0, z.1, line_recorded g (Kept (Put z.0 v i z.1)) (happened.Put z.0 v g i z.1) refl (cut now before) (kept_line (Put z.0 v i z.1) all (subst (λ w. Has (Put z.0 w i z.1) (kept all)) at z.2)))
 
       by : (b : Bool) → bytes_eq h g ≡ b → ByLeader leads (kept ((if b then Kept (Put n u i e) ∷ [] else []) ++ all)) → RecordLed leader v g now before (happened.Put n u h i e) × ByLeader leads (kept all)
       by true q z = (λ at same. first z.0 (text_same h g q) at same, z.1)
       by false q z = (λ at same. absurd (let w : bytes_eq h g ≡ true = subst (λ y. bytes_eq h y ≡ true) same (text_self h) in cc), z)
-  one_led (happened.In n u ms) now before k = (tt, k)
-  one_led (happened.Base n u h old len st) now before k = by (bytes_eq h g) k
-    where
-      by : (b : Bool) → ByLeader leads (kept ((if b then Noted (Based n u (record { old = old; len = len; state = st })) ∷ [] else []) ++ lines_with g now before (lines_of g before))) → Unit {0} × ByLeader leads (kept (lines_with g now before (lines_of g before)))
-      by true z = (tt, z)
-      by false z = (tt, z)
-  one_led (happened.Heard p u h i e ms value) now before k = by (bytes_eq h g) k
-    where
-      by : (b : Bool) → ByLeader leads (kept ((if b then Noted (Heard p u i e ms value) ∷ [] else []) ++ lines_with g now before (lines_of g before))) → Unit {0} × ByLeader leads (kept (lines_with g now before (lines_of g before)))
-      by true z = (tt, z)
-      by false z = (tt, z)
-  one_led (happened.Asked p r h x) now before k = by (bytes_eq h g) k
-    where
-      by : (b : Bool) → ByLeader leads (kept ((if b then Noted (group.Asked p r x) ∷ [] else []) ++ lines_with g now before (lines_of g before))) → Unit {0} × ByLeader leads (kept (lines_with g now before (lines_of g before)))
-      by true z = (tt, z)
-      by false z = (tt, z)
-  one_led (happened.Told p r why) now before k = (tt, k)
-  one_led (happened.Up n j) now before k = (tt, k)
-  one_led (happened.Down n) now before k = (tt, k)
-  one_led (happened.Ring n net id ms b) now before k = (tt, k)
-  one_led (happened.Cast p proto phase vote value message) now before k = (tt, k)
-  one_led (happened.Noted n d u i t) now before k = (tt, k)
-  one_led (happened.Refused n d f) now before k = (tt, k)
-  one_led (happened.Shown n l) now before k = (tt, k)
+  one_led (happened.Base n u h old len st) now before k = note_led (Based n u (record { old = old; len = len; state = st })) (bytes_eq h g) (lines_with g now before (lines_of g before)) k
+  one_led (happened.Heard p u h i e ms value) now before k = note_led (Heard p u i e ms value) (bytes_eq h g) (lines_with g now before (lines_of g before)) k
+  one_led (happened.Asked p r h x) now before k = note_led (group.Asked p r x) (bytes_eq h g) (lines_with g now before (lines_of g before)) k
+  one_led _ now before k = (tt, k)
 
   within_led : (now : List Happened) (before : History) → ByLeader leads (kept (lines_with g now before (lines_of g before))) → Within (RecordLed leader v g) now before × ByLeader leads (kept (lines_of g before))
   within_led [] before k = (tt, k)

@@ -8,10 +8,10 @@ use Rattle.world_model.specs.World.{Node, Started, is_node, nodes_with, inc_in, 
 use Rattle.world_safety.specs.Mirrors.{inc_at, Once}
 
 module _ {A : Type 0} (test : A → Bool) (y : A) (ys : List A) where
-  head_passes : test y ≡ true → find test (y ∷ ys) ≡ Some y
+  pub head_passes : test y ≡ true → find test (y ∷ ys) ≡ Some y
   head_passes e = ap (λ b. cond b (Some y) (find test ys)) e
 
-  head_fails : test y ≡ false → find test (y ∷ ys) ≡ find test ys
+  pub head_fails : test y ≡ false → find test (y ∷ ys) ≡ find test ys
   head_fails e = ap (λ b. cond b (Some y) (find test ys)) e
 
   none_head : find test (y ∷ ys) ≡ None → (test y ≡ false) × (find test ys ≡ None)

@@ -45,6 +45,7 @@ use Rattle.world_safety.proofs.Runs.{every_run_is_reached}
 use Rattle.world_safety.proofs.HeardStates.{answered_last}
 use Rattle.world_safety.proofs.Turned.{onto_is}
 use Rattle.world_safety.proofs.Further.{goes_further, Turned, turned_at}
+use Rattle.row_laws.proofs.hearing.Listening.{reached_attends}
 
 -- ---- the least of some numbers
 
@@ -188,10 +189,7 @@ module _ (c : Config) where
       none (x ∷ xs) e = cc
 
   itself : (s : Scene) (k : Reached c s) (n : ℕ) (core : Core) → s.cores n ≡ Some core → core.views.me ≡ n
-  itself s k n core up =
-      let r : Rests [] s = reached_rests c s k [] in
-      let is : NodeIsIf s.config r.ghost [] n (s.incs n) (Some core) = subst (λ o. NodeIsIf s.config r.ghost [] n (s.incs n) o) up (r.nodes n) in
-      is.0.stands.me
+  itself s k n core up = ((reached_attends c s k).up n core up).me
 
   -- A number that a node keeps, which goes on to what events say where this holds of the node: it is the greatest number that was said to
   -- it in its view.

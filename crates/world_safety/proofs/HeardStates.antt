@@ -1,7 +1,6 @@
 -- At each event of each run: what a provider hears comes with the fold of its node's list.
 use Rattle.std.proofs.Common.{◌≡◌, ◌⊎◌, ℕ, List, [], ◌∷◌, ◌++◌, Option, Some, None, refl, sym, ap, ◌∙◌, subst, inl, inr}
 use Rattle.std.specs.Prelude.{reverse}
-use Rattle.std.proofs.lemmas.List.{reverse-reverse}
 use Rattle.std.proofs.lemmas.List.Sums.{fold-append}
 use Rattle.rsct_packet.specs.Lists.{reverse_onto}
 use Rattle.rsct_packet.specs.Search.{Has}
@@ -23,12 +22,12 @@ use Rattle.world_laws.specs.world_runs.Runs.{Recorded}
 use Rattle.world_laws.proofs.world_runs.Traces.{after_records}
 use Rattle.world_laws.specs.world_answers.Answers.{Answered, step_by, step_by_if, calls_by_if, delivers_by_if, happens_by, goes_on, events_in, answered_after, answered_records}
 use Rattle.run_safety.specs.Past.{records_of, state_now, history_of}
-use Rattle.step_refinement.specs.Tied.{Scene, NodeIsIf, Rests}
+use Rattle.step_refinement.specs.Tied.{Scene}
 use Rattle.step_refinement.specs.Runs.{Reached}
 use Rattle.step_refinement.proofs.Begins.{begin_tied}
 use Rattle.step_refinement.proofs.RunLaw.{reached_rests}
 use Rattle.row_laws.specs.hearing.Hearing.{HeardInARow}
-use Rattle.row_laws.proofs.hearing.Listening.{steps_change, providers_hear}
+use Rattle.row_laws.proofs.hearing.Listening.{steps_change, providers_hear, reached_attends}
 use Rattle.entry_laws.proofs.source_order.Tied.{states_tied}
 use Rattle.run_laws.proofs.seen_runs.Steps.{Mine, step_mine}
 use Rattle.world_safety.specs.Events.{run_of_events, MayHappen, AllMayHappen}
@@ -100,10 +99,7 @@ module _ (f : Answering) (w : World) (n : ℕ) (x : Node) where
 
 module _ (c : Config) (s : Scene) (k : Reached c s) (n : ℕ) (core : Core) (up : s.cores n ≡ Some core) where
   itself : core.views.me ≡ n
-  itself =
-      let t : Rests [] s = reached_rests c s k [] in
-      let is : NodeIsIf s.config t.ghost [] n (s.incs n) (Some core) = subst (λ o. NodeIsIf s.config t.ghost [] n (s.incs n) o) up (t.nodes n) in
-      is.0.stands.me
+  itself = ((reached_attends c s k).up n core up).me
 
   -- the states of the node's groups are what its records make of them
   stands_at : Tracks n (records_of s.before) (state_of core)

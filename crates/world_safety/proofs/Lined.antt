@@ -13,7 +13,7 @@ use Rattle.world_model.specs.declared.event.Event.TheVariants as event
 use Rattle.world_model.specs.declared.script.Aim.TheVariants.{Plays}
 use Rattle.world_model.specs.declared.script.Line.{Line}
 use Rattle.world_model.specs.declared.script.Line.TheVariants as line
-use Rattle.world_model.specs.Lines.{Said, SaysMode, SaysNode, SaysAdapter, SaysHb, SaysPort, SaysLevel, SaysDomain, SaysBegin, SaysLine, SaysClient, SaysCall}
+use Rattle.world_model.specs.Lines.{Said, SaysMode, SaysBegin, SaysLine, SaysClient, SaysCall}
 use Rattle.world_model.specs.Reading.{Reading, nothing_read, settled_if, settled, nodes_said, event_misplaced, line_misplaced, misplaced, with_line, with_call, with_client, with_config, with_address, taken, with_text, script_in, script_of, IsScript}
 use Rattle.world_model.proofs.ReadingLaws.{Reasonless, reasonless, Keeps, EndsWith, read_keeps}
 use Rattle.world_model.specs.declared.script.Script.{Script}
@@ -56,12 +56,6 @@ unfolding taken misplaced nodes_said with_config with_address with_line with_cal
 taken_fine r (SaysMode m) f well h =
     let none : r.lines ≡ [] = f.first (or_parts r.begun r.has_mode h.placed).0 in
     record { lines = subst (LinesMay m) (sym none) tt; first = f.first }
-taken_fine r (SaysNode n) f well h = record { lines = f.lines; first = f.first }
-taken_fine r (SaysAdapter n network address) f well h = record { lines = f.lines; first = f.first }
-taken_fine r (SaysHb a b) f well h = record { lines = f.lines; first = f.first }
-taken_fine r (SaysPort p) f well h = record { lines = f.lines; first = f.first }
-taken_fine r (SaysLevel n inc) f well h = record { lines = f.lines; first = f.first }
-taken_fine r (SaysDomain d) f well h = record { lines = f.lines; first = f.first }
 taken_fine r SaysBegin f well h = record { lines = f.lines; first = λ e. absurd (cc) }
 taken_fine r (SaysLine ns l) f well h =
     let p = or_parts (not r.begun) (line_misplaced r.config l) h.placed in
@@ -70,6 +64,7 @@ taken_fine r (SaysClient n name votes) f well h =
     let begun : r.begun ≡ true = not_false r.begun (or_parts (not r.begun) _ h.placed).0 in record { lines = (tt, f.lines); first = λ e. absurd (cc) }
 taken_fine r (SaysCall client c) f well h =
     let begun : r.begun ≡ true = not_false r.begun h.placed in record { lines = (tt, f.lines); first = λ e. absurd (cc) }
+taken_fine r _ f well h = record { lines = f.lines; first = f.first }
 
 text_fine : (r : Reading) (bytes : List ℕ) → Fine r → Fine (with_text r bytes r.has_call)
 unfolding with_text

@@ -4,7 +4,6 @@ use Rattle.std.specs.Prelude.{◌==◌, ◌&&◌, slice_get, if◌then◌else◌
 use Rattle.std.specs.Str.{bytes_eq}
 use Rattle.std.proofs.Math.Seq.{take-length}
 use Rattle.std.proofs.lemmas.Bool.{eqb-true, eq-eqb, and_parts}
-use Rattle.std.proofs.lemmas.Bool.Decides.{nat_tests}
 use Rattle.rsct_packet.specs.declared.ids.ViewId.{ViewId}
 use Rattle.rsct_packet.specs.declared.ids.ProviderId.{ProviderId}
 use Rattle.rsct_packet.specs.Ids.{same_view}
@@ -22,8 +21,9 @@ use Rattle.run_safety.specs.Past.{view_now, is_list, puts_of, base_of, fold_from
 use Rattle.run_safety.specs.SafeHeard.{latest_put}
 use Rattle.run_safety.proofs.HeardLaw.{take_front, get_within}
 use Rattle.run_safety.proofs.Prefix.{prefix_push, prefix_get}
-use Rattle.entry_laws.proofs.closing_rows.At.{fold_pushed}
+use Rattle.step_refinement.proofs.Puts.{fold_pushed}
 use Rattle.world_safety.specs.HeardStates.{FoldAt, AreFolds}
+use Rattle.run_laws.proofs.failed_causes.Bases.{view_self}
 
 -- ---- what each record needs of those before it, the latest first
 
@@ -62,11 +62,8 @@ of_list n v g m u h t =
 here_list : (n : ℕ) (v : ViewId) (g : List ℕ) (m : ℕ) (u : ViewId) (h : List ℕ) → m ≡ n → u ≡ v → is_list n v g m u h ≡ bytes_eq h g
 here_list n v g m u h a b =
     let x : (m == n) ≡ true = eq-eqb m n a in
-    let y : same_view u v ≡ true = subst (λ z. same_view u z ≡ true) b (self u) in
+    let y : same_view u v ≡ true = view_self u v b in
     λ i. x i && (y i && bytes_eq h g)
-  where
-    self : (a : ViewId) → same_view a a ≡ true
-    self a = grind (arith, nat_tests)
 
 get_pushed : (xs : List Entry) (e : Entry) → slice_get (xs ++ e ∷ []) (length xs) ≡ Some e
 get_pushed [] e = refl
@@ -101,18 +98,7 @@ latest_is n v g i e (r ∷ rs) k q = by r k.0 q (latest_is n v g i e rs k.1)
               whole = ap (λ y. puts_of n v g rs ++ y ∷ []) entries;
               place = sym places ∙ (s.1 ∙ (λ j. length (puts_of (x.node j) (x.view j) (x.group j) rs)));
             }
-    by (happened.Up m j) s q old = old q
-    by (happened.Down m) s q old = old q
-    by (happened.Ring m net id ms y) s q old = old q
-    by (happened.In m u ms) s q old = old q
-    by (happened.Base m u h o len st) s q old = old q
-    by (happened.Heard p u h k f ms value) s q old = old q
-    by (happened.Cast p proto phase vote value message) s q old = old q
-    by (happened.Asked p r h y) s q old = old q
-    by (happened.Told p r why) s q old = old q
-    by (happened.Noted m c u k y) s q old = old q
-    by (happened.Refused m c f) s q old = old q
-    by (happened.Shown m l) s q old = old q
+    by _ s q old = old q
 
 -- ---- what was the fold stays it
 
@@ -139,17 +125,7 @@ stays_one r rs s (happened.Heard p v g i e ms value) st k = by r s
             let nil : List Entry = [] in
             let gone : slice_get nil i ≡ Some e = subst (λ z. slice_get z i ≡ Some e) none k.0 in
             absurd (cc)
-    by (happened.Up m j) s = k
-    by (happened.Down m) s = k
-    by (happened.Ring m net id ns y) s = k
-    by (happened.In m u ns) s = k
-    by (happened.Heard q u h j f ns x) s = k
-    by (happened.Cast q proto phase vote x message) s = k
-    by (happened.Asked q j h y) s = k
-    by (happened.Told q j why) s = k
-    by (happened.Noted m c u j y) s = k
-    by (happened.Refused m c f) s = k
-    by (happened.Shown m l) s = k
+    by _ s = k
 stays_one r rs s _ st k = tt
 
 one_stays : (r : Happened) (rs : List Happened) (ls : List Logged) → Steady rs r → AreFolds rs ls → AreFolds (r ∷ rs) ls
@@ -235,14 +211,7 @@ module _ (n : ℕ) where
       at g b t =
           let list : is_list n k.view g m u h ≡ b = here_list n k.view g m u h own same ∙ t in
           ap (λ c. if c then after (states g) u i e else states g) t ∙ (pushed g b t ∙ ap (λ c. fold_from k.view (base_of n k.view g rs) 0 (if c then puts_of n k.view g rs ++ e ∷ [] else puts_of n k.view g rs)) (sym list))
-  track (happened.Ring m net id ms y) rs states own s k = record { view = k.view; is = k.is; folds = k.folds }
-  track (happened.Heard p v g i e ms value) rs states own s k = record { view = k.view; is = k.is; folds = k.folds }
-  track (happened.Cast p proto phase vote value message) rs states own s k = record { view = k.view; is = k.is; folds = k.folds }
-  track (happened.Asked p r g y) rs states own s k = record { view = k.view; is = k.is; folds = k.folds }
-  track (happened.Told p r why) rs states own s k = record { view = k.view; is = k.is; folds = k.folds }
-  track (happened.Noted m c v i y) rs states own s k = record { view = k.view; is = k.is; folds = k.folds }
-  track (happened.Refused m c f) rs states own s k = record { view = k.view; is = k.is; folds = k.folds }
-  track (happened.Shown m l) rs states own s k = record { view = k.view; is = k.is; folds = k.folds }
+  track _ rs states own s k = record { view = k.view; is = k.is; folds = k.folds }
 
   -- what is heard comes with the state after what was put last
   heard_fold : (p : ProviderId) (v : ViewId) (g : List ℕ) (i : ℕ) (e : Entry) (rs : List Happened) (states : List ℕ → GroupState) → p.node ≡ n → view_now p.node rs ≡ Some v → latest_put p.node v g rs ≡ Some (i, e) → AllSteady rs → Tracks n rs states

@@ -27,7 +27,7 @@ use Rattle.entry_laws.proofs.closing_rows.Told.{Told, each_told, each_all}
 use Rattle.entry_laws.proofs.closing_rows.Lists.{fresh_before}
 use Rattle.entry_laws.proofs.closing_rows.Law.{bases_in, logs_in, told_in}
 use Rattle.run_laws.specs.seen_runs.Seen.{SeenAt, Seen}
-use Rattle.run_laws.proofs.seen_runs.Law.{traces_seen}
+use Rattle.run_laws.proofs.seen_runs.Law.{traces_seen, seen_after}
 use Rattle.run_laws.proofs.seen_runs.Steps.{Mine}
 use Rattle.run_laws.specs.failed_causes.Entering.{just_entered, FollowsEntering}
 use Rattle.run_laws.proofs.failed_causes.Bases.{each_base_follows}
@@ -79,17 +79,7 @@ just_in n v g (happened.Base m u h old len s ∷ now) before k q =
     let y = and_parts (same_view u v) (just_entered n v now) x.1 in
     let j : JustIn n v g now before = just_in n v g now before k.1 y.1 in
     record { view = j.view; bare = j.bare }
-just_in n v g (happened.Up m j ∷ now) before k q = absurd (cc)
-just_in n v g (happened.Down m ∷ now) before k q = absurd (cc)
-just_in n v g (happened.Ring m net id ms y ∷ now) before k q = absurd (cc)
-just_in n v g (happened.Put m u h i e ∷ now) before k q = absurd (cc)
-just_in n v g (happened.Heard p u h i e ms value ∷ now) before k q = absurd (cc)
-just_in n v g (happened.Cast p proto phase vote value message ∷ now) before k q = absurd (cc)
-just_in n v g (happened.Asked p r h y ∷ now) before k q = absurd (cc)
-just_in n v g (happened.Told p r why ∷ now) before k q = absurd (cc)
-just_in n v g (happened.Noted m c u i y ∷ now) before k q = absurd (cc)
-just_in n v g (happened.Refused m c f ∷ now) before k q = absurd (cc)
-just_in n v g (happened.Shown m l ∷ now) before k q = absurd (cc)
+just_in n v g (_ ∷ now) before k q = absurd (cc)
 
 -- ---- each record
 
@@ -107,14 +97,10 @@ steady_within : (now : List Happened) (before : History) → Within Bare now bef
 steady_within [] before bares follows seen old = old
 steady_within (r ∷ now) before bares follows seen old = (steady_one r now before bares.0 bares.1 follows.0 seen.0, steady_within now before bares.1 follows.1 seen.1 old)
 
-seen_before : (now rs : List Happened) → Seen (now ++ rs) → Seen rs
-seen_before [] rs k = k
-seen_before (r ∷ now) rs k = seen_before now rs k.1
-
 steady_all : (h : History) → EachRecord Bare h → EachRecord Follows h → Seen (records_of h) → AllSteady (records_of h)
 steady_all [] bares follows seen = tt
 steady_all (e ∷ before) bares follows seen =
-    steady_within e.records before bares.0 follows.0 seen (steady_all before bares.1 follows.1 (seen_before e.records (records_of before) seen))
+    steady_within e.records before bares.0 follows.0 seen (steady_all before bares.1 follows.1 (seen_after e.records (records_of before) seen))
 
 pub runs_steady : (c : Config) (w : Scene) → Reached c w → AllSteady (records_of w.before)
 runs_steady c w k = steady_all w.before (bares c w k) (each_base_follows c w k) (traces_seen c w k)
@@ -132,27 +118,11 @@ latest_own n m v g i e (r ∷ now) mine q = by r (mine r (inl refl)) q (latest_o
         at : (b : Bool) → is_list m v g k u h ≡ b → (if b then Some (j, f) else latest_put m v g now) ≡ Some (i, e) → m ≡ n
         at false t q = old q
         at true t q = sym (eqb-true k m (and_parts (k == m) (same_view u v && bytes_eq h g) t).0) ∙ own
-    by (happened.Up k j) own q old = old q
-    by (happened.Down k) own q old = old q
-    by (happened.Ring k net id ms y) own q old = old q
-    by (happened.In k u ms) own q old = old q
-    by (happened.Base k u h o len s) own q old = old q
-    by (happened.Heard p u h j f ms value) own q old = old q
-    by (happened.Cast p proto phase vote value message) own q old = old q
-    by (happened.Asked p j h y) own q old = old q
-    by (happened.Told p j why) own q old = old q
-    by (happened.Noted k c u j y) own q old = old q
-    by (happened.Refused k c f) own q old = old q
-    by (happened.Shown k l) own q old = old q
+    by _ own q old = old q
 
 own_one : (n : ℕ) (r : Happened) (now : List Happened) (before : History) → ((x : Happened) → Has x now → Mine n x) → Mine n r → AtPut now before r → Own n r
-own_one n (happened.Up m j) now before mine own put = own
-own_one n (happened.Down m) now before mine own put = own
-own_one n (happened.In m v ms) now before mine own put = own
-own_one n (happened.Base m v g u len s) now before mine own put = own
-own_one n (happened.Put m v g i e) now before mine own put = own
 own_one n (happened.Heard p v g i e ms value) now before mine own put = latest_own n p.node v g i e now mine put.0
-own_one n _ now before mine own put = tt
+own_one n _ now before mine own put = own
 
 pub step_own : (n : ℕ) (now : List Happened) (before : History) → ((r : Happened) → Has r now → Mine n r) → Within AtPut now before → (r : Happened) → Has r now → Own n r
 step_own n [] before mine puts r h = absurd h

@@ -23,9 +23,10 @@ use Rattle.node_state.specs.declared.state.Core.{Core}
 use Rattle.node_state.specs.State.{InNameOrder, with_row, row_of, is_this, leader_by, recorded, with_sessions}
 use Rattle.node_state.specs.Sending.{packet_on, send_on}
 use Rattle.run_safety.specs.Past.{History, records_of, earlier}
-use Rattle.node_state.proofs.NameOrder.{KeepsName, cases_text, row_here, row_there, rows_ordered}
+use Rattle.node_state.proofs.NameOrder.{KeepsName, rows_ordered}
+use Rattle.entry_laws.proofs.closing_rows.Calms.{Silent}
 use Rattle.entry_laws.proofs.closing_rows.Entered.{Since}
-use Rattle.entry_laws.proofs.closing_rows.At.{leads_row, found, Silent}
+use Rattle.entry_laws.proofs.closing_rows.At.{leads_row, found, row_with}
 use Rattle.entry_laws.specs.carried_values.Carried.{EntryCarries, BallotTold, KeptTold, BodyTold}
 use Rattle.entry_laws.proofs.carried_values.Slots.{TallyIs, tally_on}
 
@@ -142,15 +143,8 @@ module _ (h : Course) where
         kept = a.kept;
         facts = a.facts;
         order = rows_ordered g f keeps s a.order;
-        tallies = λ k u. tally k u (cases_text g k);
+        tallies = row_with (λ k row. U k → RowIs (s.records ++ records_of h.before) (leads_row s row) row) s g f keeps a.order own (λ k ne u. a.tallies k (others k u ne));
       }
-    where
-      Is : GroupRow → Type 0
-      Is row = RowIs (s.records ++ records_of h.before) (leads_row s row) row
-
-      tally : (k : List ℕ) → U k → (g ≡ k) ⊎ (g ≡ k → ⊥) → Is (found (with_row s g f) k)
-      tally k u (inl e) = subst (λ z. Is (found (with_row s g f) z)) e (subst Is (sym (row_here g f keeps s a.order)) (own (subst U (sym e) u)))
-      tally k u (inr ne) = subst Is (sym (row_there g f keeps s k ne)) (a.tallies k (others k u ne))
 
   pub at_row : (T : List ℕ → Type 0) (s : Core) (g : List ℕ) (f : GroupRow → GroupRow) → KeepsName f → (T g → RowIs (s.records ++ records_of h.before) (leads_row s (f (found s g))) (f (found s g))) → At h T s → At h T (with_row s g f)
   at_row T s g f keeps own a = at_row_for T T s g f keeps (λ k t ne. t) own a

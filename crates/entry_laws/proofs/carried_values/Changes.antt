@@ -2,7 +2,7 @@
 use Rattle.node_state.specs.Sending.{sent, network_to}
 use Rattle.proposal_core.specs.declared.proposal.Proposal.{Proposal}
 use Rattle.std.proofs.Common.{◌≡◌, ℕ, List, [], ◌++◌, Option, Some, None, Bool, true, false, refl, sym, ap, ◌∙◌, subst, inl, inr, ◌⊎◌, ◌∷◌, ⊎_elim, append_assoc, append-nil}
-use Rattle.std.specs.Prelude.{reverse, ◌==◌, find, is_none, map}
+use Rattle.std.specs.Prelude.{reverse, ◌==◌, find, map}
 use Rattle.std.proofs.lemmas.Bool.{and_parts}
 use Rattle.rsct_packet.specs.declared.ids.ViewId.{ViewId}
 use Rattle.rsct_packet.specs.declared.ids.ProviderId.{ProviderId}
@@ -18,13 +18,12 @@ use Rattle.vote_phases.specs.Tally.{TallyView, tally_fail}
 use Rattle.node_state.specs.declared.group.GroupRow.{GroupRow}
 use Rattle.node_state.specs.declared.group.Led.{Led}
 use Rattle.node_state.specs.declared.state.Core.{Core}
-use Rattle.node_state.specs.State.{row_of, with_row, with_led, led_of, list_of, state_of, len_of, fits_at_end, leader_of, others, recorded, row_found, is_this, leader_in, leads_in, leads, set_leader, with_sessions, has_name, recorded_all}
+use Rattle.node_state.specs.State.{row_of, with_row, with_led, led_of, list_of, state_of, len_of, fits_at_end, others, recorded, row_found, is_this, leader_in, leads_in, leads, set_leader, with_sessions, has_name, recorded_all}
 use Rattle.node_state.specs.Leading.{put, tally_for, tally_set, tally_opened, closing_entry, with_tally}
 use Rattle.run_safety.specs.Past.{records_of}
 use Rattle.node_state.specs.declared.happened.Happened.{Happened}
 use Rattle.step_refinement.proofs.Turns.{has_turned, has_last, has_pushed_on}
 use Rattle.entry_laws.proofs.closing_rows.At.{found, leads_row, leads_is}
-use Rattle.entry_laws.proofs.closing_rows.Leading.{once_idle, late_same}
 use Rattle.node_state.specs.declared.group.Given.{Given}
 use Rattle.std.specs.Option.{option_map}
 use Rattle.rsct_packet.specs.declared.ids.ProtoId.{ProtoId}
@@ -36,6 +35,7 @@ use Rattle.session_state.specs.State.{outstanding}
 use Rattle.session_state.specs.HandOn.{take_telling}
 use Rattle.node_state.specs.Following.{vote_cast}
 use Rattle.node_state.proofs.NameOrder.{row_here}
+use Rattle.row_laws.proofs.honest_votes.Changes.{once_idle, sure, late_same, Every, NoGroup, But, unnamed, put_row}
 use Rattle.row_laws.proofs.honest_votes.Closes.{runs_is}
 use Rattle.std.proofs.lemmas.List.{reverse-append}
 use Rattle.rsct_packet.proofs.HasLaws.{has_append, append_has_left, append_has_right}
@@ -132,24 +132,9 @@ viewing_stays s (Takes from v) = taken_stays s.views (views_at_work s.views) fro
 viewing_stays s Gathers = ticks_stay s.views (views_at_work s.views) (ring_ask s) (own_parts s) (begun_stays s.views)
 viewing_stays s Reminds = install_again_stays s.views (views_at_work s.views) (begun_stays s.views)
 
-abbrev pub Every : List ℕ → Type 0
-Every g = Unit {0}
-
 -- whatever begins
 abbrev pub Anything : Proposal → Type 0
 Anything x = Unit {0}
-
-abbrev pub NoGroup : List ℕ → Type 0
-NoGroup g = ⊥
-
--- but for one group
-abbrev pub But : List ℕ → List ℕ → Type 0
-But g k = g ≡ k → ⊥
-
--- evidence is asked for
-sure : {A : Type 0} → A ⊎ ⊥ → A
-sure (inl a) = a
-sure (inr z) = absurd z
 
 module _ (h : Course) where
   abbrev rs : Core → List Happened
@@ -186,13 +171,10 @@ module _ (h : Course) where
         handed = λ s before after bs kept a. at_sessions h T s (session.handed_on s.sessions g before after e bs) (λ k i. ⊎_elim (λ (j : Has k s.sessions.kept). a.kept k j) (λ (j : KeptIs s.records k). told_so s.records (records_of h.before) k.p k.proto k.phase k.ballot.filled j) (kept k i)) a;
       }
 
-  abbrev put_row : Core → GroupRow → Entry → GroupRow
-  put_row s row e = record row { list = Some (with_entry (list_or_new row.list) s.views.view e) }
-
-  at_put : (T U : List ℕ → Type 0) (s : Core) (g : List ℕ) (e : Entry) (ns : List ℕ) (stable : ℕ) (bs : List (Option Filled)) → (h.counts ≡ true → PutFact (reverse s.records) h.before s.views.view g (len_in (found s g).list) e) → ((k : List ℕ) → U k → (g ≡ k → ⊥) → T k) → (U g → Is s (put_row s (found s g) e)) → At h T s → At h U (delivered s g e ns stable bs)
+  at_put : (T U : List ℕ → Type 0) (s : Core) (g : List ℕ) (e : Entry) (ns : List ℕ) (stable : ℕ) (bs : List (Option Filled)) → (h.counts ≡ true → PutFact (reverse s.records) h.before s.views.view g (len_in (found s g).list) e) → ((k : List ℕ) → U k → (g ≡ k → ⊥) → T k) → (U g → Is s (put_row h.before s (found s g) e)) → At h T s → At h U (delivered s g e ns stable bs)
   unfolding put with_row row_of len_of list_of
   at_put T U s g e ns stable bs fact others own a =
-      let f : GroupRow → GroupRow = λ row. put_row s row e in
+      let f : GroupRow → GroupRow = λ row. put_row h.before s row e in
       at_delivered (At h U) g e (delivery U g e) s ns stable bs (at_pushed h U (with_row s g f) (happened.Put s.views.me s.views.view g (len_in (found s g).list) e) (λ c k. (fact c, k)) (at_row_for h T U s g f (λ x. refl) others own a))
 
   -- what its leader puts
@@ -201,12 +183,12 @@ module _ (h : Course) where
 
   -- ---- what a leader does
 
-  plain_row : (s : Core) (g : List ℕ) (e : Entry) → Plain Anything s g e → fits_at_end s g e ≡ true → Is s (found s g) → Is s (put_row s (found s g) e) × EntryCarries (rs s) e
+  plain_row : (s : Core) (g : List ℕ) (e : Entry) → Plain Anything s g e → fits_at_end s g e ≡ true → Is s (found s g) → Is s (put_row h.before s (found s g) e) × EntryCarries (rs s) e
   unfolding fits_at_end entry_fits list_of row_of with_entry apply
   plain_row s g (Once x) plain room k =
-      (row_is_idle (rs s) (leads_row s (found s g)) (found s g) (put_row s (found s g) (Once x)) refl (once_idle (state_in (found s g).list) s.views.view (list_or_new (found s g).list).len x (and_parts (fits (state_in (found s g).list) (Once x)) (has_room (list_or_new (found s g).list) (Once x)) room).0) k, tt)
+      (row_is_idle (rs s) (leads_row s (found s g)) (found s g) (put_row h.before s (found s g) (Once x)) refl (once_idle (state_in (found s g).list) s.views.view (list_or_new (found s g).list).len x (and_parts (fits (state_in (found s g).list) (Once x)) (has_room (list_or_new (found s g).list) (Once x)) room).0) k, tt)
   plain_row s g (Late proto phase ps) plain fits k =
-      (row_is_same (rs s) (leads_row s (found s g)) (found s g) (put_row s (found s g) (Late proto phase ps)) refl refl (ap (λ (st : GroupState). st.running) (late_same (state_in (found s g).list) s.views.view (list_or_new (found s g).list).len (Late proto phase ps) refl)) k, tt)
+      (row_is_same (rs s) (leads_row s (found s g)) (found s g) (put_row h.before s (found s g) (Late proto phase ps)) refl refl (ap (λ (st : GroupState). st.running) (late_same (state_in (found s g).list) s.views.view (list_or_new (found s g).list).len (Late proto phase ps) refl)) k, tt)
   plain_row s g (Begin x) plain fits k = absurd plain
   plain_row s g (Phase c) plain fits k = absurd plain
   plain_row s g (Approve c) plain fits k = absurd plain
@@ -274,15 +256,6 @@ module _ (h : Course) where
   idle_row : (s : Core) (g : List ℕ) → leads s g ≡ false → Full s → (found s g).led.tally ≡ None
   idle_row s g un a = row_unled (rs s) (leads_row s (found s g)) (found s g) (leads_is s g ∙ un) (a.tallies g tt)
 
-  -- nobody leads where nobody is known
-  unnamed : (s : Core) (g : List ℕ) → is_none (leader_of s g) ≡ true → leads s g ≡ false
-  unfolding leads leads_in leader_of
-  unnamed s g e = by (leader_in s (row_of s g)) e
-    where
-      by : (o : Option ℕ) → is_none o ≡ true → is_this s.views.me o ≡ false
-      by None e = refl
-      by (Some n) e = absurd (cc)
-
   noted : (s : Core) (g : List ℕ) → leads (set_leader s g s.views.me) g ≡ true → Full s → Full (set_leader s g s.views.me)
   unfolding set_leader with_row leads leads_in leader_in row_of
   noted s g leads_it a = led_by s g s.views.me (own (a.tallies g tt)) a
@@ -315,7 +288,7 @@ module _ (h : Course) where
         keeping = keeping;
         names = λ s ns a. record { sends = a.sends; kept = a.kept; facts = a.facts; order = a.order; tallies = a.tallies };
         reach = λ s x a. record { sends = a.sends; kept = a.kept; facts = a.facts; order = a.order; tallies = a.tallies };
-        named = λ s g n e a. led_by s g n (inl (idle_row s g (unnamed s g e) a)) a;
+        named = λ s g n e a. led_by s g n (inl (idle_row s g (unnamed h.before s g e) a)) a;
         requested = λ s q v g p r phases x k to is used a. (noted s g (k.request v g p r phases x is to used) a, inl (k.request v g p r phases x is to used));
         joins = λ s g q r attrs e a. led_row (keep_decision s g q r None) g _ (λ l. (refl, refl)) (led_row s g _ (λ l. (refl, refl)) a);
         tells = λ s q r y telling_it numbered a. telling s q r y a;

@@ -31,8 +31,8 @@ use Rattle.entry_laws.proofs.closing_rows.Law.{bases_in, logs_in, told_in}
 use Rattle.entry_laws.specs.carried_values.Carried.{EntryCarries, BodyTold, KeptTold, RecordCarries, FirstBallotsCarry, FirstBallotsAlwaysCarry, SentBallotsAreTold, KeptBallotsAreTold}
 use Rattle.entry_laws.proofs.carried_values.More.{entry_on}
 use Rattle.entry_laws.proofs.carried_values.At.{RowIs, PutFact, RecordFact, Facts, At, ballot_on, body_on, row_is_on}
-use Rattle.entry_laws.proofs.carried_values.Changes.{Every}
 use Rattle.entry_laws.proofs.carried_values.Steps.{course, at_stepped}
+use Rattle.row_laws.proofs.honest_votes.Changes.{Every}
 
 -- ---- the records
 

@@ -15,10 +15,12 @@ use Rattle.step_walk.proofs.Called.{at_call}
 use Rattle.step_walk.proofs.Rings.{by_rings}
 use Rattle.step_walk.proofs.Stepping.{GivenTo}
 use Rattle.step_walk.proofs.Stepping as stepping
-use Rattle.entry_laws.proofs.closing_rows.Steps.{entry_follows, entry_had_put, request_leads}
+use Rattle.entry_laws.proofs.closing_rows.Steps.{entry_had_put}
 use Rattle.entry_laws.specs.carried_values.Carried.{BodyTold}
 use Rattle.entry_laws.proofs.carried_values.At.{Course, At, body_on}
-use Rattle.entry_laws.proofs.carried_values.Changes.{Anything, Every, But, Loose, Known, beside, packets, calling, entering, ring}
+use Rattle.entry_laws.proofs.carried_values.Changes.{Anything, Loose, Known, beside, packets, calling, entering, ring}
+use Rattle.row_laws.proofs.honest_votes.Changes.{Every, But}
+use Rattle.row_laws.proofs.honest_votes.Steps.{entry_follows, request_leads}
 
 -- the events before the step
 abbrev pub course : Scene → Course

@@ -1,7 +1,7 @@
 -- In the middle of a step: the tallies of a node are of the voters of the states that its lists have, these states are those
 -- of its records, the rows of what it put are right, and the lists that it does not lead start where they did, or where the step
 -- told it, or at 0 in a view that it has entered.
-use Rattle.std.proofs.Common.{◌≡◌, ◌≤◌, ◌⊎◌, min, ℕ, ◌+◌, suc, List, [], ◌∷◌, ◌++◌, length, take, Option, Some, None, Bool, true, false, refl, sym, ap, ◌∙◌, subst, inl, inr, append_assoc, append-nil, length-append, arith}
+use Rattle.std.proofs.Common.{◌≡◌, ◌≤◌, ◌⊎◌, min, ℕ, ◌+◌, List, [], ◌∷◌, ◌++◌, length, take, Option, Some, None, Bool, true, false, refl, sym, ap, ◌∙◌, subst, inl, inr, length-append, arith}
 use Rattle.std.specs.Prelude.{◌==◌, ◌&&◌, fold, find, reverse, if◌then◌else◌}
 use Rattle.std.specs.Str.{bytes_eq}
 use Rattle.std.proofs.lemmas.List.{reverse-append}
@@ -24,14 +24,16 @@ use Rattle.node_state.specs.declared.config.Mode.{Mode}
 use Rattle.node_state.specs.declared.group.GroupRow.{GroupRow}
 use Rattle.node_state.specs.declared.happened.Happened.{Happened}
 use Rattle.node_state.specs.declared.happened.Happened.TheVariants as happened
-use Rattle.node_state.specs.declared.packet.Packet.{Packet}
 use Rattle.node_state.specs.declared.state.Core.{Core}
-use Rattle.node_state.specs.State.{acked_from, acked_by, least_acked, InNameOrder, row_found, row_of, with_row, list_of, len_of, is_this, leader_by, leader_in, leads_in, leads, recorded, recorded_all, has_name}
+use Rattle.node_state.specs.State.{acked_from, acked_by, least_acked, InNameOrder, row_found, row_of, with_row, list_of, len_of, is_this, leader_by, leader_in, leads_in, leads, recorded, has_name}
 use Rattle.node_state.specs.Leading.{put}
 use Rattle.run_safety.specs.Past.{History, earlier, Within, is_list, puts_of, base_of, fold_from, state_at, state_now}
 use Rattle.node_state.proofs.NameOrder.{KeepsName, cases_text, text_self, text_other, row_here, row_there, rows_ordered}
 use Rattle.entry_laws.specs.closing_rows.Rows.{HasRows, TallyFits, start_in}
 use Rattle.entry_laws.proofs.closing_rows.Entered.{Since}
+use Rattle.entry_laws.proofs.closing_rows.Calms.{Silent, Calm}
+use Rattle.entry_laws.proofs.closing_rows.Quiet.{KeepsQuiet}
+use Rattle.step_refinement.proofs.Puts.{fold_pushed}
 
 -- the node leads a group with this row
 abbrev pub leads_row : Core → GroupRow → Bool
@@ -224,32 +226,19 @@ pub record At (h : Frame) (T G : List ℕ → Type 0) (s : Core) : Type 0 where
   pub facts : Facts h.history (reverse s.records)
   pub states : Fresh (reverse s.records) h.history → (g : List ℕ) → StateIs s.views.me s.views.view g (found s g).list (earlier (reverse s.records) h.history)
 
--- what changes no list and enters no view
-abbrev pub Silent : Happened → Type 0
-Silent (happened.Put n v g i e) = ⊥
-Silent (happened.In n v ms) = ⊥
-Silent (happened.Base n v g old len st) = ⊥
-Silent _ = Unit {0}
-
 silent_fact : (h : History) (now : List Happened) (r : Happened) → Silent r → Facts h now → Facts h (r ∷ now)
 silent_fact h now (happened.Put n v g i e) z k = absurd z
 silent_fact h now (happened.In n v ms) z k = absurd z
 silent_fact h now (happened.Base n v g old len st) z k = absurd z
 silent_fact h now _ z k = (tt, k)
 
-silent_state : (n : ℕ) (v : ViewId) (g : List ℕ) (l : Option GroupView) (rs : List Happened) (r : Happened) → Silent r → StateIs n v g l rs → StateIs n v g l (r ∷ rs)
+pub silent_state : (n : ℕ) (v : ViewId) (g : List ℕ) (l : Option GroupView) (rs : List Happened) (r : Happened) → Silent r → StateIs n v g l rs → StateIs n v g l (r ∷ rs)
 silent_state n v g l rs (happened.Put m u h i e) z k = absurd z
 silent_state n v g l rs (happened.In m u ms) z k = absurd z
 silent_state n v g l rs (happened.Base m u h old len st) z k = absurd z
 silent_state n v g l rs _ z k = record { state = k.state; len = k.len }
 
 -- ---- lists with one more entry
-
-pub fold_pushed : (v : ViewId) (xs : List Entry) (s : GroupState) (i : ℕ) (e : Entry) → fold_from v s i (xs ++ e ∷ []) ≡ after (fold_from v s i xs) v (i + length xs) e
-fold_pushed v [] s i e = let q : i ≡ i + 0 = omega arith in ap (λ k. after s v k e) q
-fold_pushed v (x ∷ xs) s i e =
-    let q : (i + 1) + length xs ≡ i + suc (length xs) = omega arith in
-    fold_pushed v xs (after s v i x) (i + 1) e ∙ ap (λ k. after (fold_from v (after s v i x) (i + 1) xs) v k e) q
 
 length_pushed : (xs : List Entry) (e : Entry) → length (xs ++ e ∷ []) ≡ length xs + 1
 length_pushed xs e = length-append xs (e ∷ [])
@@ -276,7 +265,7 @@ is_list_other n v k m u g ne = ap (λ c. m == n && (same_view u v && c)) (text_o
     none true false = refl
     none false b = refl
 
-state_pushed : (n : ℕ) (v : ViewId) (g : List ℕ) (l : Option GroupView) (rs : List Happened) (i : ℕ) (e : Entry) → StateIs n v g l rs → StateIs n v g (Some (with_entry (list_or_new l) v e)) (happened.Put n v g i e ∷ rs)
+pub state_pushed : (n : ℕ) (v : ViewId) (g : List ℕ) (l : Option GroupView) (rs : List Happened) (i : ℕ) (e : Entry) → StateIs n v g l rs → StateIs n v g (Some (with_entry (list_or_new l) v e)) (happened.Put n v g i e ∷ rs)
 unfolding with_entry
 state_pushed n v g l rs i e k =
     let xs : List Entry = puts_of n v g rs in
@@ -291,68 +280,35 @@ state_pushed n v g l rs i e k =
       len = ap (λ z. z + 1) k.len ∙ sym (length_pushed (puts_of n v g rs) e) ∙ sym (ap length own);
     }
 
-state_beside : (n : ℕ) (v : ViewId) (k : List ℕ) (l : Option GroupView) (rs : List Happened) (m : ℕ) (u : ViewId) (g : List ℕ) (i : ℕ) (e : Entry) → (g ≡ k → ⊥) → StateIs n v k l rs → StateIs n v k l (happened.Put m u g i e ∷ rs)
+pub state_beside : (n : ℕ) (v : ViewId) (k : List ℕ) (l : Option GroupView) (rs : List Happened) (m : ℕ) (u : ViewId) (g : List ℕ) (i : ℕ) (e : Entry) → (g ≡ k → ⊥) → StateIs n v k l rs → StateIs n v k l (happened.Put m u g i e ∷ rs)
 state_beside n v k l rs m u g i e ne s =
     let same : puts_of n v k (happened.Put m u g i e ∷ rs) ≡ puts_of n v k rs = ap (λ b. if b then puts_of n v k rs ++ e ∷ [] else puts_of n v k rs) (is_list_other n v k m u g ne) in
     record { state = s.state ∙ sym (ap (fold_from v (base_of n v k rs) 0) same); len = s.len ∙ sym (ap length same) }
 
 -- ---- rows
 
--- nothing changes but what is sent more, and the sessions
-pub record Calm (c d : Core) : Type 0 where
-  pub groups : d.groups ≡ c.groups
-  pub views : d.views ≡ c.views
-  pub config : d.config ≡ c.config
-  pub names : d.names ≡ c.names
-  pub records : d.records ≡ c.records
-  pub sends : (p : Packet) → Has p c.sends → Has p d.sends
-
-pub calm_self : (c : Core) → Calm c c
-calm_self c = record { groups = refl; views = refl; config = refl; names = refl; records = refl; sends = λ p h. h }
-
-pub calm_then : (a b c : Core) → Calm a b → Calm b c → Calm a c
-calm_then a b c p q = record { groups = q.groups ∙ p.groups; views = q.views ∙ p.views; config = q.config ∙ p.config; names = q.names ∙ p.names; records = q.records ∙ p.records; sends = λ x h. q.sends x (p.sends x h) }
-
-pub calm_fold : {A : Type 0} (f : Core → A → Core) → ((c : Core) (x : A) → Calm c (f c x)) → (xs : List A) (c : Core) → Calm c (fold f c xs)
-calm_fold f one [] c = calm_self c
-calm_fold f one (x ∷ xs) c = calm_then c (f c x) (fold f (f c x) xs) (one c x) (calm_fold f one xs (f c x))
+-- what is said of a group's row goes on where one row changes
+pub row_with : (P : List ℕ → GroupRow → Type 0) (s : Core) (g : List ℕ) (f : GroupRow → GroupRow) → KeepsName f → InNameOrder s.groups → P g (f (found s g)) → ((k : List ℕ) → (g ≡ k → ⊥) → P k (found s k)) → (k : List ℕ) → P k (found (with_row s g f) k)
+unfolding with_row row_of
+row_with P s g f keeps order here there k = by (cases_text g k)
+  where
+    by : (g ≡ k) ⊎ (g ≡ k → ⊥) → P k (found (with_row s g f) k)
+    by (inl e) = subst (λ z. P z (found (with_row s g f) z)) e (subst (P g) (sym (row_here g f keeps s order)) here)
+    by (inr ne) = subst (P k) (sym (row_there g f keeps s k ne)) (there k ne)
 
 -- a row changes
 pub rows_for : (x y : Floors) (T G U : List ℕ → Type 0) (s : Core) (g : List ℕ) (f : GroupRow → GroupRow) → KeepsName f → ((x : GroupRow) → (f x).leader ≡ x.leader) → ((k : List ℕ) → U k → (g ≡ k → ⊥) → T k) → (U g → RowIs (leads_row s (found s g)) (f (found s g))) → RowStarts y (seat s) g (f (found s g)) → ((k : List ℕ) → (g ≡ k → ⊥) → RowStarts x (seat s) k (found s k) → RowStarts y (seat s) k (found s k)) → Rows x T G s → Rows y U G (with_row s g f)
-unfolding with_row row_of
+unfolding with_row
 rows_for x y T G U s g f keeps leader others own begins rest a =
-    record { order = rows_ordered g f keeps s a.order; starts = λ k. start k (cases_text g k); tallies = λ k u. tally k u (cases_text g k); led = λ k i. leads k i (cases_text g k) }
+    record {
+      order = rows_ordered g f keeps s a.order;
+      starts = row_with (RowStarts y (seat s)) s g f keeps a.order begins (λ k ne. rest k ne (a.starts k));
+      tallies = row_with (λ k row. U k → RowIs (leads_row s row) row) s g f keeps a.order (λ u. subst (λ b. RowIs b (f (found s g))) (sym lead) (own u)) (λ k ne u. a.tallies k (others k u ne));
+      led = row_with (λ k row. G k → leads_row s row ≡ true) s g f keeps a.order (λ i. lead ∙ a.led g i) (λ k ne. a.led k);
+    }
   where
-    here : found (with_row s g f) g ≡ f (found s g)
-    here = row_here g f keeps s a.order
-
-    there : (k : List ℕ) → (g ≡ k → ⊥) → found (with_row s g f) k ≡ found s k
-    there k ne = row_there g f keeps s k ne
-
     lead : leads_row s (f (found s g)) ≡ leads_row s (found s g)
     lead = ap (λ o. is_this s.views.me (leader_by s.config.mode s.views.view.coord o)) (leader (found s g))
-
-    tally : (k : List ℕ) → U k → (g ≡ k) ⊎ (g ≡ k → ⊥) → RowIs (leads_row s (found (with_row s g f) k)) (found (with_row s g f) k)
-    tally k u (inl e) =
-        subst (λ z. RowIs (leads_row s (found (with_row s g f) z)) (found (with_row s g f) z)) e (subst (λ z. RowIs (leads_row s z) z) (sym here) (subst (λ b. RowIs b (f (found s g))) (sym lead) (own (subst U (sym e) u))))
-    tally k u (inr ne) = subst (λ z. RowIs (leads_row s z) z) (sym (there k ne)) (a.tallies k (others k u ne))
-
-    start : (k : List ℕ) → (g ≡ k) ⊎ (g ≡ k → ⊥) → RowStarts y (seat s) k (found (with_row s g f) k)
-    start k (inl e) = subst (λ z. RowStarts y (seat s) z (found (with_row s g f) z)) e (subst (RowStarts y (seat s) g) (sym here) begins)
-    start k (inr ne) = subst (RowStarts y (seat s) k) (sym (there k ne)) (rest k ne (a.starts k))
-
-    leads : (k : List ℕ) → G k → (g ≡ k) ⊎ (g ≡ k → ⊥) → leads_row s (found (with_row s g f) k) ≡ true
-    leads k i (inl e) = subst (λ z. leads_row s (found (with_row s g f) z) ≡ true) e (ap (leads_row s) here ∙ lead ∙ a.led g (subst G (sym e) i))
-    leads k i (inr ne) = ap (leads_row s) (there k ne) ∙ a.led k i
-
--- what is said of a group's list goes on where its row changes
-pub list_with : (P : List ℕ → Option GroupView → Type 0) (s : Core) (g : List ℕ) (f : GroupRow → GroupRow) → KeepsName f → InNameOrder s.groups → P g (f (found s g)).list → ((k : List ℕ) → (g ≡ k → ⊥) → P k (found s k).list) → (k : List ℕ) → P k (found (with_row s g f) k).list
-unfolding with_row row_of
-list_with P s g f keeps order here there k = by (cases_text g k)
-  where
-    by : (g ≡ k) ⊎ (g ≡ k → ⊥) → P k (found (with_row s g f) k).list
-    by (inl e) = subst (λ z. P z (found (with_row s g f) z).list) e (subst (λ (z : GroupRow). P g z.list) (sym (row_here g f keeps s order)) here)
-    by (inr ne) = subst (λ (z : GroupRow). P k z.list) (sym (row_there g f keeps s k ne)) (there k ne)
 
 module _ (h : Frame) where
   -- other groups
@@ -384,13 +340,9 @@ module _ (h : Frame) where
 
       new : Fresh (reverse s.records) h.history → (k : List ℕ) → StateIs s.views.me s.views.view k (found (with_row s g (λ row. record row { list = Some (with_entry (list_or_new row.list) s.views.view e) })) k).list (r ∷ earlier (reverse s.records) h.history)
       new fresh =
-          list_with (λ k l. StateIs s.views.me s.views.view k l (r ∷ earlier (reverse s.records) h.history)) s g (λ row. record row { list = Some (with_entry (list_or_new row.list) s.views.view e) }) (λ x. refl) a.rows.order (state_pushed s.views.me s.views.view g (found s g).list (earlier (reverse s.records) h.history) (len_in (found s g).list) e (a.states fresh g)) (λ k ne. state_beside s.views.me s.views.view k (found s k).list (earlier (reverse s.records) h.history) s.views.me s.views.view g (len_in (found s g).list) e ne (a.states fresh k))
+          row_with (λ k row. StateIs s.views.me s.views.view k row.list (r ∷ earlier (reverse s.records) h.history)) s g (λ row. record row { list = Some (with_entry (list_or_new row.list) s.views.view e) }) (λ x. refl) a.rows.order (state_pushed s.views.me s.views.view g (found s g).list (earlier (reverse s.records) h.history) (len_in (found s g).list) e (a.states fresh g)) (λ k ne. state_beside s.views.me s.views.view k (found s k).list (earlier (reverse s.records) h.history) s.views.me s.views.view g (len_in (found s g).list) e ne (a.states fresh k))
 
   module _ (T G : List ℕ → Type 0) where
-    pub at_fold : {A : Type 0} (f : Core → A → Core) (xs : List A) → ((s : Core) (x : A) → Has x xs → At h T G s → At h T G (f s x)) → (s : Core) → At h T G s → At h T G (fold f s xs)
-    at_fold f [] step s a = a
-    at_fold f (x ∷ xs) step s a = at_fold f xs (λ t y i k. step t y (inr i) k) (f s x) (step s x (inl refl) a)
-
     pub at_calm : (c d : Core) → Calm c d → At h T G c → At h T G d
     at_calm c d k a =
         let x : At h T G (record c { groups = d.groups; views = d.views; config = d.config; records = d.records }) = subst (λ (z : List GroupRow × Views × Config × List Happened). At h T G (record c { groups = z.0; views = z.1; config = z.2; records = z.3 })) (λ i. (sym k.groups i, sym k.views i, sym k.config i, sym k.records i)) a in
@@ -412,11 +364,8 @@ module _ (h : Frame) where
           states = λ fresh. subst (λ rs. (k : List ℕ) → StateIs s.views.me s.views.view k (found s k).list (earlier rs h.history)) (sym turned) (λ k. silent_state s.views.me s.views.view k (found s k).list (earlier (reverse s.records) h.history) r silent (a.states (subst (λ rs. Fresh rs h.history) turned fresh).1 k));
         }
 
-    pub at_recorded_all : (rs : List Happened) (s : Core) → ((r : Happened) → Has r rs → Silent r) → At h T G s → At h T G (recorded_all s rs)
-    unfolding recorded_all recorded
-    at_recorded_all [] s none a = subst (λ l. At h T G (record s { records = l })) (sym (append-nil s.records)) a
-    at_recorded_all (r ∷ rs) s none a =
-        subst (λ l. At h T G (record s { records = l })) (append_assoc s.records (r ∷ []) rs) (at_recorded_all rs (recorded s r) (λ x i. none x (inr i)) (at_recorded s r (none r (inl refl)) a))
+    pub keeps_quiet : KeepsQuiet (At h T G)
+    keeps_quiet = record { calm = at_calm; silent = at_recorded }
 
     pub at_views : (s : Core) (v : Views) → v.me ≡ s.views.me → v.view ≡ s.views.view → v.members ≡ s.views.members → At h T G s → At h T G (record s { views = v })
     at_views s v me at ms a =
@@ -440,7 +389,7 @@ module _ (h : Frame) where
             came = a.came;
             rows = record { order = rows.order; starts = rows.starts; tallies = rows.tallies; led = rows.led };
             facts = a.facts;
-            states = λ fresh. list_with (λ k l. StateIs s.views.me s.views.view k l (earlier (reverse s.records) h.history)) s g f keeps a.rows.order (let b = a.states fresh g in record { state = states (found s g) ∙ b.state; len = lens (found s g) ∙ b.len }) (λ k ne. a.states fresh k);
+            states = λ fresh. row_with (λ k row. StateIs s.views.me s.views.view k row.list (earlier (reverse s.records) h.history)) s g f keeps a.rows.order (let b = a.states fresh g in record { state = states (found s g) ∙ b.state; len = lens (found s g) ∙ b.len }) (λ k ne. a.states fresh k);
           }
 
     pub at_row : (s : Core) (g : List ℕ) (f : GroupRow → GroupRow) → KeepsName f → ((x : GroupRow) → (f x).leader ≡ x.leader) → ((x : GroupRow) → state_in (f x).list ≡ state_in x.list) → ((x : GroupRow) → len_in (f x).list ≡ len_in x.list) → ((x : GroupRow) → start_in (f x).list ≡ start_in x.list) → ((x : GroupRow) (m : ℕ) → acked_from m (f x).led.acked ≡ acked_from m x.led.acked) → (T g → RowIs (leads_row s (found s g)) (f (found s g))) → At h T G s → At h T G (with_row s g f)

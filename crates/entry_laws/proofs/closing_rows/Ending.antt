@@ -1,33 +1,24 @@
 -- What a leader decides, and what begins at the end of a step.
-use Rattle.std.proofs.Common.{◌≡◌, ℕ, zero, suc, List, [], ◌∷◌, length, Option, Some, None, Bool, true, false, refl, ◌∙◌, inl, inr}
-use Rattle.std.specs.Prelude.{not, fold, filter}
+use Rattle.std.proofs.Common.{◌≡◌, ℕ, List, Option, Some, None, true, refl, ◌∙◌}
+use Rattle.std.specs.Prelude.{fold}
 use Rattle.rsct_packet.specs.declared.ids.ProviderId.{ProviderId}
-use Rattle.rsct_packet.specs.Lists.{is_empty}
-use Rattle.rsct_packet.specs.Providers.{among}
 use Rattle.rsct_packet.specs.Search.{Has}
 use Rattle.node_state.proofs.NameOrder.{led_are_led}
 use Rattle.group_attr.specs.declared.attrs.Attrs.{Attrs}
 use Rattle.group_attr.specs.declared.attrs.Phases.{Phases}
-use Rattle.proposal_core.specs.declared.proposal.Failure.{Failure}
 use Rattle.proposal_core.specs.declared.proposal.Proposal.{Proposal}
 use Rattle.proposal_core.specs.declared.proposal.Proposal.TheVariants.{Join, Leave, Fail, Expel, State, Message, Attributes, Reflect}
-use Rattle.proposal_core.specs.declared.group_state.GroupState.{GroupState}
-use Rattle.proposal_core.specs.Lists.{list_or_new}
-use Rattle.batch_rules.specs.Waiting.{batches_failures, chosen_of, next_failures, failures_left, next_joins, joins_left, waits_join}
-use Rattle.source_target.specs.declared.Due.{Due}
-use Rattle.source_target.specs.declared.Due.TheVariants as due
-use Rattle.source_target.specs.Due as target
+use Rattle.batch_rules.specs.Waiting.{failures_left, joins_left, waits_join}
 use Rattle.client_callbacks.specs.declared.told.Why.{Why}
-use Rattle.client_callbacks.specs.declared.told.Why.TheVariants.{NoSource}
-use Rattle.node_state.specs.declared.group.GroupRow.{GroupRow}
 use Rattle.node_state.specs.declared.packet.Body.TheVariants as body
 use Rattle.node_state.specs.declared.state.Core.{Core}
-use Rattle.node_state.specs.State.{row_of, led_of, state_of, frozen, led_groups, decisions_with}
+use Rattle.node_state.specs.State.{state_of, led_groups, decisions_with}
 use Rattle.node_state.specs.HandOn.{Answering}
-use Rattle.node_state.specs.Leading.{with_waiting, begins}
-use Rattle.node_state.specs.Deciding.{keep_decision, refused, known_state, lacks_source, source_len, is_idle_empty, join_refusal, keep_attrs, wait_join, decide_join, other_refusal, decide_change, decided}
-use Rattle.node_state.specs.Ending.{Pass, quiet, begun_now, failures_begin, due_begins, source_begins, attrs_for, carried_len, source_refused, joins_begin, or_due, or_joins, may_begin, first_begins, group_begins, one_pass, passes, most_begun, end_step}
-use Rattle.entry_laws.proofs.closing_rows.At.{Frame, found, leads_row, leads_is, At, at_for, at_fold, at_calm}
+use Rattle.node_state.specs.Deciding.{keep_decision, refused, is_idle_empty, join_refusal, keep_attrs, wait_join, decide_join, other_refusal, decide_change, decided}
+use Rattle.node_state.specs.Ending.{Pass, quiet, group_begins, end_step}
+use Rattle.entry_laws.proofs.closing_rows.Begins.{KeepsBegun, at_groups, at_ended}
+use Rattle.entry_laws.proofs.closing_rows.Quiet.{at_fold}
+use Rattle.entry_laws.proofs.closing_rows.At.{Frame, found, leads_row, leads_is, At, at_for, at_calm}
 use Rattle.entry_laws.proofs.closing_rows.Calms.{calm_sent}
 use Rattle.entry_laws.proofs.closing_rows.Leading.{at_led, at_waits, at_begins}
 
@@ -73,91 +64,16 @@ module _ (h : Frame) where
 
     -- ---- what begins in a group that the node leads
 
-    module _ (f : Answering) (g : List ℕ) (t : T g) (led : G g) where
-      at_failures : (n : ℕ) (s : Core) → At h T G s → At h T G (failures_begin n f s g).core
-      unfolding failures_begin
-      at_failures zero s a = a
-      at_failures (suc n) s a =
-          let st : GroupState = state_of s g in
-          let out : List Failure = filter (λ (x : Failure). among st.members x.p) (next_failures st.attrs.batch (led_of s g).waiting) in
-          let c : Core = with_waiting s g (failures_left st.attrs.batch) in
-          let k : At h T G c = at_waits h T G s g (failures_left st.attrs.batch) a in by c out st (is_empty out) k (at_failures n c k)
-        where
-          by : (c : Core) (out : List Failure) (st : GroupState) (b : Bool) → At h T G c → At h T G (failures_begin n f c g).core → At h T G (elim b as (λ _. Pass) [ true ↦ failures_begin n f c g | false ↦ begun_now (begins f c g (Fail out) st.attrs.phases) ]).core
-          by c out st true k rest = rest
-          by c out st false k rest = at_begins h T G f c g (Fail out) st.attrs.phases t led k
-
-      at_due : (s : Core) (st : GroupState) (source : List ℕ) (o : Option Due) → At h T G s → At h T G (due_begins f s g st source o).core
-      unfolding due_begins
-      at_due s st source None a = a
-      at_due s st source (Some (due.CastOut out)) a = at_begins h T G f s g (Fail (chosen_of (batches_failures st.attrs.batch) out)) st.attrs.phases t led a
-      at_due s st source (Some (due.Reflect v i)) a = at_begins h T G f s g (Reflect v i (state_of s source).value) st.attrs.source_phases t led a
-
-      at_source : (s : Core) (st : GroupState) (o : Option (List ℕ)) → At h T G s → At h T G (source_begins f s g st o).core
-      unfolding source_begins
-      at_source s st None a = a
-      at_source s st (Some k) a = at_due s st k (target.due st (known_state s k)) a
-
-      at_source_refused : (s : Core) (source : Option (List ℕ)) (ps : List ProviderId) → At h T G s → At h T G (source_refused s g source ps)
-      unfolding source_refused
-      at_source_refused s source ps a =
-          at_fold h T G (λ c (p : ProviderId). refused c g p p.join (NoSource (source_len c source))) ps (λ c p i k. at_refused c g p p.join (NoSource (source_len c source)) k) s a
-
-      at_joins : (n : ℕ) (s : Core) → At h T G s → At h T G (joins_begin n f s g).core
-      unfolding joins_begin
-      at_joins zero s a = a
-      at_joins (suc n) s a =
-          let st : GroupState = state_of s g in
-          let chosen : List ProviderId = next_joins st.attrs.batch (led_of s g).waiting in
-          let at : Attrs = attrs_for st (led_of s g).join_attrs chosen in
-          let ps : List ProviderId = filter (λ (p : ProviderId). not (lacks_source s at.source p.node)) chosen in
-          let out : List ProviderId = filter (λ (p : ProviderId). lacks_source s at.source p.node) chosen in
-          let c : Core = source_refused (with_waiting s g (joins_left st.attrs.batch)) g at.source out in
-          let k : At h T G c = at_source_refused (with_waiting s g (joins_left st.attrs.batch)) at.source out (at_waits h T G s g (joins_left st.attrs.batch) a) in by c ps at (is_empty ps) k (at_joins n c k)
-        where
-          by : (c : Core) (ps : List ProviderId) (at : Attrs) (b : Bool) → At h T G c → At h T G (joins_begin n f c g).core → At h T G (elim b as (λ _. Pass) [ true ↦ joins_begin n f c g | false ↦ begun_now (begins f c g (Join ps at (carried_len c at.source)) at.phases) ]).core
-          by c ps at true k rest = rest
-          by c ps at false k rest = at_begins h T G f c g (Join ps at (carried_len c at.source)) at.phases t led k
-
-      at_or_due : (p : Pass) → At h T G p.core → At h T G (or_due f g p).core
-      unfolding or_due
-      at_or_due p a = by p.began
-        where
-          by : (b : Bool) → At h T G (elim b as (λ _. Pass) [ true ↦ p | false ↦ source_begins f p.core g (state_of p.core g) (state_of p.core g).attrs.source ]).core
-          by true = a
-          by false = at_source p.core (state_of p.core g) (state_of p.core g).attrs.source a
-
-      at_or_joins : (p : Pass) → At h T G p.core → At h T G (or_joins f g p).core
-      unfolding or_joins
-      at_or_joins p a = by p.began
-        where
-          by : (b : Bool) → At h T G (elim b as (λ _. Pass) [ true ↦ p | false ↦ joins_begin (length (led_of p.core g).waiting.joins) f p.core g ]).core
-          by true = a
-          by false = at_joins (length (led_of p.core g).waiting.joins) p.core a
-
-      at_first : (s : Core) (row : GroupRow) → At h T G s → At h T G (first_begins f s g row).core
-      unfolding first_begins
-      at_first s row a = by (may_begin (list_or_new row.list))
-        where
-          by : (b : Bool) → At h T G (elim b as (λ _. Pass) [ false ↦ quiet s | true ↦ or_joins f g (or_due f g (failures_begin (length row.led.waiting.failures) f s g)) ]).core
-          by false = a
-          by true =
-              at_or_joins (or_due f g (failures_begin (length row.led.waiting.failures) f s g)) (at_or_due (failures_begin (length row.led.waiting.failures) f s g) (at_failures (length row.led.waiting.failures) s a))
-
-      at_group : (n : ℕ) (p : Pass) → At h T G p.core → At h T G (group_begins n f g p).core
-      unfolding group_begins
-      at_group zero p a = a
-      at_group (suc n) p a = let q : Pass = first_begins f p.core g (row_of p.core g) in
-          let k : At h T G q.core = at_first p.core (row_of p.core g) a in by q q.began k (at_group n q k)
-        where
-          by : (q : Pass) (b : Bool) → At h T G q.core → At h T G (group_begins n f g q).core → At h T G (elim b as (λ _. Pass) [ true ↦ group_begins n f g q | false ↦ record { core = q.core; began = p.began } ]).core
-          by q true k rest = rest
-          by q false k rest = k
-
-    at_groups : (most : ℕ) (f : Answering) (gs : List (List ℕ)) → ((g : List ℕ) → Has g gs → T g × G g) → (p : Pass) → At h T G p.core → At h T G (fold (λ p g. group_begins most f g p) p gs).core
-    at_groups most f [] all p a = a
-    at_groups most f (g ∷ gs) all p a =
-        let k = all g (inl refl) in at_groups most f gs (λ x i. all x (inr i)) (group_begins most f g p) (at_group f g k.0 k.1 most p a)
+    at_begun : (g : List ℕ) → T g → G g → KeepsBegun (At h T G) g
+    at_begun g t led =
+        record {
+          leaves_failures = λ s b a. at_waits h T G s g (failures_left b) a;
+          leaves_joins = λ s b a. at_waits h T G s g (joins_left b) a;
+          refuses = λ s p r y a. at_refused s g p r y a;
+          fails = λ f s out phases a. at_begins h T G f s g (Fail out) phases t led a;
+          reflects = λ f s k v i from q a. at_begins h T G f s g (Reflect v i (state_of s k).value) (state_of s g).attrs.source_phases t led a;
+          joins = λ f s a some k. at_begins h T G f _ g _ _ t led k;
+        }
 
   -- the groups that a node leads
   abbrev pub Leads : Core → List ℕ → Type 0
@@ -175,27 +91,8 @@ module _ (h : Frame) where
   -- what is done in each group that the node leads
   pub at_led_groups : (f : Core → List ℕ → Core) → ((G : List ℕ → Type 0) (s : Core) (g : List ℕ) → G g → At h Every G s → At h Every G (f s g)) → (s : Core) → At h Every NoGroup s → At h Every NoGroup (fold f s (led_groups s))
   at_led_groups f step s a =
-      at_all (Leads s) (fold f s (led_groups s)) (at_fold h Every (Leads s) f (led_groups s) (λ c g i k. step (Leads s) c g (led_leads s a g i) k) s (at_leads s a))
-
-  at_pass : (most : ℕ) (f : Answering) (s : Core) → At h Every NoGroup s → At h Every NoGroup (one_pass most f s).core
-  unfolding one_pass
-  at_pass most f s a =
-      at_all (Leads s) (fold (λ (p : Pass) g. group_begins most f g p) (quiet s) (led_groups s)).core (at_groups Every (Leads s) most f (led_groups s) (λ g i. (tt, led_leads s a g i)) (quiet s) (at_leads s a))
-
-  at_passes : (n most : ℕ) (f : Answering) (s : Core) → At h Every NoGroup s → At h Every NoGroup (passes n most f s)
-  unfolding passes
-  at_passes zero most f s a = a
-  at_passes (suc n) most f s a = let p : Pass = one_pass most f s in
-      let k : At h Every NoGroup p.core = at_pass most f s a in by p p.began k (at_passes n most f p.core k)
-    where
-      by : (p : Pass) (b : Bool) → At h Every NoGroup p.core → At h Every NoGroup (passes n most f p.core) → At h Every NoGroup (elim b as (λ _. Core) [ true ↦ passes n most f p.core | false ↦ p.core ])
-      by p true k rest = rest
-      by p false k rest = k
+      at_all (Leads s) (fold f s (led_groups s)) (at_fold (At h Every (Leads s)) f (led_groups s) (λ c g i k. step (Leads s) c g (led_leads s a g i) k) s (at_leads s a))
 
   pub at_step_ended : (f : Answering) (s : Core) → At h Every NoGroup s → At h Every NoGroup (end_step f s)
-  unfolding end_step
-  at_step_ended f s a = by (frozen s)
-    where
-      by : (b : Bool) → At h Every NoGroup (elim b as (λ _. Core) [ true ↦ s | false ↦ passes (most_begun s) (most_begun s) f s ])
-      by true = a
-      by false = at_passes (most_begun s) (most_begun s) f s a
+  at_step_ended f s a =
+      at_ended (At h Every NoGroup) f (λ most c k. at_all (Leads c) (fold (λ (p : Pass) g. group_begins most f g p) (quiet c) (led_groups c)).core (at_groups (At h Every (Leads c)) most f (led_groups c) (λ g i. at_begun Every (Leads c) g tt (led_leads c k g i)) (quiet c) (at_leads c k))) s a

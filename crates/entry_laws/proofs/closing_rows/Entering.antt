@@ -1,50 +1,39 @@
 -- Entering a view, and what a rule of views leaves.
-use Rattle.std.proofs.Common.{◌≡◌, ◌⊎◌, ℕ, List, [], ◌∷◌, ◌++◌, length, Option, Some, None, Bool, true, false, refl, sym, ap, ◌∙◌, subst, inl, inr, ⊎_elim, append_assoc, append-nil, arith}
-use Rattle.std.specs.Prelude.{◌==◌, ◌&&◌, not, map, filter, fold, find, flat_map, reverse, is_some, if◌then◌else◌}
+use Rattle.std.proofs.Common.{◌≡◌, ◌⊎◌, ℕ, List, [], ◌∷◌, ◌++◌, length, Option, Some, None, Bool, true, false, refl, sym, ap, ◌∙◌, subst, inl, inr, append_assoc, append-nil, arith}
+use Rattle.std.specs.Prelude.{◌==◌, ◌&&◌, map, filter, fold, find, reverse, is_some, if◌then◌else◌}
 use Rattle.std.specs.Option.{option_map}
 use Rattle.std.specs.Str.{bytes_eq}
 use Rattle.std.proofs.lemmas.List.{reverse-append}
 use Rattle.std.proofs.lemmas.Bool.Decides.{nat_tests}
 use Rattle.rsct_packet.specs.declared.ids.ViewId.{ViewId}
-use Rattle.rsct_packet.specs.declared.ids.ProviderId.{ProviderId}
 use Rattle.rsct_packet.specs.Ids.{same_view}
 use Rattle.rsct_packet.specs.Providers.{among}
-use Rattle.rsct_packet.specs.Search.{Has}
-use Rattle.rsct_packet.proofs.HasLaws.{has_append, append_has_right}
-use Rattle.group_attr.specs.Attrs.{host_membership}
+use Rattle.rsct_packet.proofs.HasLaws.{append_has_right}
 use Rattle.proposal_core.specs.declared.proposal.Cause.TheVariants.{Died}
 use Rattle.proposal_core.specs.declared.group_state.GroupState.{GroupState}
-use Rattle.proposal_core.specs.Fold.{empty_state, present}
-use Rattle.proposal_core.specs.Lists.{state_in}
+use Rattle.proposal_core.specs.Fold.{empty_state}
 use Rattle.batch_rules.specs.Waiting.{add_failure}
-use Rattle.subscribe_core.specs.declared.subs.Subscription.{Subscription}
-use Rattle.client_callbacks.specs.declared.told.Told.TheVariants as told
-use Rattle.client_callbacks.specs.declared.told.Why.TheVariants.{Dissolved}
-use Rattle.session_state.specs.declared.state.Provider.{Provider}
-use Rattle.session_state.specs.State.{provider_of, outstanding}
-use Rattle.session_state.specs.HandOn.{take_telling}
 use Rattle.view_state.specs.declared.install.Install.{Install}
 use Rattle.view_state.specs.declared.install.Base.{Base}
 use Rattle.view_state.specs.Bases.{bases_of, base_named}
-use Rattle.view_state.specs.declared.packet.ViewPacket.TheVariants as packet
 use Rattle.view_state.specs.declared.packet.ViewSend.{ViewSend}
 use Rattle.view_state.specs.declared.views.ViewWork.{ViewWork}
 use Rattle.view_state.specs.Views.{own_install, views_entered}
-use Rattle.node_state.specs.declared.group.GroupRow.{GroupRow}
 use Rattle.node_state.specs.declared.happened.Happened.{Happened}
 use Rattle.node_state.specs.declared.happened.Happened.TheVariants as happened
 use Rattle.node_state.specs.declared.packet.Body.TheVariants as body
 use Rattle.node_state.specs.declared.state.Core.{Core}
 use Rattle.node_state.specs.State.{InNameOrder, AllAfter, new_row, row_found, state_of, held_rows, recorded_all, with_sessions, has_name}
-use Rattle.node_state.specs.Sending.{sent, send_requests, send_votes_again}
-use Rattle.node_state.specs.HandOn.{Answering, subscriber_name, note_of}
+use Rattle.node_state.specs.Sending.{sent}
+use Rattle.node_state.specs.HandOn.{Answering}
 use Rattle.node_state.specs.Leading.{with_waiting, tally_opened}
-use Rattle.node_state.specs.Applying.{Lacking, lacking, fill_lists, level_set, base_row, base_record, view_entered, is_in_base, number_of, dissolved, dissolved_if, group_dissolved, sides_dissolved, base_note, entering_note, entering_noted, taken_sent, owed_sent, wait_failed, phase_reopened, lead, lead_groups, entered, entered_if, apply_install, views_taken}
+use Rattle.node_state.specs.Applying.{Lacking, lacking, fill_lists, level_set, base_row, base_record, view_entered, sides_dissolved, entering_noted, taken_sent, owed_sent, wait_failed, phase_reopened, lead, lead_groups, entered, entered_if, apply_install, views_taken}
 use Rattle.run_safety.specs.Past.{History, earlier, puts_of, base_of, fold_from, state_now}
 use Rattle.node_state.proofs.NameOrder.{none_after, text_same}
 use Rattle.step_refinement.proofs.BaseOrder.{bases_ordered, row_of_base, base_noted}
-use Rattle.entry_laws.proofs.closing_rows.At.{Frame, seat, RowStarts, nothing_said, fresh_row, Fresh, Facts, StateIs, Silent, calm_fold, At, at_fold, at_calm, at_recorded, at_recorded_all, at_views}
-use Rattle.entry_laws.proofs.closing_rows.Calms.{calm_sent, calm_sessions, owed_calm}
+use Rattle.entry_laws.proofs.closing_rows.Quiet.{at_fold, at_rest_entered}
+use Rattle.entry_laws.proofs.closing_rows.At.{Frame, seat, RowStarts, nothing_said, fresh_row, Fresh, Facts, StateIs, At, at_calm, at_views, keeps_quiet}
+use Rattle.entry_laws.proofs.closing_rows.Calms.{calm_sent, calm_fold}
 use Rattle.entry_laws.proofs.closing_rows.Leading.{at_waits, at_opened_anew, at_closes}
 use Rattle.entry_laws.proofs.closing_rows.Ending.{Every, NoGroup, at_led_groups}
 use Rattle.entry_laws.proofs.closing_rows.Works.{Stays}
@@ -132,67 +121,6 @@ module _ (h : Frame) where
   abbrev Full : Core → Type 0
   Full s = At h Every NoGroup s
 
-  -- (3)
-  at_dissolved : (s : Core) (p : ProviderId) (r : ℕ) → Full s → Full (dissolved s p r)
-  unfolding dissolved
-  at_dissolved s p r a =
-      at_recorded h Every NoGroup (with_sessions s (take_telling s.sessions p r Dissolved)) (happened.Told p r Dissolved) tt (at_calm h Every NoGroup s (with_sessions s (take_telling s.sessions p r Dissolved)) (calm_sessions s (take_telling s.sessions p r Dissolved)) a)
-
-  at_dissolved_if : (s : Core) (g : List ℕ) (old : ViewId) (b : Option Base) (o : Option Provider) → Full s → Full (dissolved_if s g old b o)
-  unfolding dissolved_if
-  at_dissolved_if s g old b None a = a
-  at_dissolved_if s g old b (Some x) a = by (x.takes_part && bytes_eq x.group g && not (is_in_base old x.p b))
-    where
-      by : (c : Bool) → Full (elim c as (λ _. Core) [ true ↦ dissolved s x.p (number_of (outstanding s.sessions x.p)) | false ↦ s ])
-      by true = at_dissolved s x.p (number_of (outstanding s.sessions x.p)) a
-      by false = a
-
-  at_group_dissolved : (old : ViewId) (bs : List Base) (s : Core) (row : GroupRow) → Full s → Full (group_dissolved old bs s row)
-  unfolding group_dissolved
-  at_group_dissolved old bs s row a =
-      at_fold h Every NoGroup (λ (t : Core) p. dissolved_if t row.name old (base_named bs row.name) (provider_of t.sessions p)) (present (state_in row.list)) (λ t p i k. at_dissolved_if t row.name old (base_named bs row.name) (provider_of t.sessions p) k) s a
-
-  at_sides : (s : Core) (rows : List GroupRow) (old : ViewId) (bs : List Base) → Full s → Full (sides_dissolved s rows old bs)
-  unfolding sides_dissolved
-  at_sides s rows old bs a = at_fold h Every NoGroup (group_dissolved old bs) rows (λ t row i k. at_group_dissolved old bs t row k) s a
-
-  -- (4)
-  note_silent : (s : Core) (bs : List Base) (u : Subscription) (r : Happened) → Has r (entering_note s bs u) → Silent r
-  unfolding entering_note base_note note_of
-  note_silent s bs u r i = by (bytes_eq u.group host_membership) i
-    where
-      base : (o : Option Base) → Has r (base_note s u o) → Silent r
-      base None j = absurd j
-      base (Some b) (inl e) = subst Silent (sym e) tt
-      base (Some b) (inr z) = absurd z
-
-      by : (b : Bool) → Has r (elim b as (λ _. List Happened) [ true ↦ happened.Noted s.views.me (subscriber_name s.sessions u) s.views.view None (told.Hosts s.views.view s.views.members) ∷ [] | false ↦ base_note s u (base_named bs u.group) ]) → Silent r
-      by true (inl e) = subst Silent (sym e) tt
-      by true (inr z) = absurd z
-      by false j = base (base_named bs u.group) j
-
-  notes_silent : (s : Core) (bs : List Base) (us : List Subscription) (r : Happened) → Has r (flat_map (entering_note s bs) us) → Silent r
-  notes_silent s bs [] r i = absurd i
-  notes_silent s bs (u ∷ us) r i =
-      ⊎_elim (λ (j : Has r (entering_note s bs u)). note_silent s bs u r j) (λ (j : Has r (flat_map (entering_note s bs) us)). notes_silent s bs us r j) (has_append r (entering_note s bs u) (flat_map (entering_note s bs) us) i)
-
-  at_entering_noted : (s : Core) (bs : List Base) → Full s → Full (entering_noted s bs)
-  unfolding entering_noted
-  at_entering_noted s bs a = at_recorded_all h Every NoGroup (flat_map (entering_note s bs) s.sessions.subs.live) s (notes_silent s bs s.sessions.subs.live) a
-
-  -- (5) and (6)
-  at_taken_sent : (s : Core) → Full s → Full (taken_sent s)
-  unfolding taken_sent
-  at_taken_sent s a = by (s.views.view.coord == s.views.me)
-    where
-      by : (b : Bool) → Full (elim b as (λ _. Core) [ true ↦ s | false ↦ sent s s.views.view.coord (body.View (packet.Taken s.views.view)) ])
-      by true = a
-      by false = at_calm h Every NoGroup s _ (calm_sent s s.views.view.coord (body.View (packet.Taken s.views.view))) a
-
-  at_owed_sent : (s : Core) → Full s → Full (owed_sent s)
-  unfolding owed_sent
-  at_owed_sent s a = at_calm h Every NoGroup s (send_votes_again (send_requests s)) (owed_calm s) a
-
   -- (7)
   at_group_led : (f : Answering) (G : List ℕ → Type 0) (s : Core) (g : List ℕ) → G g → At h Every G s → At h Every G (lead f s g)
   unfolding lead wait_failed phase_reopened
@@ -203,7 +131,7 @@ module _ (h : Frame) where
 
       waits : At h Every G t
       waits =
-          at_fold h Every G (λ t p. with_waiting t g (add_failure p Died)) (filter (among (state_of s g).members) (state_of s g).failed) (λ t p i k. at_waits h Every G t g (add_failure p Died) k) s a
+          at_fold (At h Every G) (λ t p. with_waiting t g (add_failure p Died)) (filter (among (state_of s g).members) (state_of s g).failed) (λ t p i k. at_waits h Every G t g (add_failure p Died) k) s a
 
       by : (b : Bool) → At h Every G (phase_reopened f t g b)
       by false = waits
@@ -290,10 +218,8 @@ module _ (h : Frame) where
       let t : Core = fill_lists f s xs in
       let bs : List Base = bases_of i in
       let v : Core = view_entered t i bs in
-      let d : Core = sides_dissolved v (held_rows t) t.views.view bs in
-      let j : Frame = entering h in
-      let e : Entered d = at_sides j v (held_rows t) t.views.view bs (at_view_entered t i) in
-      at_groups_led j f (owed_sent (taken_sent (entering_noted d bs))) (at_owed_sent j (taken_sent (entering_noted d bs)) (at_taken_sent j (entering_noted d bs) (at_entering_noted j d bs e)))
+      let u : Core = owed_sent (taken_sent (entering_noted (sides_dissolved v (held_rows t) t.views.view bs) bs)) in
+      at_groups_led (entering h) f u (at_rest_entered (keeps_quiet (entering h) Every NoGroup) v (held_rows t) t.views.view bs (at_view_entered t i))
 
   at_applied : (f : Answering) (s : Core) (o : Option Install) → Stayed s → Entered (apply_install f s o) ⊎ Stayed (apply_install f s o)
   unfolding apply_install entered_if

@@ -4,41 +4,39 @@ use Rattle.std.specs.Prelude.{◌==◌, ◌&&◌, ◌||◌, find, fold, reverse,
 use Rattle.std.specs.Option.{unwrap_or}
 use Rattle.rsct_packet.specs.declared.ids.ProviderId.{ProviderId}
 use Rattle.rsct_packet.specs.declared.ids.ProtoId.{ProtoId}
-use Rattle.rsct_packet.specs.Providers.{among}
 use Rattle.group_attr.specs.declared.attrs.Phases.{Phases}
 use Rattle.proposal_core.specs.declared.proposal.Cause.TheVariants.{Gone}
 use Rattle.proposal_core.specs.declared.proposal.Proposal.{Proposal}
 use Rattle.proposal_core.specs.declared.entry.Entry.{Entry}
 use Rattle.proposal_core.specs.declared.entry.Vote.{Vote}
-use Rattle.proposal_core.specs.Fold.{runs, present}
+use Rattle.proposal_core.specs.Fold.{runs}
 use Rattle.proposal_core.specs.GroupView.{GroupView}
-use Rattle.proposal_core.specs.Lists.{state_in, len_in, with_entry}
+use Rattle.proposal_core.specs.Lists.{state_in, len_in, with_entry, list_or_new}
 use Rattle.batch_rules.specs.Waiting.{add_failure, drop_join}
 use Rattle.vote_phases.specs.Tally.{TallyView, tally_fail}
 use Rattle.name_server.specs.Names as names
-use Rattle.client_callbacks.specs.declared.told.Why.{Why}
 use Rattle.client_callbacks.specs.declared.told.Why.TheVariants.{GroupsFull}
 use Rattle.session_state.specs.declared.state.Request.{Request}
 use Rattle.view_state.specs.declared.views.Views.{Views}
-use Rattle.node_state.specs.declared.group.Decision.{Decision}
 use Rattle.node_state.specs.declared.group.GroupRow.{GroupRow}
 use Rattle.node_state.specs.declared.group.Led.{Led}
 use Rattle.node_state.specs.declared.packet.Body.TheVariants as body
 use Rattle.node_state.specs.declared.state.Core.{Core}
 use Rattle.node_state.specs.Settings.{is_fixed}
-use Rattle.node_state.specs.State.{acked_from, leader_by, InNameOrder, row_found, row_of, with_row, with_led, led_of, state_of, len_of, holds, fits_at_end, forget_below, coordinates, is_this, leader_in, leader_of, leads_in, leads, set_leader, acked_raised, decision_of, recorded, has_name}
+use Rattle.node_state.specs.State.{acked_from, leader_by, InNameOrder, row_found, row_of, with_row, with_led, led_of, state_of, len_of, holds, fits_at_end, forget_below, coordinates, is_this, leader_in, leader_of, leads_in, leads, set_leader, acked_raised, recorded, has_name}
 use Rattle.node_state.specs.Sending.{sent, send_on, send_request}
 use Rattle.node_state.specs.HandOn.{Answering}
-use Rattle.node_state.specs.Leading.{forget_least, put, put_and_hand, with_waiting, with_tally, closes}
+use Rattle.node_state.specs.Leading.{forget_least, put, put_and_hand, with_tally, closes}
 use Rattle.node_state.specs.Deciding.{decided}
-use Rattle.node_state.specs.Following.{take_lookup, take_tell, requests_of, named, is_name_used, take_name, tell_again, decide_new, request_after, request_at, is_group_refused, take_request, entry_next, entry_elsewhere, take_entry, acked, take_ack, vote_cast, take_vote, tally_failed, wait_gone, marked, gone_present, gone_of, take_gone}
+use Rattle.node_state.specs.Following.{take_lookup, take_tell, requests_of, named, is_name_used, take_name, decide_new, take_request, entry_next, entry_elsewhere, take_entry, acked, take_ack, vote_cast, take_vote, tally_failed, marked, take_gone}
 use Rattle.run_safety.specs.Past.{earlier}
-use Rattle.node_state.proofs.NameOrder.{cases_text, row_here, row_there, rows_ordered}
+use Rattle.node_state.proofs.NameOrder.{row_here, rows_ordered}
 use Rattle.step_refinement.proofs.Appending.{handed_rows}
+use Rattle.entry_laws.proofs.closing_rows.Quiet.{at_fold, at_tell, at_request_taken, at_gone_taken}
 use Rattle.entry_laws.specs.closing_rows.Rows.{TallyFits, start_in}
 use Rattle.row_laws.proofs.hearing.Changes.{put_handed_onward}
-use Rattle.entry_laws.proofs.closing_rows.At.{found, leads_row, leads_is, seat, leader_at, leads_by, least_at, loosened, loosen_beside, RowStarts, RowIs, Frame, PutFact, StateIs, calm_fold, At, at_for, at_fold, at_calm, at_table, at_row, at_row_for, list_with}
-use Rattle.entry_laws.proofs.closing_rows.Calms.{calm_sent, request_calm, at_tell}
+use Rattle.entry_laws.proofs.closing_rows.At.{found, leads_row, leads_is, seat, leader_at, leads_by, least_at, loosened, loosen_beside, RowStarts, RowIs, Frame, PutFact, StateIs, At, at_for, at_calm, at_table, at_row, at_row_for, row_with, keeps_quiet}
+use Rattle.entry_laws.proofs.closing_rows.Calms.{calm_sent, request_calm, calm_fold}
 use Rattle.entry_laws.proofs.closing_rows.Tallies.{failed_fits, voted_fits}
 use Rattle.entry_laws.proofs.closing_rows.Leading.{put_row, raised, acknowledged, acked_beside, row_named, row_noted, row_followed, row_away, row_known, row_acked, at_put_and_handed_for, at_led, at_waits, at_forgets_least, at_told, at_told_next, at_told_less, at_closes}
 use Rattle.entry_laws.proofs.closing_rows.Ending.{Every, NoGroup, at_decided}
@@ -79,27 +77,23 @@ told_if h g stable false = h
 
 -- a leader is known
 at_led_by : (h : Frame) (s : Core) (g : List ℕ) (n : ℕ) → RowIs (leads_row s (record (found s g) { leader = Some n })) (record (found s g) { leader = Some n }) → RowStarts h.floors (seat s) g (record (found s g) { leader = Some n }) → At h Every NoGroup s → At h Every NoGroup (set_leader s g n)
-unfolding set_leader with_row row_of
+unfolding set_leader with_row
 at_led_by h s g n own begins a =
     record {
       came = a.came;
-      rows = record { order = rows_ordered g f (λ x. refl) s a.rows.order; starts = λ k. start k (cases_text g k); tallies = λ k u. tally k (cases_text g k); led = λ k z. absurd z };
+      rows = record { order = rows_ordered g f (λ x. refl) s a.rows.order; starts = row_with (RowStarts h.floors (seat s)) s g f (λ x. refl) a.rows.order begins (λ k ne. a.rows.starts k); tallies = λ k u. row_with (λ k row. RowIs (leads_row s row) row) s g f (λ x. refl) a.rows.order own (λ k ne. a.rows.tallies k tt) k; led = λ k z. absurd z };
       facts = a.facts;
-      states = λ fresh. list_with (λ k l. StateIs s.views.me s.views.view k l (earlier (reverse s.records) h.history)) s g f (λ x. refl) a.rows.order (a.states fresh g) (λ k ne. a.states fresh k);
+      states = λ fresh. row_with (λ k row. StateIs s.views.me s.views.view k row.list (earlier (reverse s.records) h.history)) s g f (λ x. refl) a.rows.order (a.states fresh g) (λ k ne. a.states fresh k);
     }
   where
     f : GroupRow → GroupRow
     f row = record row { leader = Some n }
 
-    start : (k : List ℕ) → (g ≡ k) ⊎ (g ≡ k → ⊥) → RowStarts h.floors (seat s) k (found (with_row s g f) k)
-    start k (inl e) =
-        subst (λ z. RowStarts h.floors (seat s) z (found (with_row s g f) z)) e (subst (RowStarts h.floors (seat s) g) (sym (row_here g f (λ x. refl) s a.rows.order)) begins)
-    start k (inr ne) = subst (RowStarts h.floors (seat s) k) (sym (row_there g f (λ x. refl) s k ne)) (a.rows.starts k)
-
-    tally : (k : List ℕ) → (g ≡ k) ⊎ (g ≡ k → ⊥) → RowIs (leads_row s (found (with_row s g f) k)) (found (with_row s g f) k)
-    tally k (inl e) =
-        subst (λ z. RowIs (leads_row s (found (with_row s g f) z)) (found (with_row s g f) z)) e (subst (λ z. RowIs (leads_row s z) z) (sym (row_here g f (λ x. refl) s a.rows.order)) own)
-    tally k (inr ne) = subst (λ z. RowIs (leads_row s z) z) (sym (row_there g f (λ x. refl) s k ne)) (a.rows.tallies k tt)
+-- an entry that is put and heard leaves the tally
+pub rows_after : (f : Answering) (s : Core) (from : ℕ) (g : List ℕ) (e : Entry) → InNameOrder s.groups → (found (put_and_hand f s (Some from) g e) g).led.tally ≡ (found s g).led.tally
+unfolding put_and_hand put recorded with_row row_of
+rows_after f s from g e order =
+    ap (λ rows. (row_found g (find (has_name g) rows)).led.tally) (handed_rows f (put s g e) (Some from) g (len_of s g) (state_of s g) (state_of (put s g e) g) e).0 ∙ ap (λ (z : GroupRow). z.led.tally) (row_here g (λ row. record row { list = Some (with_entry (list_or_new row.list) s.views.view e) }) (λ x. refl) s order)
 
 module _ (h : Frame) where
   abbrev Full : Core → Type 0
@@ -148,7 +142,7 @@ module _ (h : Frame) where
           at (inr k) = absurd (unled (leader_in s (found s g)) e k.0)
 
       told : Full (fold (λ t (q : Request). take_tell t q.p q.r (GroupsFull 64)) s (requests_of s g))
-      told = at_fold h Every NoGroup (λ t (q : Request). take_tell t q.p q.r (GroupsFull 64)) (requests_of s g) (λ t q i k. at_tell h Every NoGroup t q.p q.r (GroupsFull 64) k) s a
+      told = at_fold (At h Every NoGroup) (λ t (q : Request). take_tell t q.p q.r (GroupsFull 64)) (requests_of s g) (λ t q i k. at_tell (keeps_quiet h Every NoGroup) t q.p q.r (GroupsFull 64) k) s a
 
       by : (zero none fixed : Bool) → is_none (leader_in s (found s g)) ≡ none → Full (elim (none || (fixed && zero)) as (λ _. Core) [ true ↦ named s g n zero | false ↦ s ])
       by true true fixed e = told
@@ -159,11 +153,6 @@ module _ (h : Frame) where
       by false false false e = a
 
   -- ---- REQUEST
-
-  at_told_again : (s : Core) (g : List ℕ) (p : ProviderId) (r : ℕ) (o : Option Why) → Full s → Full (tell_again s g p r o)
-  unfolding tell_again
-  at_told_again s g p r None a = a
-  at_told_again s g p r (Some y) a = at_calm h Every NoGroup s _ (calm_sent s p.node (body.Tell s.views.view g p r y)) a
 
   -- noting itself as leader, the node leads
   module _ (f : Answering) (s : Core) (g : List ℕ) (leads_it : leads (set_leader s g s.views.me) g ≡ true) (known : (m : ℕ) → leader_at (seat s) (found s g) ≡ Some m → m ≡ s.views.me) (settled : h.floors.settled g ≡ true) where
@@ -184,33 +173,12 @@ module _ (h : Frame) where
         let t : Core = set_leader s g s.views.me in
         all_again (decided f t g p r phases x) g (at_decided h Every (Only g) f t g p r phases x tt refl (only_led t g leads_it (at_noted a)))
 
-    at_request_after : (p : ProviderId) (r : ℕ) (phases : Phases) (x : Proposal) (d : Decision) (b c : Bool) → Full s → Full (request_after f s g p r phases x d b c)
-    unfolding request_after
-    at_request_after p r phases x d true c a = a
-    at_request_after p r phases x d false true a = at_told_again s g p r d.why a
-    at_request_after p r phases x d false false a = at_request_new p r phases x a
-
-    at_request_at : (p : ProviderId) (r : ℕ) (phases : Phases) (x : Proposal) (o : Option Decision) → Full s → Full (request_at f s g p r phases x o)
-    unfolding request_at
-    at_request_at p r phases x None a = at_request_new p r phases x a
-    at_request_at p r phases x (Some d) a = at_request_after p r phases x d (nat_lt r d.r) (r == d.r) a
-
     pub at_request : (from : ℕ) (p : ProviderId) (r : ℕ) (phases : Phases) (x : Proposal) → Full s → Full (take_request f s from g p r phases x)
-    unfolding take_request
-    at_request from p r phases x a = by (is_group_refused s g)
-      where
-        by : (b : Bool) → Full (elim b as (λ _. Core) [ true ↦ sent s from (body.Name s.views.view g 0) | false ↦ request_at f s g p r phases x (decision_of (led_of s g) p) ])
-        by true = at_calm h Every NoGroup s _ (calm_sent s from (body.Name s.views.view g 0)) a
-        by false = at_request_at p r phases x (decision_of (led_of s g) p) a
+    at_request from p r phases x a = at_request_taken (keeps_quiet h Every NoGroup) f s g p r phases x a (at_request_new p r phases x a) from
 
   -- ---- ENTRY and ACK
 
   -- what is counted stays where an entry is put
-  rows_after : (f : Answering) (s : Core) (from : ℕ) (g : List ℕ) (e : Entry) → InNameOrder s.groups → (found (put_and_hand f s (Some from) g e) g).led.tally ≡ (found s g).led.tally
-  unfolding put_and_hand put recorded with_row row_of
-  rows_after f s from g e order =
-      ap (λ rows. (row_found g (find (has_name g) rows)).led.tally) (handed_rows f (put s g e) (Some from) g (len_of s g) (state_of s g) (state_of (put s g e) g) e).0 ∙ ap (λ (z : GroupRow). z.led.tally) (row_here g (λ row. put_row h s row e) (λ x. refl) s order)
-
   -- who leads stays, too
   leads_after : (f : Answering) (s : Core) (from : ℕ) (g : List ℕ) (e : Entry) → InNameOrder s.groups → leads_row (put_and_hand f s (Some from) g e) (found (put_and_hand f s (Some from) g e) g) ≡ leads_row s (found s g)
   unfolding put_and_hand put recorded with_row row_of
@@ -354,31 +322,8 @@ module _ (h : Frame) where
       own (inl none) = let z : Some t ≡ None = sym e ∙ none in absurd (cc)
       own (inr k) = inr (k.0, failed_fits p t (state_in (found s g).list) (subst (λ z. TallyFits z (state_in (found s g).list)) e k.1))
 
-  at_gone_waits : (s : Core) (g : List ℕ) (p : ProviderId) → Full s → Full (wait_gone s g p)
-  unfolding wait_gone
-  at_gone_waits s g p a = by (among (state_of s g).members p)
-    where
-      by : (b : Bool) → Full (elim b as (λ _. Core) [ true ↦ with_waiting s g (add_failure p Gone) | false ↦ s ])
-      by true = at_waits h Every NoGroup s g (add_failure p Gone) a
-      by false = a
-
-  at_gone_present : (f : Answering) (s : Core) (g : List ℕ) (p : ProviderId) → leads s g ≡ true → Full s → Full (gone_present f s g p)
-  unfolding gone_present led_of row_of
-  at_gone_present f s g p led a =
-      let t : Core = with_led s g (λ l. record l { gone = marked l.gone p }) in
-      let b : At h Every (Only g) t = at_led h Every (Only g) s g (λ l. record l { gone = marked l.gone p }) (λ l. refl) (λ l. refl) (only_led s g led a) in
-      at_gone_waits (tally_failed f t g p (found t g).led.tally) g p (all_again (tally_failed f t g p (found t g).led.tally) g (at_failed f t g p (found t g).led.tally refl b))
-
-  at_gone_of : (f : Answering) (s : Core) (g : List ℕ) (p : ProviderId) (b c : Bool) → leads s g ≡ true → Full s → Full (gone_of f s g p b c)
-  unfolding gone_of
-  at_gone_of f s g p true c led a = at_gone_present f s g p led a
-  at_gone_of f s g p false true led a = at_waits h Every NoGroup s g (drop_join p) a
-  at_gone_of f s g p false false led a = a
-
   pub at_gone : (f : Answering) (s : Core) (g : List ℕ) (p : ProviderId) → Full s → Full (take_gone f s g p)
-  unfolding take_gone
-  at_gone f s g p a = by (leads s g) refl
-    where
-      by : (b : Bool) → leads s g ≡ b → Full (elim b as (λ _. Core) [ true ↦ gone_of f s g p (among (present (state_of s g)) p) (among (led_of s g).waiting.joins p) | false ↦ s ])
-      by true q = at_gone_of f s g p (among (present (state_of s g)) p) (among (led_of s g).waiting.joins p) q a
-      by false q = a
+  unfolding led_of row_of
+  at_gone f s g p a =
+      let t : Core = with_led s g (λ l. record l { gone = marked l.gone p }) in
+      at_gone_taken Full f s g p (λ led. all_again (tally_failed f t g p (found t g).led.tally) g (at_failed f t g p (found t g).led.tally refl (at_led h Every (Only g) s g (λ l. record l { gone = marked l.gone p }) (λ l. refl) (λ l. refl) (only_led s g led a)))) (λ u k. at_waits h Every NoGroup u g (add_failure p Gone) k) (at_waits h Every NoGroup s g (drop_join p) a) a

@@ -16,8 +16,7 @@ use Rattle.proposal_core.specs.declared.entry.Entry.{Entry}
 use Rattle.proposal_core.specs.declared.entry.Entry.TheVariants.{Once, Begin}
 use Rattle.proposal_core.specs.declared.group_state.GroupState.{GroupState}
 use Rattle.proposal_core.specs.declared.group_state.Running.{Running}
-use Rattle.proposal_core.specs.Fold.{max_phases, can_begin, fits, begun, approve, apply, after_if, after, voters}
-use Rattle.proposal_core.proofs.FoldLaws.{idle_approved}
+use Rattle.proposal_core.specs.Fold.{max_phases, can_begin, fits, apply, after, voters}
 use Rattle.proposal_core.specs.GroupView.{GroupView}
 use Rattle.proposal_core.specs.Lists.{list_or_new, state_in, len_in, has_room, entry_fits, with_entry, forgotten}
 use Rattle.batch_rules.specs.Waiting.{WaitingView, add_failure}
@@ -34,30 +33,15 @@ use Rattle.node_state.specs.Sending.{send_all}
 use Rattle.node_state.specs.HandOn.{Answering, hand_on}
 use Rattle.node_state.specs.Leading.{put, put_and_hand, forget_least, with_waiting, wait_if, new_members_wait, appended, append_if_fits, tally_for, tally_set, tally_opened, closing_entry, is_phase, closes_from, closes, begin_many, begins}
 use Rattle.node_state.proofs.NameOrder.{cases_text, text_self, text_other}
+use Rattle.entry_laws.proofs.closing_rows.Quiet.{at_fold, at_handed}
 use Rattle.entry_laws.specs.closing_rows.Rows.{start_in, HasRows, TallyFits}
-use Rattle.entry_laws.proofs.closing_rows.At.{found, leads_row, Seat, seat, leader_at, leads_by, holds_at, least_at, least_is, least_below, least_more, Floors, RowStarts, row_same, loosened, loose_here, loosen_here, settle_beside, RowIs, Frame, PutFact, At, at_put_for, at_fold, at_calm, at_row, at_row_for, put_fact}
-use Rattle.entry_laws.proofs.closing_rows.Calms.{calm_all, at_handed}
+use Rattle.entry_laws.proofs.closing_rows.At.{found, leads_row, Seat, seat, leader_at, leads_by, holds_at, least_at, least_is, least_below, least_more, Floors, RowStarts, row_same, loosened, loose_here, loosen_here, settle_beside, RowIs, Frame, PutFact, At, at_put_for, at_calm, at_row, at_row_for, put_fact, keeps_quiet}
+use Rattle.entry_laws.proofs.closing_rows.Calms.{calm_all}
 use Rattle.entry_laws.proofs.closing_rows.Tallies.{opened_fits, idle_voters, closing_rows}
+use Rattle.step_walk.proofs.Asides.{forgotten_len, forgotten_state}
+use Rattle.row_laws.proofs.honest_votes.Changes.{once_idle, late_same}
 
 -- ---- lists
-
-pub forgotten_state : (l : Option GroupView) (n : ℕ) → state_in (list_forgotten n l) ≡ state_in l
-unfolding forgotten
-forgotten_state None n = refl
-forgotten_state (Some l) n = by (nat_le n l.len)
-  where
-    by : (b : Bool) → (if b then record l { start = max l.start n; entries = drop (n - l.start) l.entries } else l).state ≡ l.state
-    by true = refl
-    by false = refl
-
-forgotten_len : (l : Option GroupView) (n : ℕ) → len_in (list_forgotten n l) ≡ len_in l
-unfolding forgotten
-forgotten_len None n = refl
-forgotten_len (Some l) n = by (nat_le n l.len)
-  where
-    by : (b : Bool) → (if b then record l { start = max l.start n; entries = drop (n - l.start) l.entries } else l).len ≡ l.len
-    by true = refl
-    by false = refl
 
 -- up to the length
 forgotten_start : (l : Option GroupView) (n : ℕ) → n ≤ len_in l → start_in (list_forgotten n l) ≡ max (start_in l) n
@@ -136,7 +120,7 @@ row_least x a g row led k =
     let now : GroupRow = record row { list = list_forgotten n row.list } in
     let le : n ≤ len_in row.list = least_below (λ (m : Member). holds_at a row m.node) a.members (len_in row.list) in
     let start : start_in now.list ≡ max (start_in row.list) n = forgotten_start row.list n le in
-    let len : len_in now.list ≡ len_in row.list = forgotten_len row.list n in
+    let len : len_in now.list ≡ len_in row.list = forgotten_len n row.list in
     let old : start_in row.list ≤ n = k.below led in
     let more : n ≤ least_at a now = least_more a row now (omega arith) (λ m. omega arith) in
     let less : least_at a now ≤ n = least_more a now row (omega arith) (λ m. omega arith) in
@@ -155,7 +139,7 @@ row_told : (x : Floors) (a : Seat) (g : List ℕ) (row : GroupRow) (n : ℕ) →
 row_told x a g row n le held least empty k =
     let now : GroupRow = record row { list = list_forgotten n row.list } in
     let start : start_in now.list ≡ max (start_in row.list) n = forgotten_start row.list n le in
-    let len : len_in now.list ≡ len_in row.list = forgotten_len row.list n in
+    let len : len_in now.list ≡ len_in row.list = forgotten_len n row.list in
     let more : least_at a row ≤ least_at a now = least_more a row now (omega arith) (λ m. omega arith) in
     let less : least_at a now ≤ least_at a row = least_more a now row (omega arith) (λ m. omega arith) in
     record {
@@ -261,11 +245,6 @@ abbrev forgotten_row : Core → List ℕ → ℕ → GroupRow
 forgotten_row s g n = record (found s g) { list = list_forgotten n (found s g).list }
 
 -- an entry that begins and ends at once finds and leaves nothing running, and one of who is late leaves what runs
-pub once_idle : (st : GroupState) (v : ViewId) (i : ℕ) (x : Proposal) → fits st (Once x) ≡ true → (after st v i (Once x)).running ≡ None
-unfolding after after_if apply approve
-once_idle st v i x e =
-    ap (λ b. (after_if st v i (Once x) b).running) e ∙ idle_approved (begun st v i x) v i None (begun st v i x).running refl
-
 once_finds : (st : GroupState) (x : Proposal) → fits st (Once x) ≡ true → st.running ≡ None
 unfolding fits
 once_finds st x e = by st.running e
@@ -273,14 +252,6 @@ once_finds st x e = by st.running e
     by : (o : Option Running) → (is_none o && can_begin st x) ≡ true → o ≡ None
     by None q = refl
     by (Some run) q = absurd (cc)
-
-pub late_same : (st : GroupState) (v : ViewId) (i : ℕ) (e : Entry) → apply st v i e ≡ st → after st v i e ≡ st
-unfolding after after_if
-late_same st v i e same = by (fits st e)
-  where
-    by : (b : Bool) → after_if st v i e b ≡ st
-    by true = same
-    by false = refl
 
 -- where the voters are the same, so is the tally
 row_is_same : (led : Bool) (row now : GroupRow) → now.led.tally ≡ row.led.tally → voters (state_in now.list) ≡ voters (state_in row.list) → RowIs led row → RowIs led now
@@ -294,7 +265,7 @@ row_is_same led row now t r (inr k) = inr (k.0, subst (λ o. TallyFits o (state_
 at_forgets : (h : Frame) (T G : List ℕ → Type 0) (y : Floors) (s : Core) (g : List ℕ) (n : ℕ) → RowStarts y (seat s) g (forgotten_row s g n) → ((k : List ℕ) → (g ≡ k → ⊥) → RowStarts h.floors (seat s) k (found s k) → RowStarts y (seat s) k (found s k)) → At h T G s → At (record h { floors = y }) T G (forget_below s g n)
 unfolding forget_below
 at_forgets h T G y s g n begins rest a =
-    at_row_for h T G y T s g (λ row. record row { list = list_forgotten n row.list }) (λ x. refl) (λ x. refl) (λ x. forgotten_state x.list n) (λ x. forgotten_len x.list n) (λ k t ne. t) (λ t. row_is_same (leads_row s (found s g)) (found s g) (forgotten_row s g n) refl (ap voters (forgotten_state (found s g).list n)) (a.rows.tallies g t)) begins rest a
+    at_row_for h T G y T s g (λ row. record row { list = list_forgotten n row.list }) (λ x. refl) (λ x. refl) (λ x. forgotten_state n x.list) (λ x. forgotten_len n x.list) (λ k t ne. t) (λ t. row_is_same (leads_row s (found s g)) (found s g) (forgotten_row s g n) refl (ap voters (forgotten_state n (found s g).list)) (a.rows.tallies g t)) begins rest a
 
 module _ (h : Frame) where
   -- ---- an entry is put
@@ -306,7 +277,7 @@ module _ (h : Frame) where
     pub at_put_and_handed_for : (f : Answering) (s : Core) (to : Option ℕ) (g : List ℕ) (e : Entry) → PutFact (reverse s.records) h.history s.views.me s.views.view g (len_in (found s g).list) e → ((k : List ℕ) → U k → (g ≡ k → ⊥) → T k) → (U g → RowIs (leads_row s (found s g)) (put_row s (found s g) e)) → At h T G s → At (record h { floors = loosened h.floors g }) U G (put_and_hand f s to g e)
     unfolding put_and_hand
     at_put_and_handed_for f s to g e fact rest own a =
-        at_handed (record h { floors = loosened h.floors g }) U G f (put s g e) to g (len_of s g) (state_of s g) (state_of (put s g e) g) e (at_put_for h T G U s g e fact rest own a)
+        at_handed (keeps_quiet (record h { floors = loosened h.floors g }) U G) f (put s g e) to g (len_of s g) (state_of s g) (state_of (put s g e) g) e (at_put_for h T G U s g e fact rest own a)
 
   module _ (T G : List ℕ → Type 0) where
     -- what a leader keeps changes, and the tally does not
@@ -364,7 +335,7 @@ module _ (h : Frame) where
     at_new_members : (s : Core) (g : List ℕ) (before after : GroupState) → At h T G s → At h T G (new_members_wait s g before after)
     unfolding new_members_wait
     at_new_members s g before after a =
-        at_fold h T G (λ t p. wait_if t g p (among after.failed p) (among (led_of s g).gone p)) (filter (λ p. not (among before.members p)) after.members) (λ t p i k. at_waits_if t g p (among after.failed p) (among (led_of s g).gone p) k) s a
+        at_fold (At h T G) (λ t p. wait_if t g p (among after.failed p) (among (led_of s g).gone p)) (filter (λ p. not (among before.members p)) after.members) (λ t p i k. at_waits_if t g p (among after.failed p) (among (led_of s g).gone p) k) s a
 
   module _ (T G U : List ℕ → Type 0) where
     pub at_appended_for : (f : Answering) (s : Core) (g : List ℕ) (e : Entry) → HasRows (state_in (found s g).list) e → ((k : List ℕ) → U k → (g ≡ k → ⊥) → T k) → (U g → RowIs (leads_row s (found s g)) (put_row s (found s g) e)) → G g → At h T G s → At h U G (appended f s g e)
@@ -376,7 +347,7 @@ module _ (h : Frame) where
         let j : Frame = record h { floors = loosened h.floors g } in
         let put_at : At j U G t = at_put_for h T G U s g e (put_fact h T G s g e ok a) rest own a in
         let sent_at : At j U G u = at_calm j U G t u (calm_all t (others t) (body.Entry t.views.view g (len_of s g) (least_acked t g) e)) put_at in
-        let handed_at : At j U G w = at_handed j U G f u (leader_of u g) g (len_of s g) (state_of s g) (state_of t g) e sent_at in
+        let handed_at : At j U G w = at_handed (keeps_quiet j U G) f u (leader_of u g) g (len_of s g) (state_of s g) (state_of t g) e sent_at in
         at_new_members U G (forget_least w g) g (state_of s g) (state_of t g) (at_forgets_least U G w g (handed_at.rows.led g led) handed_at)
 
   -- ---- the tally of a phase

@@ -16,7 +16,7 @@ use Rattle.node_state.specs.declared.happened.Happened.TheVariants as happened
 use Rattle.run_safety.specs.Past.{History, records_of, earlier, view_now, puts_of, base_of, fold_from, state_at, state_now}
 use Rattle.run_safety.specs.ViewOrder.{is_same, Lt}
 use Rattle.run_safety.specs.Sight.{view_or_none, told_in, lines_at, lines_with, lines_of}
-use Rattle.run_safety.specs.Group.{Origin, Record, In, Put, Begins, Note, Based, Line, Kept, Noted, kept}
+use Rattle.run_safety.specs.Group.{Origin, In, Put, Begins, Note, Based, Line, Kept, Noted, kept}
 use Rattle.run_safety.specs.Group as group
 use Rattle.run_safety.specs.GroupLists.{WasIn}
 use Rattle.run_safety.specs.GroupLists as lists
@@ -89,7 +89,7 @@ module _ (n : ℕ) (v : ViewId) (g : List ℕ) where
   -- ---- the base
 
   -- one that was noted, or none
-  abbrev BaseKnown : GroupState → List Line → Type 0
+  abbrev pub BaseKnown : GroupState → List Line → Type 0
   BaseKnown s all = ((b : Origin) × Has (Noted (Based n v b)) all × (s ≡ b.state)) ⊎ ((s ≡ empty_state) × ((b : Origin) → Has (Noted (Based n v b)) all → ⊥))
 
   -- a line that is no base of it
@@ -152,11 +152,11 @@ module _ (n : ℕ) (v : ViewId) (g : List ℕ) where
   base_now [] before k = other_base (base_of n v g (records_of before)) (Kept Begins) (lines_of g before) (λ b q. cc) k
   base_now (r ∷ now) before k = base_step r (earlier now before) (lines_with g now before (lines_of g before)) (base_now now before k)
 
-  base_all : (h : History) → BaseKnown (base_of n v g (records_of h)) (lines_of g h)
+  pub base_all : (h : History) → BaseKnown (base_of n v g (records_of h)) (lines_of g h)
   base_all [] = inr (refl, λ b h. absurd h)
   base_all (e ∷ before) = base_now e.records before (base_all before)
 
-  base_here : (now : List Happened) (before : History) → BaseKnown (base_of n v g (earlier now before)) (lines_with g now before (lines_of g before))
+  pub base_here : (now : List Happened) (before : History) → BaseKnown (base_of n v g (earlier now before)) (lines_with g now before (lines_of g before))
   base_here now before = base_now now before (base_all before)
 
   -- where the node has noted the base of the view, if it has one

@@ -19,37 +19,36 @@ use Rattle.view_state.specs.declared.packet.ViewPacket.{ViewPacket}
 use Rattle.view_state.specs.declared.packet.ViewPacket.TheVariants as view
 use Rattle.view_state.specs.declared.views.ViewWork.{ViewWork}
 use Rattle.view_state.specs.Views.{views_at_work, ask_rule, prepare_rule, answer_rule, refuse_rule, install_rule, taken_rule}
-use Rattle.node_state.specs.declared.config.Mode.{Mode}
-use Rattle.node_state.specs.declared.config.Mode.TheVariants.{Fixed, Asked, Rings}
-use Rattle.node_state.specs.declared.group.GroupRow.{GroupRow}
 use Rattle.node_state.specs.declared.happened.Happened.TheVariants as happened
 use Rattle.node_state.specs.declared.packet.Body.{Body}
 use Rattle.node_state.specs.declared.packet.Body.TheVariants as body
 use Rattle.node_state.specs.declared.packet.Packet.{Packet}
 use Rattle.node_state.specs.declared.state.Core.{Core}
 use Rattle.node_state.specs.Settings.{is_fixed}
-use Rattle.node_state.specs.State.{acked_from, row_of, with_row, list_of, len_of, fits_at_end, is_this, leader_by, leader_in, leader_of, leads_in, leads, set_leader}
+use Rattle.node_state.specs.State.{acked_from, row_of, list_of, len_of, fits_at_end, leader_in, leader_of, leads}
 use Rattle.node_state.specs.HandOn.{Answering}
 use Rattle.node_state.specs.Following.{take_lookup, take_name, take_request, take_tell, take_entry, take_ack, take_vote, take_gone}
 use Rattle.node_state.specs.Applying.{own_parts, views_taken}
 use Rattle.node_state.specs.Status.{status_text}
-use Rattle.node_state.specs.Ticks.{tick_rings, tick_views, tick_owed, tick_led, tick_rule}
+use Rattle.node_state.specs.Ticks.{tick_rings, tick_views, tick_owed, tick_led}
 use Rattle.node_state.specs.Ending.{end_step}
 use Rattle.node_state.specs.Calls.{take_call}
-use Rattle.node_state.specs.Step.{NodeEvent, Ticks, Asks, Given, Calls, Garbage, is_used, used_if, take_order, view_rule, take_body, packet_rule, event_rule, stepped, at_work}
+use Rattle.node_state.specs.Step.{NodeEvent, Ticks, Asks, Given, Calls, Garbage, is_used, used_if, take_order, view_rule, take_body, packet_rule, stepped, at_work}
 use Rattle.run_safety.specs.Past.{earlier}
 use Rattle.run_safety.specs.Group.{member, In, Put, kept}
 use Rattle.run_safety.specs.GroupLists as lists
 use Rattle.run_safety.specs.Bases.{state_of_list}
 use Rattle.run_safety.proofs.HeardLaw.{take_front}
 use Rattle.run_safety.proofs.Prefix.{IsPrefix}
+use Rattle.entry_laws.proofs.closing_rows.Quiet.{at_tell, at_ring, at_report, at_rings_part, at_call}
 use Rattle.entry_laws.proofs.closing_rows.Told.{told_of}
 use Rattle.entry_laws.proofs.closing_rows.Lists.{front_of}
 use Rattle.run_safety.specs.Group as group
 use Rattle.run_safety.proofs.Whole.{Whole}
 use Rattle.run_safety.proofs.Lives.{whole, always_stable}
 use Rattle.run_safety.proofs.Parts.{member_parts}
-use Rattle.node_state.proofs.NameOrder.{cases_text, row_here}
+use Rattle.node_state.proofs.NameOrder.{cases_text}
+use Rattle.step_refinement.proofs.Steps.{stepped_is}
 use Rattle.step_refinement.specs.Tied.{ShowsBody, ShowsEntry, ShowsLeader, ShowsRequest, Scene, opening_of, Tied}
 use Rattle.step_refinement.specs.Rules.{acted, Arises}
 use Rattle.step_refinement.specs.Ghost.{Ghost, IsStable}
@@ -58,18 +57,15 @@ use Rattle.step_refinement.proofs.Leads.{known_leads, leader_inc, leads_known}
 use Rattle.step_refinement.proofs.RowWorks.{keeps_of, len_is, max_one}
 use Rattle.entry_laws.specs.closing_rows.Rows.{start_in, Tells, Acknowledges}
 use Rattle.entry_laws.proofs.closing_rows.Leading.{raised, raised_here, raised_there, acknowledged, acked_here, acked_there}
-use Rattle.entry_laws.proofs.closing_rows.At.{found, leads_row, leads_is, seat, leader_at, holds_at, least_at, take_all, PutFact, Floors, Frame, At, at_calm}
-use Rattle.entry_laws.proofs.closing_rows.Calms.{calm_on, owed_part_calm, at_tell, at_ring, at_report, at_rings_part, at_call}
+use Rattle.entry_laws.proofs.closing_rows.At.{found, leads_row, leads_is, seat, leader_at, holds_at, least_at, take_all, PutFact, Floors, Frame, At, at_calm, keeps_quiet}
+use Rattle.entry_laws.proofs.closing_rows.Calms.{calm_on, owed_part_calm}
 use Rattle.entry_laws.proofs.closing_rows.Ending.{Every, NoGroup, at_step_ended}
 use Rattle.entry_laws.proofs.closing_rows.Works.{Stays, begun_stays, ask_stays, prepare_stays, answer_stays, refuse_stays, install_stays, taken_stays}
 use Rattle.entry_laws.proofs.closing_rows.Entering.{entering, at_views_taken}
 use Rattle.entry_laws.proofs.closing_rows.Ticking.{at_views_part, at_led_part}
 use Rattle.entry_laws.proofs.closing_rows.Following.{is_taken, told_if, acked_if, at_lookup, at_name, at_request, at_entry, at_ack, at_vote, at_gone}
 use Rattle.entry_laws.proofs.closing_rows.Evident.{put_back}
-
-past_end : (xs : List Entry) (e : Entry) → slice_get xs (length xs) ≡ Some e → ⊥
-past_end [] e q = absurd (cc)
-past_end (x ∷ xs) e q = past_end xs e q
+use Rattle.row_laws.proofs.honest_votes.Steps.{past_end, entry_follows, request_leads}
 
 -- ENTRY
 module _ (v : ViewId) (g : List ℕ) (place stable : ℕ) (e : Entry) (w : Scene) (n : ℕ) (s : Core) (p : Packet) (is : p.body ≡ body.Entry v g place stable e) (delivered : Has p w.sent) (t : Tied g w n s) (used : is_used s p v ≡ true) (at : (place == len_of s g) ≡ true) where
@@ -93,9 +89,6 @@ module _ (v : ViewId) (g : List ℕ) (place stable : ℕ) (e : Entry) (w : Scene
       let end : place ≡ length (t.ghost.nodes n).list = eqb-true place (len_of s g) at ∙ len_is g w n s t in
       let past : slice_get (t.ghost.nodes n).list (length (t.ghost.nodes n).list) ≡ slice_get (o.log v) place = λ i. slice_get (all i) (sym end i) in
       past_end (t.ghost.nodes n).list e (past ∙ get)
-
-  pub entry_follows : leads s g ≡ true → ⊥
-  entry_follows led = all_is_there (leads_known g w n s t led)
 
   -- so its sender is another node
   entry_foreign : p.from ≡ s.views.me → ⊥
@@ -135,30 +128,6 @@ module _ (v : ViewId) (g : List ℕ) (place stable : ℕ) (e : Entry) (w : Scene
 
   entry_was_put : PutFact (reverse s.records) w.before s.views.me s.views.view g (len_in (found s g).list) e
   entry_was_put = inr entry_had_put
-
--- a node that is sent a request leads the group, once it has noted that
-pub request_leads : (v : ViewId) (g : List ℕ) (q : ProviderId) (r : ℕ) (phases : Phases) (x : Proposal) (w : Scene) (n : ℕ) (s : Core) (p : Packet) → p.body ≡ body.Request v g q r phases x → p.to ≡ n → Has p w.sent → Tied g w n s → is_used s p v ≡ true → leads (set_leader s g s.views.me) g ≡ true
-unfolding leads leads_in leader_in set_leader with_row
-request_leads v g q r phases x w n s p is to delivered t used = by s.config.mode t.own.0.led
-  where
-    shown : ShowsRequest t.ghost p.to v q r x
-    shown = (subst (ShowsBody t.ghost g p.from p.inc p.to) is (t.packets p (append_has_right p s.sends w.sent delivered))).2 refl
-
-    here : t.ghost.leads s.views.view ≡ Some (member n s.views.inc)
-    here =
-        let k = shown.leader in
-        leader_inc g w n s t (record { inc = k.inc; leads = ap t.ghost.leads (sym (used_is s p v used).0) ∙ k.leads ∙ ap (λ m. Some (member m k.inc)) to })
-
-    coordinates : ShowsLeader t.ghost s.views.view s.views.view.coord → s.views.view.coord ≡ n
-    coordinates k = (member_parts s.views.view.coord n k.inc s.views.inc (sym k.leads ∙ here)).0
-
-    row : (row_of (with_row s g (λ row. record row { leader = Some s.views.me })) g).leader ≡ Some s.views.me
-    row = ap (λ (z : GroupRow). z.leader) (row_here g (λ row. record row { leader = Some s.views.me }) (λ z. refl) s t.own.0.order)
-
-    by : (mode : Mode) → (is_fixed mode ≡ true → ShowsLeader t.ghost s.views.view s.views.view.coord) → is_this s.views.me (leader_by mode s.views.view.coord (row_of (with_row s g (λ row. record row { leader = Some s.views.me })) g).leader) ≡ true
-    by Fixed led = eq-eqb s.views.view.coord s.views.me (coordinates (led refl) ∙ sym t.own.0.stands.me)
-    by Asked led = ap (is_this s.views.me) row ∙ eq-eqb s.views.me s.views.me refl
-    by Rings led = ap (is_this s.views.me) row ∙ eq-eqb s.views.me s.views.me refl
 
 -- and nobody else is known to lead
 request_known : (v : ViewId) (g : List ℕ) (q : ProviderId) (r : ℕ) (phases : Phases) (x : Proposal) (w : Scene) (n : ℕ) (s : Core) (p : Packet) → p.body ≡ body.Request v g q r phases x → p.to ≡ n → Has p w.sent → (t : Tied g w n s) → is_used s p v ≡ true → (m : ℕ) → leader_at (seat s) (found s g) ≡ Some m → m ≡ s.views.me
@@ -559,14 +528,14 @@ module _ (w : Scene) (n : ℕ) (f : Answering) (s : Core) (all : (h : List ℕ) 
 
   body_at : (p : Packet) (b : Body) → p.body ≡ b → p.to ≡ n → Has p w.sent → Out (Given p) (take_body f s p b)
   unfolding take_body
-  body_at p (body.Ring x) is to sent = still (Given p) _ (other_untold s p (body.Ring x) is tt tt) (at_ring (frame_of w s) Every NoGroup s p.network p.from p.inc x a)
-  body_at p (body.Report rows) is to sent = still (Given p) _ (other_untold s p (body.Report rows) is tt tt) (at_report (frame_of w s) Every NoGroup s rows a)
+  body_at p (body.Ring x) is to sent = still (Given p) _ (other_untold s p (body.Ring x) is tt tt) (at_ring (keeps_quiet (frame_of w s) Every NoGroup) s p.network p.from p.inc x a)
+  body_at p (body.Report rows) is to sent = still (Given p) _ (other_untold s p (body.Report rows) is tt tt) (at_report (keeps_quiet (frame_of w s) Every NoGroup) s rows a)
   body_at p (body.View y) is to sent = view_at p (other_untold s p (body.View y) is tt tt) p.from p.inc y
   body_at p (body.Lookup v g) is to sent = used p (body.Lookup v g) is tt tt (take_lookup s p.from g) (is_used s p v) (λ u. at_lookup (frame_of w s) s p.from g a)
   body_at p (body.Name v g k) is to sent = used p (body.Name v g k) is tt tt (take_name s g k) (is_used s p v) (λ u. at_name (frame_of w s) s g k refl a)
   body_at p (body.Request v g q r phases x) is to sent =
       used p (body.Request v g q r phases x) is tt tt (take_request f s p.from g q r phases x) (is_used s p v) (λ u. at_request (frame_of w s) f s g (request_leads v g q r phases x w n s p is to sent (all g) u) (request_known v g q r phases x w n s p is to sent (all g) u) refl p.from q r phases x a)
-  body_at p (body.Tell v g q r y) is to sent = used p (body.Tell v g q r y) is tt tt (take_tell s q r y) (is_used s p v) (λ u. at_tell (frame_of w s) Every NoGroup s q r y a)
+  body_at p (body.Tell v g q r y) is to sent = used p (body.Tell v g q r y) is tt tt (take_tell s q r y) (is_used s p v) (λ u. at_tell (keeps_quiet (frame_of w s) Every NoGroup) s q r y a)
   body_at p (body.Entry v g i k e) is to sent = at_entry_body v g i k e p is to sent
   body_at p (body.Ack v g k) is to sent = at_ack_body v g k p is to sent
   body_at p (body.Vote v g proto phase q ballot value message) is to sent =
@@ -588,7 +557,7 @@ module _ (w : Scene) (n : ℕ) (f : Answering) (s : Core) (all : (h : List ℕ) 
 
   acted_at : (e : NodeEvent) → Arises w e → Out e (acted f s e)
   unfolding packet_rule
-  acted_at Ticks arises = by (at_views_part (frame_of w s) f (tick_rings s) (at_rings_part (frame_of w s) Every NoGroup s a))
+  acted_at Ticks arises = by (at_views_part (frame_of w s) f (tick_rings s) (at_rings_part (keeps_quiet (frame_of w s) Every NoGroup) s a))
     where
       t : Core
       t = tick_views f (tick_rings s)
@@ -603,7 +572,7 @@ module _ (w : Scene) (n : ℕ) (f : Answering) (s : Core) (all : (h : List ℕ) 
       by (inl k) = inl (rest (entering (frame_of w s)) k)
       by (inr k) = still Ticks (tick_led f (tick_owed t)) none (rest (frame_of w s) k)
   acted_at (Asks mask) arises = order_at mask
-  acted_at (Calls c) arises = still (Calls c) (take_call s c) (record { tells = λ g k t. let e : Calls c ≡ Given t.packet = t.given in cc; acks = λ g m k t. let e : Calls c ≡ Given t.packet = t.given in cc }) (at_call (frame_of w s) Every NoGroup s c a)
+  acted_at (Calls c) arises = still (Calls c) (take_call s c) (record { tells = λ g k t. let e : Calls c ≡ Given t.packet = t.given in cc; acks = λ g m k t. let e : Calls c ≡ Given t.packet = t.given in cc }) (at_call (keeps_quiet (frame_of w s) Every NoGroup) s c a)
   acted_at Garbage arises = still Garbage s (record { tells = λ g k t. let e : Garbage ≡ Given t.packet = t.given in cc; acks = λ g m k t. let e : Garbage ≡ Given t.packet = t.given in cc }) a
   acted_at (Given p) arises = by (p.to == s.views.me) refl
     where
@@ -619,14 +588,6 @@ module _ (w : Scene) (n : ℕ) (f : Answering) (s : Core) (all : (h : List ℕ) 
       by : (b : Bool) → (p.to == s.views.me) ≡ b → Out (Given p) (elim b as (λ _. Core) [ true ↦ take_body f s p p.body | false ↦ s ])
       by false e = still (Given p) s (astray e) a
       by true e = body_at p p.body refl (eqb-true p.to s.views.me e ∙ (all []).own.0.stands.me) arises
-
-pub stepped_is : (f : Answering) (s : Core) (e : NodeEvent) → stepped f s e ≡ end_step f (acted f (at_work s) e)
-unfolding stepped event_rule tick_rule
-stepped_is f s Ticks = refl
-stepped_is f s (Asks mask) = refl
-stepped_is f s (Given p) = refl
-stepped_is f s (Calls c) = refl
-stepped_is f s Garbage = refl
 
 pub at_stepped : (w : Scene) (n : ℕ) (f : Answering) (s : Core) (e : NodeEvent) → ((h : List ℕ) → Tied h w n (at_work s)) → Arises w e → At (frame_of w (at_work s)) Every NoGroup (at_work s) → Reaches (frame_of w (at_work s)) (at_work s) e (stepped f s e)
 at_stepped w n f s e all arises a = subst (Reaches (frame_of w (at_work s)) (at_work s) e) (sym (stepped_is f s e)) (ends (acted_at w n f (at_work s) all a e arises))

@@ -16,8 +16,8 @@ use Rattle.node_state.specs.Leading.{append_if_fits, with_tally}
 use Rattle.node_state.specs.Applying.{own_parts, views_taken}
 use Rattle.node_state.specs.Ticks.{ring_ask, tick_views, late_appended, announced, ticked_in, tally_ticks, sent_again, tick_group, tick_led}
 use Rattle.entry_laws.specs.closing_rows.Rows.{TallyFits}
-use Rattle.entry_laws.proofs.closing_rows.At.{Frame, found, leads_row, RowIs, calm_fold, At, at_calm, at_row}
-use Rattle.entry_laws.proofs.closing_rows.Calms.{again_calm}
+use Rattle.entry_laws.proofs.closing_rows.At.{Frame, found, leads_row, RowIs, At, at_calm, at_row}
+use Rattle.entry_laws.proofs.closing_rows.Calms.{again_calm, calm_fold}
 use Rattle.entry_laws.proofs.closing_rows.Tallies.{ticked_fits}
 use Rattle.entry_laws.proofs.closing_rows.Leading.{at_closes, at_announces}
 use Rattle.entry_laws.proofs.closing_rows.Ending.{Every, NoGroup, at_led_groups}

@@ -1,6 +1,6 @@
 -- In the middle of a step: what a node records of who is late is honest, and what it counts.
-use Rattle.std.proofs.Common.{◌≡◌, ◌≤◌, ◌<◌, ◌⊎◌, ℕ, ◌+◌, List, [], ◌∷◌, ◌++◌, length, Option, Some, None, Bool, true, false, refl, sym, ap, ◌∙◌, subst, inl, inr, append_assoc, append-nil}
-use Rattle.std.specs.Prelude.{◌&&◌, ◌||◌, fold, find, reverse, nat_le, nat_lt, if◌then◌else◌}
+use Rattle.std.proofs.Common.{◌≡◌, ◌≤◌, ◌<◌, ◌⊎◌, ℕ, ◌+◌, List, [], ◌∷◌, ◌++◌, length, Option, Some, None, Bool, true, false, refl, sym, ap, ◌∙◌, subst, inl, inr}
+use Rattle.std.specs.Prelude.{◌&&◌, ◌||◌, find, reverse, nat_le, nat_lt, if◌then◌else◌}
 use Rattle.std.specs.List.{list_any}
 use Rattle.std.proofs.lemmas.List.{reverse-append}
 use Rattle.rsct_packet.specs.declared.ids.ViewId.{ViewId}
@@ -29,16 +29,20 @@ use Rattle.node_state.specs.declared.group.GroupRow.{GroupRow}
 use Rattle.node_state.specs.declared.happened.Happened.{Happened}
 use Rattle.node_state.specs.declared.happened.Happened.TheVariants as happened
 use Rattle.node_state.specs.declared.state.Core.{Core}
-use Rattle.node_state.specs.State.{InNameOrder, row_found, row_of, with_row, is_this, leader_by, leader_in, leads_in, leads, recorded, recorded_all, has_name}
+use Rattle.node_state.specs.State.{InNameOrder, row_found, row_of, with_row, is_this, leader_by, leader_in, leads_in, leads, recorded, has_name}
 use Rattle.node_state.specs.Settings.{view_level}
 use Rattle.node_state.specs.Leading.{limit_of, first_carried, value_of, closed_by, closing, closing_of, closing_entry}
 use Rattle.world_model.specs.declared.event.Event.{Event}
 use Rattle.run_safety.specs.Past.{History, records_of, fold_from, Within}
 use Rattle.run_safety.specs.Stays.{Stay, stays_after, stays}
 use Rattle.run_safety.specs.SafeHeard.{enters}
-use Rattle.node_state.proofs.NameOrder.{KeepsName, cases_text, row_here, row_there, rows_ordered}
+use Rattle.node_state.proofs.NameOrder.{KeepsName, rows_ordered}
+use Rattle.entry_laws.proofs.closing_rows.At.{row_with}
 use Rattle.entry_laws.specs.late_rows.Announced.{members_after, members_now, late_first, RecordTold}
 use Rattle.entry_laws.specs.late_rows.Late.{tick_of, opens, ticks_with, ticks_of, RecordLate}
+use Rattle.view_state.specs.declared.views.Views.{Views}
+use Rattle.entry_laws.proofs.closing_rows.Calms.{Silent}
+use Rattle.entry_laws.proofs.closing_rows.Quiet.{KeepsQuiet}
 
 -- the event in which a node takes its step, and the history before it
 pub record Turn : Type 0 where
@@ -114,18 +118,6 @@ Mine n (happened.Base m v g u len s) = m ≡ n
 Mine n (happened.Put m v g i e) = m ≡ n
 Mine n _ = Unit {0}
 
--- one that moves nothing
-abbrev pub Plain : Happened → Type 0
-Plain (happened.Up m j) = ⊥
-Plain (happened.Down m) = ⊥
-Plain (happened.In m v ms) = ⊥
-Plain (happened.Base m v g u len s) = ⊥
-Plain (happened.Put m v g i e) = ⊥
-Plain _ = Unit {0}
-
-abbrev pub AllPlain : List Happened → Type 0
-AllPlain rs = (r : Happened) → Has r rs → Plain r
-
 abbrev pub found_in : List GroupRow → List ℕ → GroupRow
 found_in rows g = row_found g (find (has_name g) rows)
 
@@ -194,86 +186,83 @@ settled_same led now l m t u g v a (inr k) =
 
 -- ---- records that move nothing
 
-pub plain_stays : (n : ℕ) (g : List ℕ) (r : Happened) (old : List Stay) → Plain r → stays_after n g r old ≡ old
-plain_stays n g (happened.Up m j) old p = absurd p
-plain_stays n g (happened.Down m) old p = absurd p
-plain_stays n g (happened.In m v ms) old p = absurd p
-plain_stays n g (happened.Base m v h u len s) old p = absurd p
-plain_stays n g (happened.Put m v h i e) old p = absurd p
-plain_stays n g _ old p = refl
+pub silent_stays : (n : ℕ) (g : List ℕ) (r : Happened) (old : List Stay) → Silent r → stays_after n g r old ≡ old
+silent_stays n g (happened.Up m j) old p = absurd p
+silent_stays n g (happened.Down m) old p = absurd p
+silent_stays n g (happened.In m v ms) old p = absurd p
+silent_stays n g (happened.Base m v h u len s) old p = absurd p
+silent_stays n g (happened.Put m v h i e) old p = absurd p
+silent_stays n g _ old p = refl
 
-plain_enters : (n : ℕ) (r : Happened) → Plain r → enters n r ≡ false
-plain_enters n (happened.In m v ms) p = absurd p
-plain_enters n _ p = refl
+silent_enters : (n : ℕ) (r : Happened) → Silent r → enters n r ≡ false
+silent_enters n (happened.In m v ms) p = absurd p
+silent_enters n _ p = refl
 
-plain_opens : (n : ℕ) (g : List ℕ) (r : Happened) → Plain r → opens n g r ≡ false
-plain_opens n g (happened.Put m v h i e) p = absurd p
-plain_opens n g _ p = refl
+silent_opens : (n : ℕ) (g : List ℕ) (r : Happened) → Silent r → opens n g r ≡ false
+silent_opens n g (happened.Put m v h i e) p = absurd p
+silent_opens n g _ p = refl
 
-plain_late : (event : Option Event) (now : List Happened) (before : History) (r : Happened) → Plain r → RecordLate event now before r
-plain_late event now before (happened.Put m v h i e) p = absurd p
-plain_late event now before _ p = tt
+silent_late : (event : Option Event) (now : List Happened) (before : History) (r : Happened) → Silent r → RecordLate event now before r
+silent_late event now before (happened.Put m v h i e) p = absurd p
+silent_late event now before _ p = tt
 
-plain_told : (c : Config) (now : List Happened) (before : History) (r : Happened) → Plain r → RecordTold c now before r
-plain_told c now before (happened.Put m v h i e) p = absurd p
-plain_told c now before _ p = tt
+silent_told : (c : Config) (now : List Happened) (before : History) (r : Happened) → Silent r → RecordTold c now before r
+silent_told c now before (happened.Put m v h i e) p = absurd p
+silent_told c now before _ p = tt
 
-plain_members : (n : ℕ) (r : Happened) (old : List Member) → Plain r → members_after n r old ≡ old
-plain_members n (happened.In m v ms) old p = absurd p
-plain_members n _ old p = refl
+silent_members : (n : ℕ) (r : Happened) (old : List Member) → Silent r → members_after n r old ≡ old
+silent_members n (happened.In m v ms) old p = absurd p
+silent_members n _ old p = refl
 
-plain_mine : (n : ℕ) (r : Happened) → Plain r → Mine n r
-plain_mine n (happened.Up m j) p = absurd p
-plain_mine n (happened.Down m) p = absurd p
-plain_mine n (happened.In m v ms) p = absurd p
-plain_mine n (happened.Base m v h u len s) p = absurd p
-plain_mine n (happened.Put m v h i e) p = absurd p
-plain_mine n _ p = tt
+silent_mine : (n : ℕ) (r : Happened) → Silent r → Mine n r
+silent_mine n (happened.Up m j) p = absurd p
+silent_mine n (happened.Down m) p = absurd p
+silent_mine n (happened.In m v ms) p = absurd p
+silent_mine n (happened.Base m v h u len s) p = absurd p
+silent_mine n (happened.Put m v h i e) p = absurd p
+silent_mine n _ p = tt
 
-pub ticks_plain : (x : Turn) (g : List ℕ) (r : Happened) (now : List Happened) → enters x.node r ≡ false → opens x.node g r ≡ false → ticks_now x g (r ∷ now) ≡ ticks_now x g now
-ticks_plain x g r now a b =
+pub ticks_silent : (x : Turn) (g : List ℕ) (r : Happened) (now : List Happened) → enters x.node r ≡ false → opens x.node g r ≡ false → ticks_now x g (r ∷ now) ≡ ticks_now x g now
+ticks_silent x g r now a b =
     λ i. (if (a i || list_any (enters x.node) now) then tick_here x else if (b i || list_any (opens x.node g) now) then 0 else tick_here x + ticks_of x.node g x.before)
 
-pub folds_plain : (x : Turn) (g : List ℕ) (view : ViewId) (r : Happened) (now : List Happened) (l : Option GroupView) → Plain r → Folds x g view now l → Folds x g view (r ∷ now) l
-folds_plain x g view r now l p f =
-    record { stay = f.stay; older = f.older; is = plain_stays x.node g r (stays x.node g (now ++ records_of x.before)) p ∙ f.is; at_view = f.at_view; state = f.state; len = f.len }
+pub folds_silent : (x : Turn) (g : List ℕ) (view : ViewId) (r : Happened) (now : List Happened) (l : Option GroupView) → Silent r → Folds x g view now l → Folds x g view (r ∷ now) l
+folds_silent x g view r now l p f =
+    record { stay = f.stay; older = f.older; is = silent_stays x.node g r (stays x.node g (now ++ records_of x.before)) p ∙ f.is; at_view = f.at_view; state = f.state; len = f.len }
 
 module _ (x : Turn) where
   module _ (T : List ℕ → ℕ → Type 0) (G : List ℕ → Type 0) (E : Type 0) where
-    pub at_fold : {A : Type 0} (f : Core → A → Core) (xs : List A) → ((s : Core) (y : A) → Has y xs → At x T G E s → At x T G E (f s y)) → (s : Core) → At x T G E s → At x T G E (fold f s xs)
-    at_fold f [] step s a = a
-    at_fold f (y ∷ ys) step s a = at_fold f ys (λ t z i k. step t z (inr i) k) (f s y) (step s y (inl refl) a)
-
-    of_plain : (c : Config) (level me : ℕ) (view : ViewId) (groups : List GroupRow) (r : Happened) (now : List Happened) → Plain r → AtOf x T G E c level me view groups now → AtOf x T G E c level me view groups (r ∷ now)
-    of_plain c level me view groups r now p a =
+    of_silent : (c : Config) (level me : ℕ) (view : ViewId) (groups : List GroupRow) (r : Happened) (now : List Happened) → Silent r → AtOf x T G E c level me view groups now → AtOf x T G E c level me view groups (r ∷ now)
+    of_silent c level me view groups r now p a =
         record {
           me_is = a.me_is;
           config_is = a.config_is;
-          level_is = a.level_is ∙ ap (view_level x.config) (sym (plain_members x.node r (members_now x.node (now ++ records_of x.before)) p));
-          puts = (plain_late x.event now x.before r p, a.puts);
-          told = (plain_told x.config now x.before r p, a.told);
+          level_is = a.level_is ∙ ap (view_level x.config) (sym (silent_members x.node r (members_now x.node (now ++ records_of x.before)) p));
+          puts = (silent_late x.event now x.before r p, a.puts);
+          told = (silent_told x.config now x.before r p, a.told);
           mine = λ y i. by y i;
           order = a.order;
-          folds = λ g. folds_plain x g view r now (found_in groups g).list p (a.folds g);
-          tallies = λ g less t. subst (λ k. RowIs k less (leads_at c.mode me view (found_in groups g)) (found_in groups g)) (sym (ticks_plain x g r now (plain_enters x.node r p) (plain_opens x.node g r p))) (a.tallies g less t);
+          folds = λ g. folds_silent x g view r now (found_in groups g).list p (a.folds g);
+          tallies = λ g less t. subst (λ k. RowIs k less (leads_at c.mode me view (found_in groups g)) (found_in groups g)) (sym (ticks_silent x g r now (silent_enters x.node r p) (silent_opens x.node g r p))) (a.tallies g less t);
           led = a.led;
-          entered = λ e. ap (λ b. b || list_any (enters x.node) now) (plain_enters x.node r p) ∙ a.entered e;
+          entered = λ e. ap (λ b. b || list_any (enters x.node) now) (silent_enters x.node r p) ∙ a.entered e;
         }
       where
         by : (y : Happened) → Has y (r ∷ now) → Mine x.node y
-        by y (inl e) = subst (Mine x.node) (sym e) (plain_mine x.node r p)
+        by y (inl e) = subst (Mine x.node) (sym e) (silent_mine x.node r p)
         by y (inr i) = a.mine y i
 
-    pub at_recorded : (s : Core) (r : Happened) → Plain r → At x T G E s → At x T G E (recorded s r)
+    pub at_recorded : (s : Core) (r : Happened) → Silent r → At x T G E s → At x T G E (recorded s r)
     unfolding recorded
     at_recorded s r p a =
-        subst (AtOf x T G E s.config s.sessions.level s.views.me s.views.view s.groups) (sym (reverse-append s.records (r ∷ []))) (of_plain s.config s.sessions.level s.views.me s.views.view s.groups r (reverse s.records) p a)
+        subst (AtOf x T G E s.config s.sessions.level s.views.me s.views.view s.groups) (sym (reverse-append s.records (r ∷ []))) (of_silent s.config s.sessions.level s.views.me s.views.view s.groups r (reverse s.records) p a)
 
-    pub at_recorded_all : (rs : List Happened) (s : Core) → AllPlain rs → At x T G E s → At x T G E (recorded_all s rs)
-    unfolding recorded_all recorded
-    at_recorded_all [] s plain a = subst (λ l. At x T G E (record s { records = l })) (sym (append-nil s.records)) a
-    at_recorded_all (r ∷ rs) s plain a =
-        subst (λ l. At x T G E (record s { records = l })) (append_assoc s.records (r ∷ []) rs) (at_recorded_all rs (recorded s r) (λ y i. plain y (inr i)) (at_recorded s r (plain r (inl refl)) a))
+    pub keeps_quiet : KeepsQuiet (At x T G E)
+    keeps_quiet =
+        record {
+          calm = λ c d k a. subst (λ (z : Config × ℕ × Views × List GroupRow × List Happened). AtOf x T G E z.0 z.1 (z.2).me (z.2).view z.3 (reverse z.4)) (λ i. (sym k.config i, sym k.level i, sym k.views i, sym k.groups i, sym k.records i)) a;
+          silent = at_recorded;
+        }
 
   -- other groups
   pub at_for : (T U : List ℕ → ℕ → Type 0) (G V : List ℕ → Type 0) (E F : Type 0) (s : Core) → ((g : List ℕ) (less : ℕ) → U g less → T g less) → ((g : List ℕ) → V g → leads_row s (found s g) ≡ true) → (F → E) → At x T G E s → At x U V F s
@@ -292,9 +281,9 @@ module _ (x : Turn) where
       (z.0, λ run r. let w = z.1 run (ap (λ (st : GroupState). st.running) (sym l.0) ∙ r) in (subst (λ st. TallyIs st ticks less y) (sym l.0) w.0, settled_same row.led now.led row.list now.list y y g refl l w.1))
 
   module _ (T U : List ℕ → ℕ → Type 0) (G : List ℕ → Type 0) (E : Type 0) where
-    pub at_row_for : (s : Core) (g : List ℕ) (f : GroupRow → GroupRow) → KeepsName f → ((y : GroupRow) → (f y).leader ≡ y.leader) → ((y : GroupRow) → Alike y.list (f y).list) → ((k : List ℕ) (less : ℕ) → U k less → (g ≡ k → ⊥) → T k less) → ((less : ℕ) → U g less → RowIs (ticks_now x g (reverse s.records)) less (leads_row s (found s g)) (f (found s g))) → At x T G E s → At x U G E (with_row s g f)
-    unfolding with_row row_of
-    at_row_for s g f keeps leader list others own a =
+    pub at_row_any : (s : Core) (g : List ℕ) (f : GroupRow → GroupRow) → KeepsName f → Alike (found s g).list (f (found s g)).list → ((k : List ℕ) (less : ℕ) → U k less → (g ≡ k → ⊥) → T k less) → ((less : ℕ) → U g less → RowIs (ticks_now x g (reverse s.records)) less (leads_row s (f (found s g))) (f (found s g))) → (G g → leads_row s (f (found s g)) ≡ true) → At x T G E s → At x U G E (with_row s g f)
+    unfolding with_row
+    at_row_any s g f keeps list others own led a =
         record {
           me_is = a.me_is;
           config_is = a.config_is;
@@ -303,34 +292,15 @@ module _ (x : Turn) where
           told = a.told;
           mine = a.mine;
           order = rows_ordered g f keeps s a.order;
-          folds = λ k. fold_at k (cases_text g k);
-          tallies = λ k less u. tally k less u (cases_text g k);
-          led = λ k i. leads k i (cases_text g k);
+          folds = row_with (λ k row. Folds x k s.views.view (reverse s.records) row.list) s g f keeps a.order (folds_same g s.views.view (reverse s.records) (found s g).list (f (found s g)).list list (a.folds g)) (λ k ne. a.folds k);
+          tallies = λ k less. row_with (λ k row. U k less → RowIs (ticks_now x k (reverse s.records)) less (leads_row s row) row) s g f keeps a.order (own less) (λ k ne u. a.tallies k less (others k less u ne)) k;
+          led = row_with (λ k row. G k → leads_row s row ≡ true) s g f keeps a.order led (λ k ne. a.led k);
           entered = a.entered;
         }
+
+    pub at_row_for : (s : Core) (g : List ℕ) (f : GroupRow → GroupRow) → KeepsName f → ((y : GroupRow) → (f y).leader ≡ y.leader) → ((y : GroupRow) → Alike y.list (f y).list) → ((k : List ℕ) (less : ℕ) → U k less → (g ≡ k → ⊥) → T k less) → ((less : ℕ) → U g less → RowIs (ticks_now x g (reverse s.records)) less (leads_row s (found s g)) (f (found s g))) → At x T G E s → At x U G E (with_row s g f)
+    at_row_for s g f keeps leader list others own a =
+        at_row_any s g f keeps (list (found s g)) others (λ less u. subst (λ b. RowIs (ticks_now x g (reverse s.records)) less b (f (found s g))) (sym lead) (own less u)) (λ i. lead ∙ a.led g i) a
       where
-        now : List Happened
-        now = reverse s.records
-
-        here : found (with_row s g f) g ≡ f (found s g)
-        here = row_here g f keeps s a.order
-
-        there : (k : List ℕ) → (g ≡ k → ⊥) → found (with_row s g f) k ≡ found s k
-        there k ne = row_there g f keeps s k ne
-
         lead : leads_row s (f (found s g)) ≡ leads_row s (found s g)
         lead = ap (λ o. is_this s.views.me (leader_by s.config.mode s.views.view.coord o)) (leader (found s g))
-
-        fold_at : (k : List ℕ) → (g ≡ k) ⊎ (g ≡ k → ⊥) → Folds x k s.views.view now (found (with_row s g f) k).list
-        fold_at k (inl e) =
-            subst (λ z. Folds x z s.views.view now (found (with_row s g f) z).list) e (subst (λ (z : GroupRow). Folds x g s.views.view now z.list) (sym here) (folds_same g s.views.view now (found s g).list (f (found s g)).list (list (found s g)) (a.folds g)))
-        fold_at k (inr ne) = subst (λ (z : GroupRow). Folds x k s.views.view now z.list) (sym (there k ne)) (a.folds k)
-
-        tally : (k : List ℕ) (less : ℕ) → U k less → (g ≡ k) ⊎ (g ≡ k → ⊥) → RowIs (ticks_now x k now) less (leads_row s (found (with_row s g f) k)) (found (with_row s g f) k)
-        tally k less u (inl e) =
-            subst (λ z. RowIs (ticks_now x z now) less (leads_row s (found (with_row s g f) z)) (found (with_row s g f) z)) e (subst (λ z. RowIs (ticks_now x g now) less (leads_row s z) z) (sym here) (subst (λ b. RowIs (ticks_now x g now) less b (f (found s g))) (sym lead) (own less (subst (λ z. U z less) (sym e) u))))
-        tally k less u (inr ne) = subst (λ z. RowIs (ticks_now x k now) less (leads_row s z) z) (sym (there k ne)) (a.tallies k less (others k less u ne))
-
-        leads : (k : List ℕ) → G k → (g ≡ k) ⊎ (g ≡ k → ⊥) → leads_row s (found (with_row s g f) k) ≡ true
-        leads k i (inl e) = subst (λ z. leads_row s (found (with_row s g f) z) ≡ true) e (ap (leads_row s) here ∙ lead ∙ a.led g (subst G (sym e) i))
-        leads k i (inr ne) = ap (leads_row s) (there k ne) ∙ a.led k i

@@ -1,5 +1,5 @@
 -- What an install brings to a list was put before.
-use Rattle.std.proofs.Common.{◌≡◌, ◌≤◌, ◌<◌, ◌⊎◌, ℕ, zero, suc, ◌+◌, List, [], ◌∷◌, ◌++◌, length, drop, Option, Some, None, Bool, true, false, refl, sym, ap, ◌∙◌, subst, inl, inr, ⊎_elim, arith}
+use Rattle.std.proofs.Common.{◌≡◌, ◌≤◌, ◌<◌, ◌⊎◌, ℕ, ◌+◌, List, [], ◌∷◌, ◌++◌, length, drop, Option, Some, None, Bool, true, false, refl, sym, ap, ◌∙◌, subst, inl, inr, ⊎_elim, arith}
 use Rattle.std.specs.Prelude.{reverse, slice_get, if◌then◌else◌}
 use Rattle.std.specs.Str.{bytes_eq}
 use Rattle.std.proofs.lemmas.List.{length-drop, drop_all}
@@ -21,7 +21,7 @@ use Rattle.node_state.specs.declared.state.Core.{Core}
 use Rattle.node_state.specs.State.{row_of, list_of, len_of}
 use Rattle.node_state.specs.Applying.{Lacking, lacking_in, lacking}
 use Rattle.run_safety.specs.Past.{History, records_of, earlier, view_now}
-use Rattle.run_safety.specs.Group.{Put, Line, Record, Reply, kept}
+use Rattle.run_safety.specs.Group.{Put, Line, Reply, kept}
 use Rattle.run_safety.specs.Group as group
 use Rattle.run_safety.specs.Sight.{told_in, lines_at, lines_with, lines_of}
 use Rattle.run_safety.proofs.SightLaws.{kept_append}
@@ -35,6 +35,7 @@ use Rattle.step_refinement.proofs.ViewRules.{same_of}
 use Rattle.step_refinement.proofs.RowWorks.{keeps_of, len_is}
 use Rattle.step_refinement.proofs.Fills.{collected, lacking_is}
 use Rattle.step_refinement.proofs.Replies as replies
+use Rattle.entry_laws.proofs.source_order.Climbs.{get_there}
 use Rattle.entry_laws.specs.late_rows.Late.{PutBefore}
 
 -- ---- lines are of records
@@ -86,11 +87,6 @@ lines_back : (g : List ℕ) (m : ℕ) (v : ViewId) (i : ℕ) (f : Entry) (h : Hi
 lines_back g m v i f [] j = absurd j
 lines_back g m v i f (e ∷ before) j = line_back g m v i f e.records before (lines_of g before) (lines_back g m v i f before) j
 
-get_within : (xs : List Entry) (i : ℕ) → i < length xs → (e : Entry) × (slice_get xs i ≡ Some e)
-get_within [] i lt = absurd (omega arith)
-get_within (y ∷ xs) zero lt = (y, refl)
-get_within (y ∷ xs) (suc i) lt = get_within xs i (omega arith)
-
 -- all that a node, or an install, has of the view was put before
 module _ (g : List ℕ) (w : Scene) (n : ℕ) (s : Core) (t : Tied g w n s) where
   k : Whole (opening_of w.config) t.ghost.nodes t.ghost.ps t.ghost.all t.ghost.leads t.ghost.bases
@@ -114,7 +110,7 @@ module _ (g : List ℕ) (w : Scene) (n : ℕ) (s : Core) (t : Tied g w n s) wher
   sent_before v i e j = logged_before v i e (k.good.inv.packet (group.Append v i e) j)
 
   prefix_before : (v : ViewId) (xs : List Entry) → IsPrefix xs (k.log v) → (i : ℕ) → i < length xs → Before v i
-  prefix_before v xs p i lt = let e = get_within xs i lt in logged_before v i e.0 (prefix_get xs (k.log v) p i e.0 e.1)
+  prefix_before v xs p i lt = let e = get_there xs i lt in logged_before v i e.0 (prefix_get xs (k.log v) p i e.0 e.1)
 
   own_prefix : IsPrefix full (k.log s.views.view)
   own_prefix = subst (λ u. IsPrefix full (k.log u)) t.own.0.stands.view (k.good.inv.node n).part

@@ -1,62 +1,50 @@
 -- Entering a view, and what a rule of views leaves.
 use Rattle.std.proofs.Common.{◌≡◌, ◌≤◌, ◌<◌, ◌⊎◌, ℕ, ◌+◌, List, [], ◌∷◌, ◌++◌, length, Option, Some, None, Bool, true, false, refl, sym, ap, ◌∙◌, subst, inl, inr, ⊎_elim, arith, append_assoc}
-use Rattle.std.specs.Prelude.{◌==◌, ◌&&◌, ◌||◌, not, map, filter, fold, find, flat_map, reverse, is_some, if◌then◌else◌}
+use Rattle.std.specs.Prelude.{◌==◌, ◌&&◌, ◌||◌, map, filter, fold, find, reverse, is_some, if◌then◌else◌}
 use Rattle.std.specs.List.{list_any}
 use Rattle.std.specs.Option.{option_map}
 use Rattle.std.specs.Str.{bytes_eq}
 use Rattle.std.proofs.lemmas.List.{reverse-append, reverse-reverse}
 use Rattle.std.proofs.lemmas.Bool.{eq-eqb}
 use Rattle.rsct_packet.specs.declared.ids.ViewId.{ViewId}
-use Rattle.rsct_packet.specs.declared.ids.ProviderId.{ProviderId}
 use Rattle.rsct_packet.specs.declared.ids.Member.{Member}
 use Rattle.rsct_packet.specs.Providers.{among}
 use Rattle.rsct_packet.specs.Search.{Has}
 use Rattle.rsct_packet.proofs.HasLaws.{has_append, append_has_left, append_has_right}
-use Rattle.group_attr.specs.Attrs.{host_membership}
 use Rattle.proposal_core.specs.declared.proposal.Cause.TheVariants.{Died}
 use Rattle.proposal_core.specs.declared.entry.Entry.{Entry}
-use Rattle.proposal_core.specs.Fold.{empty_state, present}
-use Rattle.proposal_core.specs.Lists.{list_or_new, state_in, with_entry}
+use Rattle.proposal_core.specs.Fold.{empty_state}
+use Rattle.proposal_core.specs.Lists.{list_or_new, with_entry}
 use Rattle.batch_rules.specs.Waiting.{add_failure}
-use Rattle.subscribe_core.specs.declared.subs.Subscription.{Subscription}
-use Rattle.client_callbacks.specs.declared.told.Told.TheVariants as told
-use Rattle.client_callbacks.specs.declared.told.Why.TheVariants.{Dissolved}
-use Rattle.session_state.specs.declared.state.Provider.{Provider}
-use Rattle.session_state.specs.State.{provider_of, outstanding}
-use Rattle.session_state.specs.HandOn.{take_telling}
 use Rattle.view_state.specs.declared.install.Install.{Install}
 use Rattle.view_state.specs.declared.install.Base.{Base}
 use Rattle.view_state.specs.Bases.{bases_of, base_named}
-use Rattle.view_state.specs.declared.packet.ViewPacket.TheVariants as packet
 use Rattle.view_state.specs.declared.views.ViewWork.{ViewWork}
 use Rattle.view_state.specs.Views.{views_entered}
 use Rattle.node_state.specs.declared.group.GroupRow.{GroupRow}
 use Rattle.node_state.specs.declared.happened.Happened.{Happened}
 use Rattle.node_state.specs.declared.happened.Happened.TheVariants as happened
-use Rattle.node_state.specs.declared.packet.Body.TheVariants as body
 use Rattle.node_state.specs.declared.state.Core.{Core}
 use Rattle.node_state.specs.Settings.{view_level}
-use Rattle.node_state.specs.State.{AllAfter, InNameOrder, row_found, row_of, list_of, state_of, len_of, held_rows, recorded, recorded_all, with_sessions, with_row, has_name}
-use Rattle.node_state.specs.Sending.{sent, send_requests}
-use Rattle.node_state.specs.HandOn.{Answering, subscriber_name, note_of}
+use Rattle.node_state.specs.State.{AllAfter, InNameOrder, row_found, row_of, list_of, state_of, len_of, held_rows, recorded, recorded_all, with_row, has_name}
+use Rattle.node_state.specs.HandOn.{Answering}
 use Rattle.node_state.specs.Leading.{put, put_and_hand, with_waiting, tally_opened}
-use Rattle.node_state.specs.Applying.{Lacking, lacking, fill_lists, level_set, base_row, base_record, view_entered, is_in_base, number_of, dissolved, dissolved_if, group_dissolved, sides_dissolved, base_note, entering_note, entering_noted, taken_sent, owed_sent, wait_failed, phase_reopened, lead, lead_groups, entered, entered_if, apply_install, views_taken}
+use Rattle.node_state.specs.Applying.{Lacking, lacking, fill_lists, level_set, base_row, base_record, view_entered, sides_dissolved, entering_noted, taken_sent, owed_sent, wait_failed, phase_reopened, lead, lead_groups, entered, entered_if, apply_install, views_taken}
 use Rattle.run_safety.specs.Past.{History, records_of, Within}
 use Rattle.run_safety.specs.Stays.{Stay, stays}
 use Rattle.run_safety.specs.Stays as stay
 use Rattle.run_safety.specs.SafeHeard.{enters}
-use Rattle.node_state.proofs.NameOrder.{text_same, text_other, none_after, row_here, row_there, cases_text, text_self}
+use Rattle.node_state.proofs.NameOrder.{text_same, text_other, row_here, row_there, cases_text, text_self}
 use Rattle.step_refinement.proofs.Appending.{handed_rows}
-use Rattle.step_refinement.proofs.BaseOrder.{bases_ordered, row_of_base, base_noted}
+use Rattle.step_refinement.proofs.BaseOrder.{bases_ordered, row_of_base, base_noted, none_named}
 use Rattle.step_refinement.proofs.Fills.{collected}
 use Rattle.step_refinement.proofs.Founding.{Sent, sends_out, sends_are, lacking_same}
 use Rattle.step_refinement.proofs.Turns.{has_turned}
+use Rattle.entry_laws.proofs.closing_rows.Quiet.{at_fold, at_rest_entered}
 use Rattle.entry_laws.specs.late_rows.Late.{PutBefore, RecordLate}
 use Rattle.entry_laws.specs.late_rows.Announced.{members_now, RecordTold}
-use Rattle.entry_laws.proofs.late_rows.At.{Turn, tick_here, Plain, AllPlain, Mine, Folds, found_in, AtOf, At, at_for, at_fold, at_recorded, at_recorded_all}
+use Rattle.entry_laws.proofs.late_rows.At.{Turn, tick_here, Mine, Folds, found_in, AtOf, At, at_for, keeps_quiet}
 use Rattle.entry_laws.proofs.late_rows.Puts.{put_record}
-use Rattle.entry_laws.proofs.late_rows.Hands.{at_sent, at_requests_sent, at_votes_again, at_sessions}
-use Rattle.entry_laws.proofs.late_rows.Tellings.{telling_level}
 use Rattle.entry_laws.proofs.late_rows.Laters.{PutThen, later_put}
 use Rattle.entry_laws.proofs.late_rows.Leading.{MayOpen, at_put_and_handed_for, at_waits, at_opened_anew, at_closes}
 use Rattle.entry_laws.proofs.late_rows.Ending.{NoGroup, at_led_groups}
@@ -80,13 +68,6 @@ IfBrought before s o = (i : Install) → o ≡ Some i → Brought before s i
 with_base_if : Option Base → Stay → Stay
 with_base_if None s = s
 with_base_if (Some b) s = record s { base = b.state }
-
-none_named : (g : List ℕ) (bs : List Base) → AllAfter g (map base_row bs) → base_named bs g ≡ None
-none_named g bs a = at (base_named bs g) refl
-  where
-    at : (o : Option Base) → base_named bs g ≡ o → o ≡ None
-    at None e = refl
-    at (Some b) e = let k = none_after g (map base_row bs) a in let z = row_of_base g bs in let y = ap (option_map base_row) e in absurd (cc)
 
 bases_stay : (n m : ℕ) (v : ViewId) (g : List ℕ) → m ≡ n → (bs : List Base) → InNameOrder (map base_row bs) → (s : Stay) (older : List Stay) (rest : List Happened) → stays n g rest ≡ s ∷ older → stays n g (reverse (map (base_noted m v) bs) ++ rest) ≡ with_base_if (base_named bs g) s ∷ older
 unfolding base_named base_row with_base_if
@@ -282,66 +263,6 @@ module _ (h : Turn) where
               by None = refl
               by (Some b) = refl
 
-      -- (3)
-      at_dissolved : (s : Core) (p : ProviderId) (r : ℕ) → Full s → Full (dissolved s p r)
-      unfolding dissolved with_sessions
-      at_dissolved s p r a = at_recorded h T NoGroup (Unit {0}) (with_sessions s (take_telling s.sessions p r Dissolved)) (happened.Told p r Dissolved) tt (at_sessions h T NoGroup (Unit {0}) s (take_telling s.sessions p r Dissolved) (telling_level s.sessions p r Dissolved) a)
-
-      at_dissolved_if : (s : Core) (g : List ℕ) (old : ViewId) (b : Option Base) (o : Option Provider) → Full s → Full (dissolved_if s g old b o)
-      unfolding dissolved_if
-      at_dissolved_if s g old b None a = a
-      at_dissolved_if s g old b (Some x) a = by (x.takes_part && bytes_eq x.group g && not (is_in_base old x.p b))
-        where
-          by : (c : Bool) → Full (elim c as (λ _. Core) [ true ↦ dissolved s x.p (number_of (outstanding s.sessions x.p)) | false ↦ s ])
-          by true = at_dissolved s x.p (number_of (outstanding s.sessions x.p)) a
-          by false = a
-
-      at_group_dissolved : (old : ViewId) (bs : List Base) (s : Core) (row : GroupRow) → Full s → Full (group_dissolved old bs s row)
-      unfolding group_dissolved
-      at_group_dissolved old bs s row a =
-          at_fold h T NoGroup (Unit {0}) (λ (t : Core) p. dissolved_if t row.name old (base_named bs row.name) (provider_of t.sessions p)) (present (state_in row.list)) (λ t p i k. at_dissolved_if t row.name old (base_named bs row.name) (provider_of t.sessions p) k) s a
-
-      at_sides : (s : Core) (rows : List GroupRow) (old : ViewId) (bs : List Base) → Full s → Full (sides_dissolved s rows old bs)
-      unfolding sides_dissolved
-      at_sides s rows old bs a = at_fold h T NoGroup (Unit {0}) (group_dissolved old bs) rows (λ t row i k. at_group_dissolved old bs t row k) s a
-
-      -- (4)
-      note_plain : (s : Core) (bs : List Base) (u : Subscription) → AllPlain (entering_note s bs u)
-      unfolding entering_note base_note note_of
-      note_plain s bs u r i = by (bytes_eq u.group host_membership) i
-        where
-          base : (o : Option Base) → Has r (base_note s u o) → Plain r
-          base None j = absurd j
-          base (Some b) (inl e) = subst Plain (sym e) tt
-          base (Some b) (inr z) = absurd z
-
-          by : (b : Bool) → Has r (elim b as (λ _. List Happened) [ true ↦ happened.Noted s.views.me (subscriber_name s.sessions u) s.views.view None (told.Hosts s.views.view s.views.members) ∷ [] | false ↦ base_note s u (base_named bs u.group) ]) → Plain r
-          by true (inl e) = subst Plain (sym e) tt
-          by true (inr z) = absurd z
-          by false j = base (base_named bs u.group) j
-
-      notes_plain : (s : Core) (bs : List Base) (us : List Subscription) → AllPlain (flat_map (entering_note s bs) us)
-      notes_plain s bs [] r i = absurd i
-      notes_plain s bs (u ∷ us) r i =
-          ⊎_elim (λ (j : Has r (entering_note s bs u)). note_plain s bs u r j) (λ (j : Has r (flat_map (entering_note s bs) us)). notes_plain s bs us r j) (has_append r (entering_note s bs u) (flat_map (entering_note s bs) us) i)
-
-      at_entering_noted : (s : Core) (bs : List Base) → Full s → Full (entering_noted s bs)
-      unfolding entering_noted
-      at_entering_noted s bs a = at_recorded_all h T NoGroup (Unit {0}) (flat_map (entering_note s bs) s.sessions.subs.live) s (notes_plain s bs s.sessions.subs.live) a
-
-      -- (5) and (6)
-      at_taken_sent : (s : Core) → Full s → Full (taken_sent s)
-      unfolding taken_sent
-      at_taken_sent s a = by (s.views.view.coord == s.views.me)
-        where
-          by : (b : Bool) → Full (elim b as (λ _. Core) [ true ↦ s | false ↦ sent s s.views.view.coord (body.View (packet.Taken s.views.view)) ])
-          by true = a
-          by false = at_sent h T NoGroup (Unit {0}) s s.views.view.coord (body.View (packet.Taken s.views.view)) a
-
-      at_owed_sent : (s : Core) → Full s → Full (owed_sent s)
-      unfolding owed_sent
-      at_owed_sent s a = at_votes_again h T NoGroup (Unit {0}) (send_requests s) (at_requests_sent h T NoGroup (Unit {0}) s a)
-
       -- (7)
       module _ (some : (g : List ℕ) → (less : ℕ) × T g less) (may : (g : List ℕ) → MayOpen h T (Unit {0}) g) where
         at_group_led : (f : Answering) (G : List ℕ → Type 0) (s : Core) (g : List ℕ) → G g → At h T G (Unit {0}) s → At h T G (Unit {0}) (lead f s g)
@@ -353,7 +274,7 @@ module _ (h : Turn) where
 
             waits : At h T G (Unit {0}) t
             waits =
-                at_fold h T G (Unit {0}) (λ t p. with_waiting t g (add_failure p Died)) (filter (among (state_of s g).members) (state_of s g).failed) (λ t p i k. at_waits h T G (Unit {0}) t g (add_failure p Died) k) s a
+                at_fold (At h T G (Unit {0})) (λ t p. with_waiting t g (add_failure p Died)) (filter (among (state_of s g).members) (state_of s g).failed) (λ t p i k. at_waits h T G (Unit {0}) t g (add_failure p Died) k) s a
 
             by : (b : Bool) → At h T G (Unit {0}) (phase_reopened f t g b)
             by false = waits
@@ -370,10 +291,8 @@ module _ (h : Turn) where
             let k = all_filled f s.views.view (reverse s.records ++ records_of h.before) brought.bound brought.put xs s (record { at = a; view = refl; knows = λ r i. i; fits = brought.fits xs lacks }) in
             let bs : List Base = bases_of i in
             let v : Core = view_entered t i bs in
-            let d : Core = sides_dissolved v (held_rows t) t.views.view bs in
-            let b : Full v = at_view_entered t i k.at in
-            let e : Full d = at_sides v (held_rows t) t.views.view bs b in
-            at_groups_led f (owed_sent (taken_sent (entering_noted d bs))) (at_owed_sent (taken_sent (entering_noted d bs)) (at_taken_sent (entering_noted d bs) (at_entering_noted d bs e)))
+            let u : Core = owed_sent (taken_sent (entering_noted (sides_dissolved v (held_rows t) t.views.view bs) bs)) in
+            at_groups_led f u (at_rest_entered (keeps_quiet h T NoGroup (Unit {0})) v (held_rows t) t.views.view bs (at_view_entered t i k.at))
 
   -- ---- a rule of views
 

@@ -1,48 +1,41 @@
 -- The rows of packets keep what a leader counts.
-use Rattle.std.proofs.Common.{◌≡◌, ◌⊎◌, ℕ, List, Option, Some, None, Bool, true, false, refl, sym, ap, ◌∙◌, subst, inl, inr}
-use Rattle.std.specs.Prelude.{◌==◌, ◌&&◌, ◌||◌, find, reverse, nat_le, nat_lt, is_none}
+use Rattle.std.proofs.Common.{◌≡◌, ℕ, List, Option, Some, None, Bool, true, false, refl, sym, ap, ◌∙◌, subst}
+use Rattle.std.specs.Prelude.{◌==◌, ◌&&◌, ◌||◌, reverse, nat_le, nat_lt, is_none}
 use Rattle.std.specs.Option.{unwrap_or}
 use Rattle.rsct_packet.specs.declared.ids.ProviderId.{ProviderId}
 use Rattle.rsct_packet.specs.declared.ids.ProtoId.{ProtoId}
-use Rattle.rsct_packet.specs.Providers.{among}
 use Rattle.group_attr.specs.declared.attrs.Phases.{Phases}
 use Rattle.proposal_core.specs.declared.proposal.Cause.TheVariants.{Gone}
 use Rattle.proposal_core.specs.declared.proposal.Proposal.{Proposal}
 use Rattle.proposal_core.specs.declared.entry.Entry.{Entry}
 use Rattle.proposal_core.specs.declared.entry.Vote.{Vote}
-use Rattle.proposal_core.specs.Fold.{runs, present}
+use Rattle.proposal_core.specs.Fold.{runs}
 use Rattle.proposal_core.specs.Lists.{state_in}
 use Rattle.batch_rules.specs.Waiting.{add_failure, drop_join}
 use Rattle.name_server.specs.Names as names
 use Rattle.name_server.specs.declared.names.Leader.{Leader}
 use Rattle.vote_phases.specs.Tally.{TallyView, tally_cast, tally_fail}
-use Rattle.client_callbacks.specs.declared.told.Why.{Why}
 use Rattle.client_callbacks.specs.declared.told.Why.TheVariants.{GroupsFull}
 use Rattle.session_state.specs.declared.state.Request.{Request}
-use Rattle.session_state.specs.State.{outstanding}
-use Rattle.session_state.specs.HandOn.{is_numbered, take_telling}
-use Rattle.node_state.specs.declared.group.Decision.{Decision}
 use Rattle.node_state.specs.declared.group.GroupRow.{GroupRow}
-use Rattle.node_state.specs.declared.happened.Happened.{Happened}
-use Rattle.node_state.specs.declared.happened.Happened.TheVariants as happened
 use Rattle.node_state.specs.declared.packet.Body.TheVariants as body
 use Rattle.node_state.specs.declared.state.Core.{Core}
 use Rattle.node_state.specs.Settings.{is_fixed}
-use Rattle.node_state.specs.State.{InNameOrder, row_found, row_of, with_row, with_led, led_of, list_of, state_of, len_of, holds, fits_at_end, forget_below, coordinates, is_this, leader_in, leader_of, leads_in, leads, set_leader, acked_raised, decision_of, recorded, with_sessions, has_name}
+use Rattle.node_state.specs.State.{row_of, with_row, with_led, led_of, list_of, state_of, len_of, holds, fits_at_end, forget_below, coordinates, is_this, leader_in, leader_of, leads_in, leads, set_leader, acked_raised}
 use Rattle.node_state.specs.Sending.{sent, send_on, send_request}
 use Rattle.node_state.specs.HandOn.{Answering}
-use Rattle.node_state.specs.Leading.{put, put_and_hand, with_waiting, with_tally, closes}
+use Rattle.node_state.specs.Leading.{put_and_hand, with_tally, closes}
 use Rattle.node_state.specs.Deciding.{decided}
-use Rattle.node_state.specs.Following.{take_lookup, told_if, take_tell, requests_of, named, is_name_used, take_name, tell_again, decide_new, request_after, request_at, is_group_refused, take_request, entry_next, entry_elsewhere, take_entry, acked, take_ack, vote_cast, take_vote, tally_failed, wait_gone, marked, gone_present, gone_of, take_gone}
-use Rattle.node_state.proofs.NameOrder.{cases_text, row_here, row_there, rows_ordered}
-use Rattle.step_refinement.proofs.Appending.{handed_rows}
+use Rattle.node_state.specs.Following.{take_lookup, take_tell, requests_of, named, is_name_used, take_name, decide_new, take_request, entry_next, entry_elsewhere, take_entry, acked, take_ack, vote_cast, take_vote, tally_failed, marked, take_gone}
+use Rattle.node_state.proofs.NameOrder.{row_here}
+use Rattle.entry_laws.proofs.closing_rows.Following.{rows_after}
+use Rattle.entry_laws.proofs.closing_rows.Quiet.{at_fold, at_sent, at_tell, at_request_taken, at_gone_taken}
+use Rattle.entry_laws.proofs.closing_rows.Calms.{request_calm}
 use Rattle.entry_laws.specs.late_rows.Late.{RecordLate}
 use Rattle.entry_laws.specs.late_rows.Announced.{RecordTold}
-use Rattle.entry_laws.proofs.late_rows.At.{Turn, ticks_now, TallyIs, Settled, TallyRuns, RowIs, Folds, found, leads_row, leads_is, At, at_for, at_fold, at_recorded, at_row_for}
-use Rattle.entry_laws.proofs.late_rows.Puts.{put_row, put_record}
-use Rattle.entry_laws.proofs.late_rows.Hands.{at_sent, at_request_sent, at_sessions}
+use Rattle.entry_laws.proofs.late_rows.At.{at_row_any, Turn, ticks_now, TallyIs, Settled, TallyRuns, RowIs, found, leads_row, leads_is, At, at_for, at_row_for, keeps_quiet}
+use Rattle.entry_laws.proofs.late_rows.Puts.{put_record}
 use Rattle.entry_laws.proofs.late_rows.Tallies.{failed_late, voted_late, failed_settled, voted_settled}
-use Rattle.entry_laws.proofs.late_rows.Tellings.{telling_level}
 use Rattle.node_state.specs.declared.group.Led.{Led}
 use Rattle.entry_laws.proofs.late_rows.Leading.{at_put_and_handed_for, at_led, at_waits, at_forgets, at_forgets_least, at_closes}
 use Rattle.entry_laws.proofs.late_rows.Ending.{Every, NoGroup, every_may, at_decided}
@@ -86,42 +79,9 @@ module _ (h : Turn) where
 
   -- a leader is known
   at_led_by : (s : Core) (g : List ℕ) (n : ℕ) → RowIs (ticks_now h g (reverse s.records)) 0 (leads_row s (record (found s g) { leader = Some n })) (record (found s g) { leader = Some n }) → Full s → Full (set_leader s g n)
-  unfolding set_leader with_row row_of
+  unfolding set_leader
   at_led_by s g n own a =
-      record {
-        me_is = a.me_is;
-        config_is = a.config_is;
-        level_is = a.level_is;
-        puts = a.puts;
-        told = a.told;
-        mine = a.mine;
-        order = rows_ordered g f (λ x. refl) s a.order;
-        folds = λ k. fold_at k (cases_text g k);
-        tallies = λ k less u. subst (λ z. RowIs (ticks_now h k now) z (leads_row s (found (with_row s g f) k)) (found (with_row s g f) k)) (sym u) (tally k (cases_text g k));
-        led = λ k z. absurd z;
-        entered = a.entered;
-      }
-    where
-      f : GroupRow → GroupRow
-      f row = record row { leader = Some n }
-
-      now : List Happened
-      now = reverse s.records
-
-      here : found (with_row s g f) g ≡ f (found s g)
-      here = row_here g f (λ x. refl) s a.order
-
-      there : (k : List ℕ) → (g ≡ k → ⊥) → found (with_row s g f) k ≡ found s k
-      there k ne = row_there g f (λ x. refl) s k ne
-
-      fold_at : (k : List ℕ) → (g ≡ k) ⊎ (g ≡ k → ⊥) → Folds h k s.views.view now (found (with_row s g f) k).list
-      fold_at k (inl e) = subst (λ z. Folds h z s.views.view now (found (with_row s g f) z).list) e (subst (λ (z : GroupRow). Folds h g s.views.view now z.list) (sym here) (a.folds g))
-      fold_at k (inr ne) = subst (λ (z : GroupRow). Folds h k s.views.view now z.list) (sym (there k ne)) (a.folds k)
-
-      tally : (k : List ℕ) → (g ≡ k) ⊎ (g ≡ k → ⊥) → RowIs (ticks_now h k now) 0 (leads_row s (found (with_row s g f) k)) (found (with_row s g f) k)
-      tally k (inl e) =
-          subst (λ z. RowIs (ticks_now h z now) 0 (leads_row s (found (with_row s g f) z)) (found (with_row s g f) z)) e (subst (λ z. RowIs (ticks_now h g now) 0 (leads_row s z) z) (sym here) own)
-      tally k (inr ne) = subst (λ z. RowIs (ticks_now h k now) 0 (leads_row s z) z) (sym (there k ne)) (a.tallies k 0 refl)
+      at_row_any h Every Every NoGroup ⊥ s g (λ row. record row { leader = Some n }) (λ x. refl) (refl, refl, refl) (λ k less u ne. u) (λ less u. subst (λ z. RowIs (ticks_now h g (reverse s.records)) z (leads_row s (record (found s g) { leader = Some n })) (record (found s g) { leader = Some n })) (sym u) own) (λ z. absurd z) a
 
   -- one group that the node leads
   abbrev Only : List ℕ → List ℕ → Type 0
@@ -141,17 +101,7 @@ module _ (h : Turn) where
     where
       by : (b : Bool) → Full (elim b as (λ _. Core) [ false ↦ s | true ↦ sent (record s { names = names.lookup g from s.names }) from (body.Name s.views.view g (unwrap_or (names.looked_up g from s.names) 0)) ])
       by false = a
-      by true = at_sent h Every NoGroup ⊥ (record s { names = names.lookup g from s.names }) from (body.Name s.views.view g (unwrap_or (names.looked_up g from s.names) 0)) (at_names s (names.lookup g from s.names) a)
-
-  at_told_if : (s : Core) (p : ProviderId) (r : ℕ) (y : Why) (b : Bool) → Full s → Full (told_if s p r y b)
-  unfolding told_if
-  at_told_if s p r y false a = a
-  at_told_if s p r y true a =
-      at_recorded h Every NoGroup ⊥ (with_sessions s (take_telling s.sessions p r y)) (happened.Told p r y) tt (at_sessions h Every NoGroup ⊥ s (take_telling s.sessions p r y) (telling_level s.sessions p r y) a)
-
-  pub at_tell : (s : Core) (p : ProviderId) (r : ℕ) (y : Why) → Full s → Full (take_tell s p r y)
-  unfolding take_tell
-  at_tell s p r y a = at_told_if s p r y (is_numbered r (outstanding s.sessions p)) a
+      by true = at_sent (keeps_quiet h Every NoGroup ⊥) (record s { names = names.lookup g from s.names }) from (body.Name s.views.view g (unwrap_or (names.looked_up g from s.names) 0)) (at_names s (names.lookup g from s.names) a)
 
   pub at_name : (s : Core) (g : List ℕ) (n : ℕ) → Full s → Full (take_name s g n)
   unfolding take_name named is_name_used leader_of leader_in row_of
@@ -165,19 +115,14 @@ module _ (h : Turn) where
           unled (Some k) e q = absurd (cc)
 
       by : (zero none fixed : Bool) → is_none (leader_in s (found s g)) ≡ none → Full (elim (none || (fixed && zero)) as (λ _. Core) [ true ↦ named s g n zero | false ↦ s ])
-      by true true fixed e = at_fold h Every NoGroup ⊥ (λ t (q : Request). take_tell t q.p q.r (GroupsFull 64)) (requests_of s g) (λ t q i k. at_tell t q.p q.r (GroupsFull 64) k) s a
-      by true false true e = at_fold h Every NoGroup ⊥ (λ t (q : Request). take_tell t q.p q.r (GroupsFull 64)) (requests_of s g) (λ t q i k. at_tell t q.p q.r (GroupsFull 64) k) s a
+      by true true fixed e = at_fold (At h Every NoGroup ⊥) (λ t (q : Request). take_tell t q.p q.r (GroupsFull 64)) (requests_of s g) (λ t q i k. at_tell (keeps_quiet h Every NoGroup ⊥) t q.p q.r (GroupsFull 64) k) s a
+      by true false true e = at_fold (At h Every NoGroup ⊥) (λ t (q : Request). take_tell t q.p q.r (GroupsFull 64)) (requests_of s g) (λ t q i k. at_tell (keeps_quiet h Every NoGroup ⊥) t q.p q.r (GroupsFull 64) k) s a
       by true false false e = a
-      by false true fixed e = at_fold h Every NoGroup ⊥ send_request (requests_of s g) (λ t q i k. at_request_sent h Every NoGroup ⊥ t q k) (set_leader s g n) (at_led_by s g n (λ t q. absurd (let z = idle e in cc)) a)
+      by false true fixed e = at_fold (At h Every NoGroup ⊥) send_request (requests_of s g) (λ t q i k. (keeps_quiet h Every NoGroup ⊥).calm t (send_request t q) (request_calm t q) k) (set_leader s g n) (at_led_by s g n (λ t q. absurd (let z = idle e in cc)) a)
       by false false true e = a
       by false false false e = a
 
   -- ---- REQUEST
-
-  at_told_again : (s : Core) (g : List ℕ) (p : ProviderId) (r : ℕ) (o : Option Why) → Full s → Full (tell_again s g p r o)
-  unfolding tell_again
-  at_told_again s g p r None a = a
-  at_told_again s g p r (Some y) a = at_sent h Every NoGroup ⊥ s p.node (body.Tell s.views.view g p r y) a
 
   -- noting itself as leader, the node leads
   module _ (f : Answering) (s : Core) (g : List ℕ) (leads_it : leads (set_leader s g s.views.me) g ≡ true) where
@@ -194,33 +139,12 @@ module _ (h : Turn) where
         let t : Core = set_leader s g s.views.me in
         all_again (decided f t g p r phases x) g (at_decided h Every (Only g) ⊥ f t g p r phases x (every_may h (Only g) ⊥ g refl) (only_led t g leads_it (at_noted a)))
 
-    at_request_after : (p : ProviderId) (r : ℕ) (phases : Phases) (x : Proposal) (d : Decision) (b c : Bool) → Full s → Full (request_after f s g p r phases x d b c)
-    unfolding request_after
-    at_request_after p r phases x d true c a = a
-    at_request_after p r phases x d false true a = at_told_again s g p r d.why a
-    at_request_after p r phases x d false false a = at_request_new p r phases x a
-
-    at_request_at : (p : ProviderId) (r : ℕ) (phases : Phases) (x : Proposal) (o : Option Decision) → Full s → Full (request_at f s g p r phases x o)
-    unfolding request_at
-    at_request_at p r phases x None a = at_request_new p r phases x a
-    at_request_at p r phases x (Some d) a = at_request_after p r phases x d (nat_lt r d.r) (r == d.r) a
-
     pub at_request : (from : ℕ) (p : ProviderId) (r : ℕ) (phases : Phases) (x : Proposal) → Full s → Full (take_request f s from g p r phases x)
-    unfolding take_request
-    at_request from p r phases x a = by (is_group_refused s g)
-      where
-        by : (b : Bool) → Full (elim b as (λ _. Core) [ true ↦ sent s from (body.Name s.views.view g 0) | false ↦ request_at f s g p r phases x (decision_of (led_of s g) p) ])
-        by true = at_sent h Every NoGroup ⊥ s from (body.Name s.views.view g 0) a
-        by false = at_request_at p r phases x (decision_of (led_of s g) p) a
+    at_request from p r phases x a = at_request_taken (keeps_quiet h Every NoGroup ⊥) f s g p r phases x a (at_request_new p r phases x a) from
 
   -- ---- ENTRY and ACK
 
   -- what is counted stays where an entry is put
-  rows_after : (f : Answering) (s : Core) (from : ℕ) (g : List ℕ) (e : Entry) → InNameOrder s.groups → (found (put_and_hand f s (Some from) g e) g).led.tally ≡ (found s g).led.tally
-  unfolding put_and_hand put recorded with_row row_of
-  rows_after f s from g e order =
-      ap (λ rows. (row_found g (find (has_name g) rows)).led.tally) (handed_rows f (put s g e) (Some from) g (len_of s g) (state_of s g) (state_of (put s g e) g) e).0 ∙ ap (λ (z : GroupRow). z.led.tally) (row_here g (λ row. put_row h s row e) (λ x. refl) s order)
-
   -- what the node does not lead is not counted there
   module _ (f : Answering) (s : Core) (from : ℕ) (g : List ℕ) (stable : ℕ) (e : Entry) where
     abbrev Known : Type 0
@@ -232,7 +156,7 @@ module _ (h : Turn) where
         let t : Core = put_and_hand f s (Some from) g e in
         let u : Core = sent t from (body.Ack t.views.view g (len_of t g)) in
         let b : Full t = at_put_and_handed_for h Every Every NoGroup ⊥ f s (Some from) g e before.0 before.1 (λ k less u ne. u) (λ less u t q. absurd (let z = none in cc)) a in
-        let c : Full u = at_sent h Every NoGroup ⊥ t from (body.Ack t.views.view g (len_of t g)) b in
+        let c : Full u = at_sent (keeps_quiet h Every NoGroup ⊥) t from (body.Ack t.views.view g (len_of t g)) b in
         at_forgets h Every NoGroup ⊥ (set_leader u g from) g stable (at_led_by u g from (λ t q. absurd (let z = after in cc)) c)
       where
         none : (found s g).led.tally ≡ None
@@ -248,7 +172,7 @@ module _ (h : Turn) where
 
     at_elsewhere : (b : Bool) → Full s → Full (entry_elsewhere s from g stable b)
     unfolding entry_elsewhere
-    at_elsewhere true a = at_forgets h Every NoGroup ⊥ (sent s from (body.Ack s.views.view g (len_of s g))) g stable (at_sent h Every NoGroup ⊥ s from (body.Ack s.views.view g (len_of s g)) a)
+    at_elsewhere true a = at_forgets h Every NoGroup ⊥ (sent s from (body.Ack s.views.view g (len_of s g))) g stable (at_sent (keeps_quiet h Every NoGroup ⊥) s from (body.Ack s.views.view g (len_of s g)) a)
     at_elsewhere false a = by (holds s g)
       where
         by : (b : Bool) → Full (elim b as (λ _. Core) [ true ↦ forget_below s g stable | false ↦ s ])
@@ -310,31 +234,8 @@ module _ (h : Turn) where
           let j = k t e in
           (j.0, λ run r. let w = j.1 run r in subst (λ y. TallyIs (state_in (found s g).list) now less y × Settled (record ((found s g).led) { tally = Some (tally_fail p t) }) (found s g).list y) z (failed_late (state_in (found s g).list) now less p t w.0, failed_settled (found s g).led (record ((found s g).led) { tally = Some (tally_fail p t) }) (found s g).list p t refl w.1))
 
-  at_gone_waits : (s : Core) (g : List ℕ) (p : ProviderId) → Full s → Full (wait_gone s g p)
-  unfolding wait_gone
-  at_gone_waits s g p a = by (among (state_of s g).members p)
-    where
-      by : (b : Bool) → Full (elim b as (λ _. Core) [ true ↦ with_waiting s g (add_failure p Gone) | false ↦ s ])
-      by true = at_waits h Every NoGroup ⊥ s g (add_failure p Gone) a
-      by false = a
-
-  at_gone_present : (f : Answering) (s : Core) (g : List ℕ) (p : ProviderId) → leads s g ≡ true → Full s → Full (gone_present f s g p)
-  unfolding gone_present led_of row_of
-  at_gone_present f s g p led a =
-      let t : Core = with_led s g (λ l. record l { gone = marked l.gone p }) in
-      let b : At h Every (Only g) ⊥ t = at_led h Every (Only g) ⊥ s g (λ l. record l { gone = marked l.gone p }) (λ l. (refl, refl)) (only_led s g led a) in
-      at_gone_waits (tally_failed f t g p (found t g).led.tally) g p (all_again (tally_failed f t g p (found t g).led.tally) g (at_failed f t g p (found t g).led.tally refl b))
-
-  at_gone_of : (f : Answering) (s : Core) (g : List ℕ) (p : ProviderId) (b c : Bool) → leads s g ≡ true → Full s → Full (gone_of f s g p b c)
-  unfolding gone_of
-  at_gone_of f s g p true c led a = at_gone_present f s g p led a
-  at_gone_of f s g p false true led a = at_waits h Every NoGroup ⊥ s g (drop_join p) a
-  at_gone_of f s g p false false led a = a
-
   pub at_gone : (f : Answering) (s : Core) (g : List ℕ) (p : ProviderId) → Full s → Full (take_gone f s g p)
-  unfolding take_gone
-  at_gone f s g p a = by (leads s g) refl
-    where
-      by : (b : Bool) → leads s g ≡ b → Full (elim b as (λ _. Core) [ true ↦ gone_of f s g p (among (present (state_of s g)) p) (among (led_of s g).waiting.joins p) | false ↦ s ])
-      by true q = at_gone_of f s g p (among (present (state_of s g)) p) (among (led_of s g).waiting.joins p) q a
-      by false q = a
+  unfolding led_of row_of
+  at_gone f s g p a =
+      let t : Core = with_led s g (λ l. record l { gone = marked l.gone p }) in
+      at_gone_taken Full f s g p (λ led. all_again (tally_failed f t g p (found t g).led.tally) g (at_failed f t g p (found t g).led.tally refl (at_led h Every (Only g) ⊥ s g (λ l. record l { gone = marked l.gone p }) (λ l. (refl, refl)) (only_led s g led a)))) (λ u k. at_waits h Every NoGroup ⊥ u g (add_failure p Gone) k) (at_waits h Every NoGroup ⊥ s g (drop_join p) a) a

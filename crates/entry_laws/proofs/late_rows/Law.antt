@@ -6,7 +6,6 @@ use Rattle.std.specs.Str.{bytes_eq}
 use Rattle.std.proofs.lemmas.Bool.{eq-eqb}
 use Rattle.rsct_packet.specs.declared.ids.Member.{Member}
 use Rattle.rsct_packet.specs.Search.{Has}
-use Rattle.rsct_packet.proofs.HasLaws.{append_has_left, has_reverse, reverse_has}
 use Rattle.view_state.specs.Views.{views_new}
 use Rattle.node_state.specs.declared.config.Config.{Config}
 use Rattle.node_state.specs.declared.group.GroupRow.{GroupRow}
@@ -27,7 +26,6 @@ use Rattle.step_refinement.specs.Tied.{Scene, Tied}
 use Rattle.step_refinement.specs.Rules.{over, Arises}
 use Rattle.step_refinement.specs.Runs.{Reached, Nothing, AllStart, Starts, Stops, Steps, Notes}
 use Rattle.step_refinement.proofs.Begins.{begin_tied}
-use Rattle.step_refinement.proofs.Turns.{has_turned}
 use Rattle.step_refinement.proofs.RunLaw.{reached_rests}
 use Rattle.run_induction.proofs.Idle.{Idle, Elsewhere, other_node, stay_elsewhere, enters_elsewhere, within_idle, Came, started_turned, first_stay, came_is, came_stays}
 use Rattle.run_induction.proofs.Ran as runs
@@ -177,7 +175,7 @@ step_done w n f s e v begins arises noted k was =
     record {
       sends = λ p i. tt;
       node = core;
-      others = λ m ne d up b. next_aside w.config m w.before (over v t) d (λ r i. mine_aside n m (λ q. ne (sym q)) r (a.mine r (reverse_has r t.records (has_reverse r t.records i)))) b;
+      others = λ m ne d up b. next_aside w.config m w.before (over v t) d (λ r i. mine_aside n m (λ q. ne (sym q)) r (a.mine r i)) b;
       lines = ((a.puts, k.0), (a.told, k.1));
     }
   where

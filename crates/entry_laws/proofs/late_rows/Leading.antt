@@ -15,8 +15,7 @@ use Rattle.proposal_core.specs.declared.entry.Entry.{Entry}
 use Rattle.proposal_core.specs.declared.entry.Entry.TheVariants.{Once, Begin, Late}
 use Rattle.proposal_core.specs.declared.group_state.GroupState.{GroupState}
 use Rattle.proposal_core.specs.declared.group_state.Running.{Running}
-use Rattle.proposal_core.specs.Fold.{max_phases, fits, begun, approve, apply, after_if, after}
-use Rattle.proposal_core.proofs.FoldLaws.{idle_approved}
+use Rattle.proposal_core.specs.Fold.{max_phases, fits, apply, after}
 use Rattle.proposal_core.specs.GroupView.{GroupView}
 use Rattle.proposal_core.specs.Lists.{list_or_new, state_in, has_room, entry_fits, with_entry, forgotten}
 use Rattle.batch_rules.specs.Waiting.{WaitingView, add_failure}
@@ -34,12 +33,15 @@ use Rattle.node_state.specs.HandOn.{Answering, hand_on}
 use Rattle.node_state.specs.Leading.{put, put_and_hand, forget_least, with_waiting, wait_if, new_members_wait, appended, append_if_fits, tally_for, tally_set, tally_opened, closing_entry, is_phase, closes_from, closes, begin_many, begins}
 use Rattle.run_safety.specs.Past.{records_of}
 use Rattle.run_safety.specs.SafeHeard.{enters}
+use Rattle.entry_laws.proofs.closing_rows.Quiet.{at_fold, at_handed}
+use Rattle.entry_laws.proofs.closing_rows.Calms.{calm_all}
 use Rattle.entry_laws.specs.late_rows.Late.{opens, ticks_of, stay_state, state_here, EntryLate, RecordLate}
 use Rattle.entry_laws.specs.late_rows.Announced.{members_now, entries_here, EntryTold, RecordTold}
-use Rattle.entry_laws.proofs.late_rows.At.{Turn, ticks_now, tick_here, TallyIs, late_voters, Settled, RowIs, Alike, found, leads_row, At, at_for, at_fold, at_row_for, row_is_same, ticks_plain}
+use Rattle.entry_laws.proofs.late_rows.At.{Turn, ticks_now, tick_here, TallyIs, late_voters, Settled, RowIs, Alike, found, leads_row, At, at_for, at_row_for, row_is_same, ticks_silent, keeps_quiet}
 use Rattle.entry_laws.proofs.late_rows.Puts.{put_row, put_record, at_put_for, opens_none}
-use Rattle.entry_laws.proofs.late_rows.Hands.{at_sent_all, at_handed}
 use Rattle.entry_laws.proofs.late_rows.Tallies.{closing_late, opened_late, opened_settled, settled_told}
+use Rattle.row_laws.proofs.honest_votes.Changes.{once_idle}
+use Rattle.row_laws.proofs.honest_votes.Changes as votes
 
 -- ---- lists
 
@@ -54,18 +56,8 @@ forgotten_same (Some l) n = by (nat_le n l.len)
 
 -- one of who is late leaves the state
 pub late_same : (st : GroupState) (v : ViewId) (i : ℕ) (proto : ProtoId) (phase : ℕ) (ps : List ProviderId) → after st v i (Late proto phase ps) ≡ st
-unfolding after after_if apply
-late_same st v i proto phase ps = by (fits st (Late proto phase ps))
-  where
-    by : (b : Bool) → after_if st v i (Late proto phase ps) b ≡ st
-    by true = refl
-    by false = refl
-
--- one that begins and ends at once leaves nothing running
-once_idle : (st : GroupState) (v : ViewId) (i : ℕ) (y : Proposal) → fits st (Once y) ≡ true → (after st v i (Once y)).running ≡ None
-unfolding after after_if apply approve
-once_idle st v i y e =
-    ap (λ b. (after_if st v i (Once y) b).running) e ∙ idle_approved (begun st v i y) v i None (begun st v i y).running refl
+unfolding apply
+late_same st v i proto phase ps = votes.late_same st v i (Late proto phase ps) refl
 
 none_closes : (led : Led) (p : Option Running) (e : Entry) → closing_entry led None p ≡ Some e → ⊥
 unfolding closing_entry
@@ -105,7 +97,7 @@ module _ (x : Turn) where
     pub at_put_and_handed_for : (f : Answering) (s : Core) (to : Option ℕ) (g : List ℕ) (e : Entry) → RecordLate x.event (reverse s.records) x.before (put_record x s g e) → RecordTold x.config (reverse s.records) x.before (put_record x s g e) → ((k : List ℕ) (less : ℕ) → U k less → (g ≡ k → ⊥) → T k less) → ((less : ℕ) → U g less → RowIs (ticks_now x g (put_record x s g e ∷ reverse s.records)) less (leads_row s (found s g)) (put_row x s (found s g) e)) → At x T G E s → At x U G E (put_and_hand f s to g e)
     unfolding put_and_hand
     at_put_and_handed_for f s to g e ok told others own a =
-        at_handed x U G E f (put s g e) to g (len_of s g) (state_of s g) (state_of (put s g e) g) e (at_put_for x T U G E s g e ok told others own a)
+        at_handed (keeps_quiet x U G E) f (put s g e) to g (len_of s g) (state_of s g) (state_of (put s g e) g) e (at_put_for x T U G E s g e ok told others own a)
 
   module _ (T : List ℕ → ℕ → Type 0) (G : List ℕ → Type 0) (E : Type 0) where
     -- a row changes, and neither its tally nor the state
@@ -139,7 +131,7 @@ module _ (x : Turn) where
     at_new_members : (s : Core) (g : List ℕ) (before after : GroupState) → At x T G E s → At x T G E (new_members_wait s g before after)
     unfolding new_members_wait
     at_new_members s g before after a =
-        at_fold x T G E (λ t p. wait_if t g p (among after.failed p) (among (led_of s g).gone p)) (filter (λ p. not (among before.members p)) after.members) (λ t p i k. at_waits_if t g p (among after.failed p) (among (led_of s g).gone p) k) s a
+        at_fold (At x T G E) (λ t p. wait_if t g p (among after.failed p) (among (led_of s g).gone p)) (filter (λ p. not (among before.members p)) after.members) (λ t p i k. at_waits_if t g p (among after.failed p) (among (led_of s g).gone p) k) s a
 
   module _ (T U : List ℕ → ℕ → Type 0) (G : List ℕ → Type 0) (E : Type 0) where
     pub at_appended_for : (f : Answering) (s : Core) (g : List ℕ) (e : Entry) → EntryLate (state_in (found s g).list) (ticks_now x g (reverse s.records)) e → TellsAll s g e → ((k : List ℕ) (less : ℕ) → U k less → (g ≡ k → ⊥) → T k less) → ((less : ℕ) → U g less → RowIs (ticks_now x g (put_record x s g e ∷ reverse s.records)) less (leads_row s (found s g)) (put_row x s (found s g) e)) → At x T G E s → At x U G E (appended f s g e)
@@ -149,8 +141,8 @@ module _ (x : Turn) where
         let u : Core = send_all t (others t) (body.Entry t.views.view g (len_of s g) (least_acked t g) e) in
         let w : Core = hand_on f u (leader_of u g) g (len_of s g) (state_of s g) (state_of t g) e in
         let put_at : At x U G E t = at_put_for x T U G E s g e (put_late T G E s g e ok a) (put_told T G E s g e told a) rest own a in
-        let sent_at : At x U G E u = at_sent_all x U G E (others t) t (body.Entry t.views.view g (len_of s g) (least_acked t g) e) put_at in
-        let handed_at : At x U G E w = at_handed x U G E f u (leader_of u g) g (len_of s g) (state_of s g) (state_of t g) e sent_at in
+        let sent_at : At x U G E u = (keeps_quiet x U G E).calm t u (calm_all t (others t) (body.Entry t.views.view g (len_of s g) (least_acked t g) e)) put_at in
+        let handed_at : At x U G E w = at_handed (keeps_quiet x U G E) f u (leader_of u g) g (len_of s g) (state_of s g) (state_of t g) e sent_at in
         at_new_members U G E (forget_least w g) g (state_of s g) (state_of t g) (at_forgets_least U G E w g handed_at)
 
   -- ---- the tally of a phase
@@ -258,7 +250,7 @@ module _ (x : Turn) where
     pub at_announces : (f : Answering) (s : Core) (g : List ℕ) (proto : ProtoId) (phase : ℕ) (ps : List ProviderId) → EntryLate (state_in (found s g).list) (ticks_now x g (reverse s.records)) (Late proto phase ps) → ((t : TallyView) → (found s g).led.tally ≡ Some t → late_voters t.voters ≡ []) → At x T G E s → At x T G E (appended f s g (Late proto phase ps))
     unfolding with_entry
     at_announces f s g proto phase ps ok nobody a =
-        at_appended_for T T G E f s g (Late proto phase ps) ok (λ two. tt) (λ k less u ne. u) (λ less u. subst (λ n. RowIs n less (leads_row s (found s g)) (put_row x s (found s g) (Late proto phase ps))) (sym (ticks_plain x g (put_record x s g (Late proto phase ps)) (reverse s.records) refl (opens_none x.node s.views.me s.views.view g g (len_of s g) (Late proto phase ps) refl))) (own less (a.tallies g less u))) a
+        at_appended_for T T G E f s g (Late proto phase ps) ok (λ two. tt) (λ k less u ne. u) (λ less u. subst (λ n. RowIs n less (leads_row s (found s g)) (put_row x s (found s g) (Late proto phase ps))) (sym (ticks_silent x g (put_record x s g (Late proto phase ps)) (reverse s.records) refl (opens_none x.node s.views.me s.views.view g g (len_of s g) (Late proto phase ps) refl))) (own less (a.tallies g less u))) a
       where
         same : state_in (put_row x s (found s g) (Late proto phase ps)).list ≡ state_in (found s g).list
         same = late_same (state_in (found s g).list) s.views.view (list_or_new (found s g).list).len proto phase ps

@@ -1,5 +1,5 @@
 -- A node puts an entry.
-use Rattle.std.proofs.Common.{◌≡◌, ◌⊎◌, ℕ, suc, ◌+◌, List, [], ◌∷◌, ◌++◌, length, Option, Some, Bool, true, false, refl, sym, ap, ◌∙◌, subst, inl, inr, arith, length-append}
+use Rattle.std.proofs.Common.{◌≡◌, ℕ, ◌+◌, List, [], ◌∷◌, ◌++◌, length, Option, Some, Bool, true, false, refl, sym, ap, ◌∙◌, subst, inl, inr, arith, length-append}
 use Rattle.std.specs.Prelude.{◌==◌, ◌&&◌, reverse, if◌then◌else◌}
 use Rattle.std.specs.Str.{bytes_eq}
 use Rattle.std.proofs.lemmas.List.{reverse-append}
@@ -7,7 +7,6 @@ use Rattle.std.proofs.lemmas.Bool.{eq-eqb}
 use Rattle.rsct_packet.specs.declared.ids.ViewId.{ViewId}
 use Rattle.rsct_packet.specs.Search.{Has}
 use Rattle.proposal_core.specs.declared.entry.Entry.{Entry}
-use Rattle.proposal_core.specs.declared.group_state.GroupState.{GroupState}
 use Rattle.proposal_core.specs.GroupView.{GroupView}
 use Rattle.proposal_core.specs.Fold.{after}
 use Rattle.proposal_core.specs.Lists.{list_or_new, with_entry}
@@ -18,23 +17,18 @@ use Rattle.node_state.specs.declared.state.Core.{Core}
 use Rattle.node_state.specs.State.{row_of, with_row, len_of, recorded}
 use Rattle.node_state.specs.Leading.{put}
 use Rattle.run_safety.specs.Past.{records_of, fold_from}
-use Rattle.run_safety.specs.Stays.{Stay, stays_after, stays}
+use Rattle.run_safety.specs.Stays.{Stay, stays}
 use Rattle.run_safety.specs.Stays as stay
-use Rattle.node_state.proofs.NameOrder.{cases_text, text_self, text_other, row_here, row_there, rows_ordered}
+use Rattle.node_state.proofs.NameOrder.{text_self, text_other, rows_ordered}
+use Rattle.entry_laws.proofs.closing_rows.At.{row_with}
 use Rattle.entry_laws.specs.late_rows.Announced.{RecordTold}
 use Rattle.entry_laws.specs.late_rows.Late.{opens, opens_phase, RecordLate}
-use Rattle.entry_laws.proofs.late_rows.At.{Turn, ticks_now, RowIs, Folds, Mine, found, leads_row, AtOf, At, ticks_plain}
+use Rattle.entry_laws.proofs.late_rows.At.{Turn, ticks_now, RowIs, Folds, Mine, found, leads_row, AtOf, At, ticks_silent}
+use Rattle.step_refinement.proofs.Puts.{fold_pushed}
 
 and_false : (b : Bool) → (b && false) ≡ false
 and_false true = refl
 and_false false = refl
-
--- one entry more
-fold_end : (v : ViewId) (s : GroupState) (i : ℕ) (es : List Entry) (e : Entry) → fold_from v s i (es ++ e ∷ []) ≡ after (fold_from v s i es) v (i + length es) e
-fold_end v s i [] e = let q : i ≡ i + 0 = omega arith in ap (λ k. after s v k e) q
-fold_end v s i (d ∷ es) e =
-    let q : (i + 1) + length es ≡ i + suc (length es) = omega arith in
-    fold_end v (after s v i d) (i + 1) es e ∙ ap (λ k. after (fold_from v (after s v i d) (i + 1) es) v k e) q
 
 -- it opens no phase of another group
 pub opens_other : (n m : ℕ) (v : ViewId) (g k : List ℕ) (i : ℕ) (e : Entry) → (g ≡ k → ⊥) → opens n k (happened.Put m v g i e) ≡ false
@@ -71,7 +65,7 @@ module _ (x : Turn) where
       from_first = omega arith
 
       state : after (list_or_new l).state view (list_or_new l).len e ≡ fold_from f.stay.view f.stay.base 0 (f.stay.entries ++ e ∷ [])
-      state = (λ i. after (f.state i) (sym f.at_view i) (f.len i) e) ∙ ap (λ k. after (fold_from f.stay.view f.stay.base 0 f.stay.entries) f.stay.view k e) from_first ∙ sym (fold_end f.stay.view f.stay.base 0 f.stay.entries e)
+      state = (λ i. after (f.state i) (sym f.at_view i) (f.len i) e) ∙ ap (λ k. after (fold_from f.stay.view f.stay.base 0 f.stay.entries) f.stay.view k e) from_first ∙ sym (fold_pushed f.stay.view f.stay.entries f.stay.base 0 e)
 
   abbrev pub put_row : Core → GroupRow → Entry → GroupRow
   put_row s row e = record row { list = Some (with_entry (list_or_new row.list) s.views.view e) }
@@ -91,9 +85,9 @@ module _ (x : Turn) where
           told = (told, a.told);
           mine = λ y i. by y i;
           order = rows_ordered g f (λ y. refl) s a.order;
-          folds = λ k. fold_at k (cases_text g k);
-          tallies = λ k less u. tally k less u (cases_text g k);
-          led = λ k i. leads k i (cases_text g k);
+          folds = row_with (λ k row. Folds x k s.views.view now row.list) s g f (λ y. refl) a.order (folds_put g s.views.view (reverse s.records) s.views.me (len_of s g) e (found s g).list a.me_is (a.folds g)) (λ k ne. folds_other g k s.views.view (reverse s.records) s.views.me (len_of s g) e (found s k).list ne (a.folds k));
+          tallies = λ k less. row_with (λ k row. U k less → RowIs (ticks_now x k now) less (leads_row s row) row) s g f (λ y. refl) a.order (own less) (λ k ne u. subst (λ t. RowIs t less (leads_row s (found s k)) (found s k)) (sym (ticks_silent x k (put_record s g e) (reverse s.records) refl (opens_other x.node s.views.me s.views.view g k (len_of s g) e ne))) (a.tallies k less (others k less u ne))) k;
+          led = row_with (λ k row. G k → leads_row s row ≡ true) s g f (λ y. refl) a.order (a.led g) (λ k ne. a.led k);
           entered = a.entered;
         })
       where
@@ -106,25 +100,3 @@ module _ (x : Turn) where
         by : (y : Happened) → Has y now → Mine x.node y
         by y (inl q) = subst (Mine x.node) (sym q) a.me_is
         by y (inr i) = a.mine y i
-
-        here : found (with_row s g f) g ≡ f (found s g)
-        here = row_here g f (λ y. refl) s a.order
-
-        there : (k : List ℕ) → (g ≡ k → ⊥) → found (with_row s g f) k ≡ found s k
-        there k ne = row_there g f (λ y. refl) s k ne
-
-        fold_at : (k : List ℕ) → (g ≡ k) ⊎ (g ≡ k → ⊥) → Folds x k s.views.view now (found (with_row s g f) k).list
-        fold_at k (inl q) =
-            subst (λ z. Folds x z s.views.view now (found (with_row s g f) z).list) q (subst (λ (z : GroupRow). Folds x g s.views.view now z.list) (sym here) (folds_put g s.views.view (reverse s.records) s.views.me (len_of s g) e (found s g).list a.me_is (a.folds g)))
-        fold_at k (inr ne) =
-            subst (λ (z : GroupRow). Folds x k s.views.view now z.list) (sym (there k ne)) (folds_other g k s.views.view (reverse s.records) s.views.me (len_of s g) e (found s k).list ne (a.folds k))
-
-        tally : (k : List ℕ) (less : ℕ) → U k less → (g ≡ k) ⊎ (g ≡ k → ⊥) → RowIs (ticks_now x k now) less (leads_row s (found (with_row s g f) k)) (found (with_row s g f) k)
-        tally k less u (inl q) =
-            subst (λ z. RowIs (ticks_now x z now) less (leads_row s (found (with_row s g f) z)) (found (with_row s g f) z)) q (subst (λ z. RowIs (ticks_now x g now) less (leads_row s z) z) (sym here) (own less (subst (λ z. U z less) (sym q) u)))
-        tally k less u (inr ne) =
-            subst (λ z. RowIs (ticks_now x k now) less (leads_row s z) z) (sym (there k ne)) (subst (λ t. RowIs t less (leads_row s (found s k)) (found s k)) (sym (ticks_plain x k (put_record s g e) (reverse s.records) refl (opens_other x.node s.views.me s.views.view g k (len_of s g) e ne))) (a.tallies k less (others k less u ne)))
-
-        leads : (k : List ℕ) → G k → (g ≡ k) ⊎ (g ≡ k → ⊥) → leads_row s (found (with_row s g f) k) ≡ true
-        leads k i (inl q) = subst (λ z. leads_row s (found (with_row s g f) z) ≡ true) q (ap (leads_row s) here ∙ a.led g (subst G (sym q) i))
-        leads k i (inr ne) = ap (leads_row s) (there k ne) ∙ a.led k i

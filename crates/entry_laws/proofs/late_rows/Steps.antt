@@ -1,15 +1,12 @@
 -- A whole step keeps what a leader counts.
-use Rattle.std.proofs.Common.{◌≡◌, ℕ, List, [], ◌∷◌, ◌++◌, length, Option, Some, Bool, true, false, refl, sym, ap, ◌∙◌, subst, arith}
-use Rattle.std.specs.Prelude.{◌==◌, slice_get, reverse}
-use Rattle.std.proofs.lemmas.Bool.{eqb-true, eq-eqb}
+use Rattle.std.proofs.Common.{◌≡◌, ℕ, List, [], ◌++◌, Option, Some, Bool, true, false, refl, sym, ◌∙◌, subst, arith}
+use Rattle.std.specs.Prelude.{◌==◌, reverse}
+use Rattle.std.proofs.lemmas.Bool.{eqb-true}
 use Rattle.rsct_packet.specs.declared.ids.ViewId.{ViewId}
-use Rattle.rsct_packet.specs.declared.ids.ProviderId.{ProviderId}
 use Rattle.rsct_packet.specs.declared.mask.Mask.{Mask}
 use Rattle.rsct_packet.specs.Search.{Has}
 use Rattle.rsct_packet.proofs.HasLaws.{append_has_right}
-use Rattle.group_attr.specs.declared.attrs.Phases.{Phases}
 use Rattle.proposal_core.specs.declared.entry.Entry.{Entry}
-use Rattle.proposal_core.specs.declared.proposal.Proposal.{Proposal}
 use Rattle.view_state.specs.declared.install.Install.{Install}
 use Rattle.view_state.specs.declared.exchange.Exchange.{Exchange}
 use Rattle.view_state.specs.Answers.{opened, with_answer, install_of}
@@ -17,93 +14,39 @@ use Rattle.view_state.specs.declared.packet.ViewPacket.{ViewPacket}
 use Rattle.view_state.specs.declared.packet.ViewPacket.TheVariants as view
 use Rattle.view_state.specs.declared.views.ViewWork.{ViewWork}
 use Rattle.view_state.specs.Views.{views_at_work, own_answer, next_view, gathering_ticks, install_again, ask_rule, prepare_rule, answer_rule, refuse_rule, install_rule, taken_rule}
-use Rattle.node_state.specs.declared.config.Mode.{Mode}
-use Rattle.node_state.specs.declared.config.Mode.TheVariants.{Fixed, Asked, Rings}
-use Rattle.node_state.specs.declared.group.GroupRow.{GroupRow}
 use Rattle.node_state.specs.declared.packet.Body.{Body}
 use Rattle.node_state.specs.declared.packet.Body.TheVariants as body
 use Rattle.node_state.specs.declared.packet.Packet.{Packet}
 use Rattle.node_state.specs.declared.state.Core.{Core}
 use Rattle.node_state.specs.Settings.{is_fixed}
-use Rattle.node_state.specs.State.{row_of, list_of, with_row, len_of, is_this, leader_by, leader_in, leads_in, leads, set_leader}
+use Rattle.node_state.specs.State.{row_of, list_of, len_of}
 use Rattle.node_state.specs.HandOn.{Answering}
 use Rattle.node_state.specs.Following.{take_lookup, take_name, take_request, take_tell, take_entry, take_ack, take_vote, take_gone}
 use Rattle.node_state.specs.Applying.{own_parts, views_taken}
 use Rattle.node_state.specs.Status.{status_text}
-use Rattle.node_state.specs.Ticks.{ring_ask, tick_rings, tick_views, tick_owed, tick_rule}
-use Rattle.node_state.specs.Ending.{end_step}
-use Rattle.node_state.specs.Step.{NodeEvent, Ticks, Asks, Given, Calls, Garbage, is_used, used_if, take_order, view_rule, take_body, packet_rule, event_rule, stepped, at_work}
+use Rattle.node_state.specs.Ticks.{ring_ask, tick_rings, tick_views, tick_owed}
+use Rattle.node_state.specs.Step.{NodeEvent, Ticks, Asks, Given, Calls, Garbage, is_used, used_if, take_order, view_rule, take_body, packet_rule, stepped, at_work}
 use Rattle.world_model.specs.declared.event.Event.{Event}
 use Rattle.run_safety.specs.Past.{records_of}
-use Rattle.run_safety.specs.Group.{member}
-use Rattle.run_safety.specs.Group as group
-use Rattle.run_safety.proofs.Whole.{Whole}
-use Rattle.run_safety.proofs.Lives.{whole}
-use Rattle.run_safety.proofs.Parts.{member_parts}
-use Rattle.node_state.proofs.NameOrder.{row_here}
-use Rattle.step_refinement.specs.Tied.{ShowsBody, ShowsEntry, ShowsLeader, ShowsRequest, Scene, opening_of, Tied}
+use Rattle.step_refinement.proofs.Steps.{stepped_is}
+use Rattle.step_refinement.specs.Tied.{ShowsBody, ShowsEntry, Scene, Tied}
 use Rattle.step_refinement.specs.Rules.{acted, Arises}
 use Rattle.step_refinement.proofs.Acks.{used_is}
-use Rattle.step_refinement.proofs.Leads.{leader_inc, leads_known}
-use Rattle.step_refinement.proofs.RowWorks.{len_is}
 use Rattle.step_refinement.proofs.Rings.{rings_part_tied}
 use Rattle.step_refinement.proofs.ViewTicks.{rings_free}
 use Rattle.step_refinement.proofs.Gatherings.{counted_tied, opened_tied}
 use Rattle.step_refinement.proofs.Founding.{lacking_same}
+use Rattle.entry_laws.proofs.closing_rows.Quiet.{at_sent_on, at_tell, at_ring, at_report, at_rings_part, at_call}
+use Rattle.entry_laws.proofs.closing_rows.Calms.{owed_part_calm}
 use Rattle.entry_laws.specs.late_rows.Late.{tick_of, PutBefore}
-use Rattle.entry_laws.proofs.late_rows.At.{Turn, At}
-use Rattle.entry_laws.proofs.late_rows.Hands.{at_sent_on}
+use Rattle.entry_laws.proofs.late_rows.At.{Turn, At, keeps_quiet}
 use Rattle.entry_laws.proofs.late_rows.Ending.{Every, NoGroup, at_step_ended}
 use Rattle.entry_laws.proofs.late_rows.Brought.{Brings, sent_before, sent_brings, made_brings}
 use Rattle.entry_laws.proofs.late_rows.ViewWorks.{Work, Alone, begun_work, ask_work, prepare_work, answer_work, refuse_work, install_work, taken_work, ticks_work, install_again_work}
 use Rattle.entry_laws.proofs.late_rows.Entering.{Brought, Fresh, at_views_taken}
-use Rattle.entry_laws.proofs.late_rows.Ticking.{Unticked, at_ring_rule, at_report, at_rings_part, at_owed_part, at_led_part}
-use Rattle.entry_laws.proofs.late_rows.Following.{at_lookup, at_name, at_request, at_tell, at_entry, at_ack, at_vote, at_gone}
-use Rattle.entry_laws.proofs.late_rows.Calling.{at_call}
-
-past_end : (xs : List Entry) (e : Entry) → slice_get xs (length xs) ≡ Some e → ⊥
-past_end [] e q = absurd (cc)
-past_end (x ∷ xs) e q = past_end xs e q
-
--- a leader has all that was sent of its view: no entry comes to it at its length
-entry_follows : (v : ViewId) (g : List ℕ) (place stable : ℕ) (e : Entry) (w : Scene) (n : ℕ) (s : Core) (p : Packet) → p.body ≡ body.Entry v g place stable e → Has p w.sent → Tied g w n s → is_used s p v ≡ true → (place == len_of s g) ≡ true → leads s g ≡ true → ⊥
-entry_follows v g place stable e w n s p is delivered t used at led =
-    let k = used_is s p v used in
-    let shown : ShowsEntry t.ghost p.from p.inc v place stable e = (subst (ShowsBody t.ghost g p.from p.inc p.to) is (t.packets p (append_has_right p s.sends w.sent delivered))) refl in
-    let o : Whole (opening_of w.config) t.ghost.nodes t.ghost.ps t.ghost.all t.ghost.leads t.ghost.bases = whole t.life in
-    let stands = t.own.0.stands in
-    let get : slice_get (o.log v) place ≡ Some e = o.good.inv.packet (group.Append v place e) shown.sent in
-    let known = leads_known g w n s t led in
-    let list : (t.ghost.nodes n).list ≡ o.log (t.ghost.nodes n).view = (o.good.inv.node n).whole s.views.inc (ap t.ghost.leads stands.view ∙ known) in
-    let here : (t.ghost.nodes n).view ≡ v = stands.view ∙ sym k.0 in
-    let all : (t.ghost.nodes n).list ≡ o.log v = list ∙ ap o.log here in
-    let end : place ≡ length (t.ghost.nodes n).list = eqb-true place (len_of s g) at ∙ len_is g w n s t in
-    let past : slice_get (t.ghost.nodes n).list (length (t.ghost.nodes n).list) ≡ slice_get (o.log v) place = λ i. slice_get (all i) (sym end i) in
-    past_end (t.ghost.nodes n).list e (past ∙ get)
-
--- a node that is sent a request leads the group, once it has noted that
-request_leads : (v : ViewId) (g : List ℕ) (q : ProviderId) (r : ℕ) (phases : Phases) (x : Proposal) (w : Scene) (n : ℕ) (s : Core) (p : Packet) → p.body ≡ body.Request v g q r phases x → p.to ≡ n → Has p w.sent → Tied g w n s → is_used s p v ≡ true → leads (set_leader s g s.views.me) g ≡ true
-unfolding leads leads_in leader_in set_leader with_row
-request_leads v g q r phases x w n s p is to delivered t used = by s.config.mode t.own.0.led
-  where
-    shown : ShowsRequest t.ghost p.to v q r x
-    shown = (subst (ShowsBody t.ghost g p.from p.inc p.to) is (t.packets p (append_has_right p s.sends w.sent delivered))).2 refl
-
-    here : t.ghost.leads s.views.view ≡ Some (member n s.views.inc)
-    here =
-        let k = shown.leader in
-        leader_inc g w n s t (record { inc = k.inc; leads = ap t.ghost.leads (sym (used_is s p v used).0) ∙ k.leads ∙ ap (λ m. Some (member m k.inc)) to })
-
-    coordinates : ShowsLeader t.ghost s.views.view s.views.view.coord → s.views.view.coord ≡ n
-    coordinates k = (member_parts s.views.view.coord n k.inc s.views.inc (sym k.leads ∙ here)).0
-
-    row : (row_of (with_row s g (λ row. record row { leader = Some s.views.me })) g).leader ≡ Some s.views.me
-    row = ap (λ (z : GroupRow). z.leader) (row_here g (λ row. record row { leader = Some s.views.me }) (λ z. refl) s t.own.0.order)
-
-    by : (mode : Mode) → (is_fixed mode ≡ true → ShowsLeader t.ghost s.views.view s.views.view.coord) → is_this s.views.me (leader_by mode s.views.view.coord (row_of (with_row s g (λ row. record row { leader = Some s.views.me })) g).leader) ≡ true
-    by Fixed led = eq-eqb s.views.view.coord s.views.me (coordinates (led refl) ∙ sym t.own.0.stands.me)
-    by Asked led = ap (is_this s.views.me) row ∙ eq-eqb s.views.me s.views.me refl
-    by Rings led = ap (is_this s.views.me) row ∙ eq-eqb s.views.me s.views.me refl
+use Rattle.entry_laws.proofs.late_rows.Ticking.{Unticked, at_led_part}
+use Rattle.entry_laws.proofs.late_rows.Following.{at_lookup, at_name, at_request, at_entry, at_ack, at_vote, at_gone}
+use Rattle.row_laws.proofs.honest_votes.Steps.{entry_follows, request_leads}
 
 -- an entry that comes at a list's end was put before
 entry_before : (v : ViewId) (g : List ℕ) (place stable : ℕ) (e : Entry) (w : Scene) (n : ℕ) (s : Core) (p : Packet) → p.body ≡ body.Entry v g place stable e → Has p w.sent → Tied g w n s → is_used s p v ≡ true → (place == len_of s g) ≡ true → PutBefore (reverse s.records ++ records_of w.before) s.views.view g (len_of s g)
@@ -171,21 +114,21 @@ module _ (own : Option Event) (w : Scene) (n : ℕ) (f : Answering) (s : Core) (
 
     body_at : (p : Packet) (b : Body) → p.body ≡ b → p.to ≡ n → Has p w.sent → Full (take_body f s p b)
     unfolding take_body
-    body_at p (body.Ring y) is to sent = at_ring_rule x Every s p.network p.from p.inc y a
-    body_at p (body.Report rows) is to sent = at_report x Every s rows a
+    body_at p (body.Ring y) is to sent = at_ring (keeps_quiet x Every NoGroup ⊥) s p.network p.from p.inc y a
+    body_at p (body.Report rows) is to sent = at_report (keeps_quiet x Every NoGroup ⊥) s rows a
     body_at p (body.View y) is to sent = view_at p y is sent
     body_at p (body.Lookup v g) is to sent = used (take_lookup s p.from g) (is_used s p v) (λ u. at_lookup x s p.from g a)
     body_at p (body.Name v g k) is to sent = used (take_name s g k) (is_used s p v) (λ u. at_name x s g k a)
     body_at p (body.Request v g q r phases y) is to sent =
         used (take_request f s p.from g q r phases y) (is_used s p v) (λ u. at_request x f s g (request_leads v g q r phases y w n s p is to sent (all g) u) p.from q r phases y a)
-    body_at p (body.Tell v g q r why) is to sent = used (take_tell s q r why) (is_used s p v) (λ u. at_tell x s q r why a)
+    body_at p (body.Tell v g q r why) is to sent = used (take_tell s q r why) (is_used s p v) (λ u. at_tell (keeps_quiet x Every NoGroup ⊥) s q r why a)
     body_at p (body.Entry v g i k e) is to sent =
         used (take_entry f s p.from g i k e) (is_used s p v) (λ u. at_entry x f s p.from g k e i (λ at. let before = entry_before v g i k e w n s p is sent (all g) u at in ((λ first. absurd (first before), λ first two. absurd (first before)), λ led. entry_follows v g i k e w n s p is sent (all g) u at led)) a)
     body_at p (body.Ack v g k) is to sent = used (take_ack s p.from g k) (is_used s p v) (λ u. at_ack x s p.from g k a)
     body_at p (body.Vote v g proto phase q ballot value message) is to sent =
         used (take_vote f s g proto phase q ballot value message) (is_used s p v) (λ u. at_vote x f s g proto phase q ballot value message a)
     body_at p (body.Gone v g q) is to sent = used (take_gone f s g q) (is_used s p v) (λ u. at_gone x f s g q a)
-    body_at p (body.Query question what) is to sent = at_sent_on x Every NoGroup ⊥ s p.network p.from (body.Reply question (status_text s what)) a
+    body_at p (body.Query question what) is to sent = at_sent_on (keeps_quiet x Every NoGroup ⊥) s p.network p.from (body.Reply question (status_text s what)) a
     body_at p (body.Reply question text) is to sent = a
 
     order_at : (mask : Mask) → Full (take_order f s mask)
@@ -203,14 +146,6 @@ module _ (own : Option Event) (w : Scene) (n : ℕ) (f : Answering) (s : Core) (
         by : (b : Bool) → (p.to == s.views.me) ≡ b → Full (elim b as (λ _. Core) [ true ↦ take_body f s p p.body | false ↦ s ])
         by false e = a
         by true e = body_at p p.body refl (eqb-true p.to s.views.me e ∙ (all []).own.0.stands.me) sent
-
-stepped_is : (f : Answering) (s : Core) (e : NodeEvent) → stepped f s e ≡ end_step f (acted f (at_work s) e)
-unfolding stepped event_rule tick_rule
-stepped_is f s Ticks = refl
-stepped_is f s (Asks mask) = refl
-stepped_is f s (Given p) = refl
-stepped_is f s (Calls c) = refl
-stepped_is f s Garbage = refl
 
 -- what is claimed as a step begins: a tick is still to count
 abbrev pub Begins : NodeEvent → List ℕ → ℕ → Type 0
@@ -232,9 +167,9 @@ module _ (own : Option Event) (w : Scene) (n : ℕ) (f : Answering) (s : Core) (
       let tied : (h : List ℕ) → Tied h w n r = λ h. rings_part_tied h w n s (all h) in
       let fresh : Fresh y Unticked = λ g. ((1, refl), λ less q. omega arith) in
       let v : Core = tick_views f r in
-      at_led_part y f (tick_owed v) (at_owed_part y Unticked v (at_views_part own w n f r tied Unticked fresh (at_rings_part y Unticked s a)))
+      at_led_part y f (tick_owed v) ((keeps_quiet y Unticked NoGroup ⊥).calm v (tick_owed v) (owed_part_calm v) (at_views_part own w n f r tied Unticked fresh (at_rings_part (keeps_quiet y Unticked NoGroup ⊥) s a)))
   acted_at (Asks mask) arises noted a = order_at own w n f s all a mask
-  acted_at (Calls c) arises noted a = at_call y s c a
+  acted_at (Calls c) arises noted a = at_call (keeps_quiet y Every NoGroup ⊥) s c a
   acted_at Garbage arises noted a = a
   acted_at (Given p) arises noted a = given_at own w n f s all a p arises
 

@@ -1,74 +1,46 @@
 -- A tick: each tally of a led group counts it once.
-use Rattle.std.proofs.Common.{◌≡◌, ◌⊎◌, ℕ, ◌+◌, ◌-◌, List, [], ◌∷◌, ◌++◌, take, drop, Option, Some, None, Bool, true, false, refl, sym, ap, ◌∙◌, subst, inl, inr, ⊎_elim, arith, append_assoc}
-use Rattle.std.specs.Prelude.{◌==◌, ◌&&◌, not, map, filter, fold, find, reverse, if◌then◌else◌}
+use Rattle.std.proofs.Common.{◌≡◌, ◌⊎◌, ℕ, List, [], ◌∷◌, ◌++◌, Option, Some, None, Bool, true, false, refl, sym, ap, ◌∙◌, subst, inl, inr, ⊎_elim, arith, append_assoc}
+use Rattle.std.specs.Prelude.{◌==◌, ◌&&◌, map, filter, fold, reverse, if◌then◌else◌}
 use Rattle.std.specs.List.{last_or}
 use Rattle.std.specs.Str.{bytes_eq}
-use Rattle.std.proofs.lemmas.List.{reverse-append, reverse-reverse}
+use Rattle.std.proofs.lemmas.List.{reverse-append}
 use Rattle.std.proofs.lemmas.Bool.{and_parts, eq-eqb}
-use Rattle.rsct_packet.specs.declared.mask.Mask.{Mask}
-use Rattle.rsct_packet.specs.Mask.{nodes_of}
 use Rattle.rsct_packet.specs.declared.ids.ProviderId.{ProviderId}
 use Rattle.rsct_packet.specs.Text.{name_lt}
 use Rattle.rsct_packet.specs.Search.{Has}
-use Rattle.rsct_packet.proofs.HasLaws.{has_append, append_has_left, has_filter, has_map}
+use Rattle.rsct_packet.proofs.HasLaws.{has_filter, has_map, has_reverse}
 use Rattle.proposal_core.specs.declared.entry.Entry.{Entry}
 use Rattle.proposal_core.specs.declared.entry.Entry.TheVariants.{Late}
 use Rattle.proposal_core.specs.declared.group_state.GroupState.{GroupState}
 use Rattle.proposal_core.specs.declared.group_state.Running.{Running}
-use Rattle.proposal_core.specs.Fold.{present}
-use Rattle.proposal_core.specs.GroupView.{GroupView}
 use Rattle.proposal_core.specs.Lists.{list_or_new, state_in, entry_fits}
-use Rattle.adapter_ring.specs.declared.ring.Ring.{Ring}
-use Rattle.adapter_ring.specs.declared.ring.RingSet.{RingSet}
-use Rattle.adapter_ring.specs.declared.packet.RingSend.{RingSend}
-use Rattle.adapter_ring.specs.declared.packet.RingPacket.{RingPacket}
-use Rattle.adapter_ring.specs.declared.packet.RingEvent.TheVariants as ring_event
-use Rattle.adapter_ring.specs.declared.work.RingWork.{RingWork}
-use Rattle.adapter_ring.specs.Rings.{ring_step}
-use Rattle.node_reach.specs.Reach as reach
-use Rattle.packet_bodies.specs.declared.body.ReportRow.{ReportRow}
 use Rattle.vote_phases.specs.Tally.{TallyView, expires, passes, has_open, open_voters, tally_tick}
 use Rattle.node_state.specs.declared.group.GroupRow.{GroupRow}
 use Rattle.node_state.specs.declared.happened.Happened.{Happened}
 use Rattle.node_state.specs.declared.happened.Happened.TheVariants as happened
-use Rattle.node_state.specs.declared.packet.Body.TheVariants as body
 use Rattle.node_state.specs.declared.state.Core.{Core}
-use Rattle.node_state.specs.Settings.{is_rings}
-use Rattle.node_state.specs.State.{AllAfter, InNameOrder, row_of, led_of, list_of, state_of, len_of, held_rows, fits_at_end, frozen, leader_of, leads_in, led_groups, others, acked_by, least_acked, with_row, with_led}
-use Rattle.node_state.specs.Sending.{sent, send_on, send_if_known, send_requests, send_votes_again}
+use Rattle.node_state.specs.State.{InNameOrder, row_of, led_of, list_of, state_of, len_of, fits_at_end, frozen, leads_in, led_groups, others, with_row, with_led}
 use Rattle.node_state.specs.HandOn.{Answering}
 use Rattle.node_state.specs.Leading.{appended, append_if_fits, with_tally, closing_entry, closes}
-use Rattle.node_state.specs.Ticks.{ring_put, set_records, ring_taken, ring_rule_of, ring_rule, take_report, rings_union, report_of, send_report, rings_tick, tick_rings, is_lost, lost_told, tick_owed, late_appended, announced, ticked_in, tally_ticks, entries_sent, list_sent_again, sent_again, tick_group, tick_led}
+use Rattle.node_state.specs.Ticks.{late_appended, announced, ticked_in, tally_ticks, sent_again, tick_group, tick_led}
 use Rattle.run_safety.specs.Past.{records_of}
 use Rattle.run_safety.specs.Stays.{stays}
 use Rattle.run_safety.specs.Stays as stay
-use Rattle.node_state.proofs.NameOrder.{lt_self, text_self, row_here}
-use Rattle.step_refinement.proofs.Turns.{has_turned}
+use Rattle.node_state.proofs.NameOrder.{lt_self, text_self, row_here, after_has}
+use Rattle.entry_laws.proofs.closing_rows.Calms.{AllSilent, calm_fold, again_calm}
 use Rattle.entry_laws.specs.late_rows.Announced.{stay_entries, entries_here}
-use Rattle.entry_laws.proofs.late_rows.At.{Turn, ticks_now, TallyIs, RowIs, Settled, late_voters, Folds, AllPlain, Plain, found, leads_row, At, at_for, at_fold, at_recorded_all, at_row_for, plain_stays}
+use Rattle.entry_laws.proofs.late_rows.At.{Turn, ticks_now, TallyIs, RowIs, Settled, late_voters, Folds, found, leads_row, At, at_for, at_row_for, silent_stays, keeps_quiet}
 use Rattle.entry_laws.proofs.late_rows.Laters.{PutThen, later_appended}
 use Rattle.entry_laws.proofs.late_rows.Rows.{row_kept}
-use Rattle.entry_laws.proofs.late_rows.Hands.{at_sent, at_sent_on, at_sent_all, at_sent_if_known, at_requests_sent, at_votes_again}
 use Rattle.entry_laws.proofs.late_rows.Tallies.{ticked_late, announced_late, Expired, ticked_settled, rows_told, announcement_fits}
 use Rattle.entry_laws.proofs.late_rows.Leading.{But, MayLead, TellsAll, Ready, at_closes_ready, at_announces}
 use Rattle.entry_laws.proofs.late_rows.Ending.{Every, NoGroup, Leads, at_leads, led_leads}
-
-set_plain : (n network : ℕ) (o : Option RingSet) → AllPlain (set_records n network o)
-unfolding set_records
-set_plain n network None r i = absurd i
-set_plain n network (Some x) r (inl e) = subst Plain (sym e) tt
-set_plain n network (Some x) r (inr z) = absurd z
 
 -- ---- the led groups differ
 
 abbrev Apart : List (List ℕ) → Type 0
 Apart [] = Unit {0}
 Apart (g ∷ gs) = (Has g gs → ⊥) × Apart gs
-
-after_row : (g : List ℕ) (rows : List GroupRow) (row : GroupRow) → AllAfter g rows → Has row rows → name_lt g row.name ≡ true
-after_row g [] row a i = absurd i
-after_row g (y ∷ rows) row a (inl e) = ap (λ (z : GroupRow). name_lt g z.name) e ∙ a.0
-after_row g (y ∷ rows) row a (inr i) = after_row g rows row a.1 i
 
 names_apart : (test : GroupRow → Bool) (rows : List GroupRow) → InNameOrder rows → Apart (map (λ (row : GroupRow). row.name) (filter test rows))
 names_apart test [] o = tt
@@ -78,7 +50,7 @@ names_apart test (row ∷ rows) o = by (test row) (names_apart test rows o.1)
     later i =
         let a = has_map (λ (z : GroupRow). z.name) row.name (filter test rows) i in
         let b = has_filter test a.0 rows a.1 in
-        let l : name_lt row.name row.name ≡ true = subst (λ z. name_lt row.name z ≡ true) (sym a.2) (after_row row.name rows a.0 o.0 b.0) in
+        let l : name_lt row.name row.name ≡ true = subst (λ z. name_lt row.name z ≡ true) (sym a.2) (after_has row.name rows a.0 o.0 b.0) in
         let k = lt_self row.name in absurd (cc)
 
     by : (b : Bool) → Apart (map (λ (z : GroupRow). z.name) (filter test rows)) → Apart (map (λ (z : GroupRow). z.name) (if b then row ∷ filter test rows else filter test rows))
@@ -93,78 +65,14 @@ last_is : (xs : List Entry) (e : Entry) (o : Option Entry) → last_or o (xs ++ 
 last_is [] e o = refl
 last_is (x ∷ xs) e o = last_is xs e (Some x)
 
-turned_back : (r : Happened) (xs : List Happened) → Has r (reverse xs) → Has r xs
-turned_back r xs i =
-    ⊎_elim (λ (j : Has r xs). j) (λ (j : Has r []). absurd j) (has_append r xs [] (subst (λ l. Has r (l ++ [])) (reverse-reverse xs) (has_turned r (reverse xs) [] (append_has_left r (reverse xs) [] i))))
-
-stays_plain : (n : ℕ) (g : List ℕ) (rs old : List Happened) → AllPlain rs → stays n g (rs ++ old) ≡ stays n g old
-stays_plain n g [] old plain = refl
-stays_plain n g (r ∷ rs) old plain = plain_stays n g r (stays n g (rs ++ old)) (plain r (inl refl)) ∙ stays_plain n g rs old (λ y i. plain y (inr i))
+stays_silent : (n : ℕ) (g : List ℕ) (rs old : List Happened) → AllSilent rs → stays n g (rs ++ old) ≡ stays n g old
+stays_silent n g [] old silent = refl
+stays_silent n g (r ∷ rs) old silent = silent_stays n g r (stays n g (rs ++ old)) (silent r (inl refl)) ∙ stays_silent n g rs old (λ y i. silent y (inr i))
 
 some_same : (a b : Running) → Some a ≡ Some b → a ≡ b
 some_same a b e = cc
 
 module _ (h : Turn) where
-  module _ (T : List ℕ → ℕ → Type 0) where
-    abbrev Full : Core → Type 0
-    Full s = At h T NoGroup ⊥ s
-
-    -- ---- rings and reach
-
-    at_ring_taken : (s : Core) (w : RingWork) → Full s → Full (ring_taken s w)
-    unfolding ring_taken
-    at_ring_taken s w a =
-        let t : Core = fold (λ u (x : RingSend). send_on u x.network x.to (body.Ring x.packet)) (record s { rings = ring_put s.rings w.ring }) w.sends in
-        at_recorded_all h T NoGroup ⊥ (set_records s.views.me w.ring.net w.set) t (set_plain s.views.me w.ring.net w.set) (at_fold h T NoGroup ⊥ (λ u (x : RingSend). send_on u x.network x.to (body.Ring x.packet)) w.sends (λ u x i k. at_sent_on h T NoGroup ⊥ u x.network x.to (body.Ring x.packet) k) (record s { rings = ring_put s.rings w.ring }) a)
-
-    pub at_ring_rule : (s : Core) (network from inc : ℕ) (x : RingPacket) → Full s → Full (ring_rule s network from inc x)
-    unfolding ring_rule ring_rule_of
-    at_ring_rule s network from inc x a = by (find (λ (r : Ring). r.net == network) s.rings)
-      where
-        by : (o : Option Ring) → Full (ring_rule_of s from inc x o)
-        by None = a
-        by (Some r) = at_ring_taken s (ring_step r (ring_event.Packet from inc x)) a
-
-    pub at_report : (s : Core) (rows : List ReportRow) → Full s → Full (take_report s rows)
-    unfolding take_report
-    at_report s rows a = a
-
-    at_report_sent : (s : Core) (m : Mask) → Full s → Full (send_report s m)
-    unfolding send_report
-    at_report_sent s m a =
-        let t : Core = record s { reach = reach.set_own s.reach m } in
-        at_sent_all h T NoGroup ⊥ (filter (λ n. not (n == s.views.me)) (nodes_of m)) t (body.Report (report_of t.reach)) a
-
-    pub at_rings_part : (s : Core) → Full s → Full (tick_rings s)
-    unfolding tick_rings rings_tick
-    at_rings_part s a = by (is_rings s.config.mode)
-      where
-        t : Core
-        t = fold (λ u (r : Ring). ring_taken u (ring_step r ring_event.Tick)) s s.rings
-
-        by : (b : Bool) → Full (elim b as (λ _. Core) [ true ↦ send_report t (rings_union t.rings) | false ↦ s ])
-        by true =
-            at_report_sent t (rings_union t.rings) (at_fold h T NoGroup ⊥ (λ u (r : Ring). ring_taken u (ring_step r ring_event.Tick)) s.rings (λ u r i k. at_ring_taken u (ring_step r ring_event.Tick) k) s a)
-        by false = a
-
-    -- ---- what is owed
-
-    at_lost : (s : Core) (row : GroupRow) → Full s → Full (lost_told s row)
-    unfolding lost_told
-    at_lost s row a =
-        at_fold h T NoGroup ⊥ (λ t p. send_if_known t (leader_of t row.name) (body.Gone t.views.view row.name p)) (filter (is_lost s) (present (state_in row.list))) (λ t p i k. at_sent_if_known h T NoGroup ⊥ t (leader_of t row.name) (body.Gone t.views.view row.name p) k) s a
-
-    pub at_owed_part : (s : Core) → Full s → Full (tick_owed s)
-    unfolding tick_owed
-    at_owed_part s a = by (frozen s)
-      where
-        t : Core
-        t = send_requests s
-
-        by : (b : Bool) → Full (elim b as (λ _. Core) [ true ↦ s | false ↦ send_votes_again (fold lost_told t (held_rows t)) ])
-        by true = a
-        by false = at_votes_again h T NoGroup ⊥ (fold lost_told t (held_rows t)) (at_fold h T NoGroup ⊥ lost_told (held_rows t) (λ u row i k. at_lost u row k) t (at_requests_sent h T NoGroup ⊥ s a))
-
   -- ---- what is led
 
   -- the tick is still to count in these groups
@@ -189,7 +97,7 @@ module _ (h : Turn) where
   -- what is appended stands last
   last_put : {T : List ℕ → ℕ → Type 0} {G : List ℕ → Type 0} (f : Answering) (s : Core) (g : List ℕ) (e : Entry) → At h T G ⊥ s → last_or None (entries_here h.node g (reverse (appended f s g e).records ++ records_of h.before)) ≡ Some e
   last_put f s g e a =
-      ap (λ l. last_or None (entries_here h.node g (reverse l ++ records_of h.before))) p.is ∙ ap (λ l. last_or None (entries_here h.node g (l ++ records_of h.before))) (reverse-append (s.records ++ r ∷ []) p.more ∙ ap (λ l. reverse p.more ++ l) (reverse-append s.records (r ∷ []))) ∙ ap (λ l. last_or None (entries_here h.node g l)) (append_assoc (reverse p.more) (r ∷ reverse s.records) (records_of h.before)) ∙ ap (λ l. last_or None (stay_entries l)) (stays_plain h.node g (reverse p.more) (r ∷ reverse s.records ++ records_of h.before) (λ y i. p.plain y (turned_back y p.more i)) ∙ put_stays) ∙ last_is k.stay.entries e None
+      ap (λ l. last_or None (entries_here h.node g (reverse l ++ records_of h.before))) p.is ∙ ap (λ l. last_or None (entries_here h.node g (l ++ records_of h.before))) (reverse-append (s.records ++ r ∷ []) p.more ∙ ap (λ l. reverse p.more ++ l) (reverse-append s.records (r ∷ []))) ∙ ap (λ l. last_or None (entries_here h.node g l)) (append_assoc (reverse p.more) (r ∷ reverse s.records) (records_of h.before)) ∙ ap (λ l. last_or None (stay_entries l)) (stays_silent h.node g (reverse p.more) (r ∷ reverse s.records ++ records_of h.before) (λ y i. p.silent y (has_reverse y p.more i)) ∙ put_stays) ∙ last_is k.stay.entries e None
     where
       r : Happened
       r = happened.Put s.views.me s.views.view g (len_of s g) e
@@ -325,25 +233,11 @@ module _ (h : Turn) where
         announces true e = running (state_in (found s g).list).running refl (and_parts (s.sessions.level == 2) (expires t) e).1
         announces false e = quiet true (λ run o z two d c fit. let y : (s.sessions.level == 2 && expires t) ≡ true = (λ i. eq-eqb s.sessions.level 2 two i && z.expires_now i) in cc)
 
-    at_entries_sent : (to i stable : ℕ) (es : List Entry) (s : Core) → After s → After (entries_sent to g i stable es s)
-    unfolding entries_sent
-    at_entries_sent to i stable [] s a = a
-    at_entries_sent to i stable (e ∷ es) s a =
-        at_entries_sent to (i + 1) stable es (sent s to (body.Entry s.views.view g i stable e)) (at_sent h (Left rest) G ⊥ s to (body.Entry s.views.view g i stable e) a)
-
-    at_again : (s : Core) (n : ℕ) → After s → After (sent_again g s n)
-    unfolding sent_again list_sent_again
-    at_again s n a = by (row_of s g).list
-      where
-        by : (o : Option GroupView) → After (list_sent_again s g n (acked_by s (row_of s g) n) o)
-        by None = a
-        by (Some l) = at_entries_sent n (acked_by s (row_of s g) n) (least_acked s g) (take 16 (drop (acked_by s (row_of s g) n - l.start) l.entries)) s a
-
     at_group_ticks : (s : Core) → Before s → After (tick_group f s g)
     unfolding tick_group led_of row_of
     at_group_ticks s a =
         let t : Core = tally_ticks f s g (found s g).led.tally in
-        at_fold h (Left rest) G ⊥ (sent_again g) (others t) (λ u n i k. at_again u n k) t (at_tally_ticks s (found s g).led.tally refl a)
+        (keeps_quiet h (Left rest) G ⊥).calm t (fold (sent_again g) t (others t)) (calm_fold (sent_again g) (λ c n. again_calm g c n) (others t) t) (at_tally_ticks s (found s g).led.tally refl a)
 
   at_all_ticks : (f : Answering) (G : List ℕ → Type 0) (gs : List (List ℕ)) → Apart gs → ((g : List ℕ) → Has g gs → G g) → (s : Core) → At h (Left gs) G ⊥ s → At h (Left []) G ⊥ (fold (tick_group f) s gs)
   at_all_ticks f G [] apart led s a = a

@@ -1,15 +1,13 @@
 -- In the middle of a step: what the node put follows from its sources, or was put before; it holds what waits and who was looked
 -- up; and, where that is claimed, the states that its lists have are those of its records.
-use Rattle.std.proofs.Common.{◌≡◌, ◌⊎◌, ℕ, ◌+◌, List, [], ◌∷◌, ◌++◌, length, take, Option, Some, refl, sym, ap, ◌∙◌, subst, inl, inr, append_assoc, append-nil, length-append, arith}
-use Rattle.std.specs.Prelude.{fold, reverse, if◌then◌else◌}
+use Rattle.std.proofs.Common.{◌≡◌, ◌⊎◌, ℕ, List, [], ◌∷◌, ◌++◌, take, Option, Some, refl, sym, ap, ◌∙◌, subst}
+use Rattle.std.specs.Prelude.{reverse}
 use Rattle.std.proofs.lemmas.List.{reverse-append}
 use Rattle.rsct_packet.specs.declared.ids.ViewId.{ViewId}
 use Rattle.rsct_packet.specs.Search.{Has}
 use Rattle.proposal_core.specs.declared.proposal.Proposal.{Proposal}
 use Rattle.proposal_core.specs.declared.proposal.Proposal.TheVariants.{Join, Leave, Fail, Expel, State, Message, Attributes, Reflect}
 use Rattle.proposal_core.specs.declared.entry.Entry.{Entry}
-use Rattle.proposal_core.specs.declared.group_state.GroupState.{GroupState}
-use Rattle.proposal_core.specs.Fold.{after}
 use Rattle.proposal_core.specs.GroupView.{GroupView}
 use Rattle.proposal_core.specs.Lists.{list_or_new, state_in, len_in, with_entry}
 use Rattle.name_server.specs.declared.names.Leader.{Leader}
@@ -19,15 +17,17 @@ use Rattle.node_state.specs.declared.happened.Happened.{Happened}
 use Rattle.node_state.specs.declared.happened.Happened.TheVariants as happened
 use Rattle.node_state.specs.declared.packet.Packet.{Packet}
 use Rattle.node_state.specs.declared.state.Core.{Core}
-use Rattle.node_state.specs.State.{InNameOrder, row_of, with_row, list_of, len_of, recorded, recorded_all}
+use Rattle.node_state.specs.State.{InNameOrder, row_of, with_row, list_of, len_of, recorded}
 use Rattle.node_state.specs.Leading.{put}
 use Rattle.world_model.specs.declared.event.Event.{Event}
 use Rattle.run_safety.specs.Past.{History, records_of, earlier, puts_of, base_of, fold_from, state_at}
 use Rattle.node_state.proofs.NameOrder.{KeepsName, rows_ordered}
-use Rattle.entry_laws.proofs.closing_rows.At.{found, StateIs, Silent, Calm, fold_pushed, is_list_self, is_list_other, list_with}
+use Rattle.entry_laws.proofs.closing_rows.At.{found, StateIs, silent_state, take_all, state_pushed, state_beside, row_with}
 use Rattle.entry_laws.proofs.closing_rows.Entered.{Since}
 use Rattle.entry_laws.proofs.source_order.Holding.{Turn, Holds, Fewer, fewer_self, holds_row, holds_same, holds_recorded}
 use Rattle.entry_laws.specs.source_order.Sources.{OfBegun, Rises, CarriesLength, BegunFirst}
+use Rattle.entry_laws.proofs.closing_rows.Calms.{Silent, Calm}
+use Rattle.entry_laws.proofs.closing_rows.Quiet.{KeepsQuiet}
 
 -- ---- what is recorded
 
@@ -81,38 +81,6 @@ silent_fact x now (happened.In n v ms) z k = absurd z
 silent_fact x now (happened.Base n v g old len st) z k = absurd z
 silent_fact x now _ z k = (tt, k)
 
-silent_state : (n : ℕ) (v : ViewId) (g : List ℕ) (l : Option GroupView) (rs : List Happened) (r : Happened) → Silent r → StateIs n v g l rs → StateIs n v g l (r ∷ rs)
-silent_state n v g l rs (happened.Put m u h i e) z k = absurd z
-silent_state n v g l rs (happened.In m u ms) z k = absurd z
-silent_state n v g l rs (happened.Base m u h old len st) z k = absurd z
-silent_state n v g l rs _ z k = record { state = k.state; len = k.len }
-
--- ---- lists with one more entry
-
-pub take_all : (xs : List Entry) → take (length xs) xs ≡ xs
-take_all [] = refl
-take_all (x ∷ xs) = ap (λ l. x ∷ l) (take_all xs)
-
-state_pushed : (n : ℕ) (v : ViewId) (g : List ℕ) (l : Option GroupView) (rs : List Happened) (i : ℕ) (e : Entry) → StateIs n v g l rs → StateIs n v g (Some (with_entry (list_or_new l) v e)) (happened.Put n v g i e ∷ rs)
-unfolding with_entry
-state_pushed n v g l rs i e k =
-    let xs : List Entry = puts_of n v g rs in
-    let base : GroupState = base_of n v g rs in
-    let own : puts_of n v g (happened.Put n v g i e ∷ rs) ≡ puts_of n v g rs ++ e ∷ [] = ap (λ b. if b then puts_of n v g rs ++ e ∷ [] else puts_of n v g rs) (is_list_self n v g) in
-    let now : after (state_in l) v (len_in l) e ≡ after (fold_from v base 0 xs) v (length xs) e = λ j. after (k.state j) v (k.len j) e in
-    let from : length xs ≡ 0 + length xs = omega arith in
-    let pushed : fold_from v base 0 (xs ++ e ∷ []) ≡ after (fold_from v base 0 xs) v (0 + length xs) e = fold_pushed v xs base 0 e in
-    let whole : fold_from v base 0 (puts_of n v g (happened.Put n v g i e ∷ rs)) ≡ fold_from v base 0 (xs ++ e ∷ []) = ap (fold_from v base 0) own in
-    record {
-      state = now ∙ ap (λ z. after (fold_from v base 0 xs) v z e) from ∙ sym pushed ∙ sym whole;
-      len = ap (λ z. z + 1) k.len ∙ sym (length-append (puts_of n v g rs) (e ∷ [])) ∙ sym (ap length own);
-    }
-
-state_beside : (n : ℕ) (v : ViewId) (k : List ℕ) (l : Option GroupView) (rs : List Happened) (m : ℕ) (u : ViewId) (g : List ℕ) (i : ℕ) (e : Entry) → (g ≡ k → ⊥) → StateIs n v k l rs → StateIs n v k l (happened.Put m u g i e ∷ rs)
-state_beside n v k l rs m u g i e ne s =
-    let same : puts_of n v k (happened.Put m u g i e ∷ rs) ≡ puts_of n v k rs = ap (λ b. if b then puts_of n v k rs ++ e ∷ [] else puts_of n v k rs) (is_list_other n v k m u g ne) in
-    record { state = s.state ∙ sym (ap (fold_from v (base_of n v k rs) 0) same); len = s.len ∙ sym (ap length same) }
-
 -- the state of the whole list is that of all its entries
 pub state_whole : (n : ℕ) (v : ViewId) (g : List ℕ) (l : Option GroupView) (rs : List Happened) → StateIs n v g l rs → state_at n v g (len_in l) rs ≡ state_in l
 state_whole n v g l rs k =
@@ -140,11 +108,7 @@ module _ (x : Turn) (P : Type 0) where
 
       new : P → (k : List ℕ) → StateIs s.views.me s.views.view k (found (with_row s g (λ row. record row { list = Some (with_entry (list_or_new row.list) s.views.view e) })) k).list (r ∷ earlier (reverse s.records) x.before)
       new p =
-          list_with (λ k l. StateIs s.views.me s.views.view k l (r ∷ earlier (reverse s.records) x.before)) s g (λ row. record row { list = Some (with_entry (list_or_new row.list) s.views.view e) }) (λ x. refl) (a.order p) (state_pushed s.views.me s.views.view g (found s g).list (earlier (reverse s.records) x.before) (len_in (found s g).list) e (a.states p g)) (λ k ne. state_beside s.views.me s.views.view k (found s k).list (earlier (reverse s.records) x.before) s.views.me s.views.view g (len_in (found s g).list) e ne (a.states p k))
-
-  pub at_fold : {A : Type 0} (f : Core → A → Core) (xs : List A) → ((s : Core) (y : A) → Has y xs → At x P s → At x P (f s y)) → (s : Core) → At x P s → At x P (fold f s xs)
-  at_fold f [] step s a = a
-  at_fold f (y ∷ xs) step s a = at_fold f xs (λ t z i k. step t z (inr i) k) (f s y) (step s y (inl refl) a)
+          row_with (λ k row. StateIs s.views.me s.views.view k row.list (r ∷ earlier (reverse s.records) x.before)) s g (λ row. record row { list = Some (with_entry (list_or_new row.list) s.views.view e) }) (λ x. refl) (a.order p) (state_pushed s.views.me s.views.view g (found s g).list (earlier (reverse s.records) x.before) (len_in (found s g).list) e (a.states p g)) (λ k ne. state_beside s.views.me s.views.view k (found s k).list (earlier (reverse s.records) x.before) s.views.me s.views.view g (len_in (found s g).list) e ne (a.states p k))
 
   pub at_calm : (c d : Core) → Calm c d → At x P c → At x P d
   at_calm c d k a =
@@ -169,11 +133,8 @@ module _ (x : Turn) (P : Type 0) where
         states = λ p. subst (λ rs. (k : List ℕ) → StateIs s.views.me s.views.view k (found s k).list (earlier rs x.before)) (sym turned) (λ k. silent_state s.views.me s.views.view k (found s k).list (earlier (reverse s.records) x.before) r silent (a.states p k));
       }
 
-  pub at_recorded_all : (rs : List Happened) (s : Core) → ((r : Happened) → Has r rs → Silent r) → At x P s → At x P (recorded_all s rs)
-  unfolding recorded_all recorded
-  at_recorded_all [] s none a = subst (λ l. At x P (record s { records = l })) (sym (append-nil s.records)) a
-  at_recorded_all (r ∷ rs) s none a =
-      subst (λ l. At x P (record s { records = l })) (append_assoc s.records (r ∷ []) rs) (at_recorded_all rs (recorded s r) (λ q i. none q (inr i)) (at_recorded s r (none r (inl refl)) a))
+  pub keeps_quiet : KeepsQuiet (At x P)
+  keeps_quiet = record { calm = at_calm; silent = at_recorded }
 
   -- a row changes, whose list has the same state and length
   pub at_row_for : (s : Core) (g : List ℕ) (f : GroupRow → GroupRow) → KeepsName f → ((y : GroupRow) → state_in (f y).list ≡ state_in y.list) → ((y : GroupRow) → len_in (f y).list ≡ len_in y.list) → Holds x (with_row s g f) → At x P s → At x P (with_row s g f)
@@ -184,7 +145,7 @@ module _ (x : Turn) (P : Type 0) where
         holds = holds;
         sends = a.sends;
         order = λ p. rows_ordered g f keeps s (a.order p);
-        states = λ p. list_with (λ k l. StateIs s.views.me s.views.view k l (earlier (reverse s.records) x.before)) s g f keeps (a.order p) (let b = a.states p g in record { state = states (found s g) ∙ b.state; len = lens (found s g) ∙ b.len }) (λ k ne. a.states p k);
+        states = λ p. row_with (λ k row. StateIs s.views.me s.views.view k row.list (earlier (reverse s.records) x.before)) s g f keeps (a.order p) (let b = a.states p g in record { state = states (found s g) ∙ b.state; len = lens (found s g) ∙ b.len }) (λ k ne. a.states p k);
       }
 
   pub at_row : (s : Core) (g : List ℕ) (f : GroupRow → GroupRow) → KeepsName f → ((y : GroupRow) → state_in (f y).list ≡ state_in y.list) → ((y : GroupRow) → len_in (f y).list ≡ len_in y.list) → ((y : GroupRow) → Fewer y.led (f y).led) → At x P s → At x P (with_row s g f)

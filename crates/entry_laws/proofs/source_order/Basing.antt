@@ -23,9 +23,9 @@ use Rattle.run_safety.proofs.Prefix.{IsPrefix}
 use Rattle.run_safety.proofs.Whole.{Whole}
 use Rattle.run_safety.proofs.Lives.{whole}
 use Rattle.step_refinement.specs.Ghost.{Ghost, Lives}
+use Rattle.entry_laws.proofs.closing_rows.At.{take_all}
 use Rattle.entry_laws.specs.source_order.Sources.{OfBegun, Rises, reflected_by}
 use Rattle.entry_laws.proofs.source_order.Climbing.{NotBehind, Ahead, attrs_place, valued_same, effect_same, rejected_same, once_same, rises_place}
-use Rattle.entry_laws.proofs.source_order.At.{take_all}
 use Rattle.entry_laws.proofs.source_order.Climbs.{state_next, get_there}
 
 -- ---- induction over views

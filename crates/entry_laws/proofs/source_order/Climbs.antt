@@ -20,11 +20,11 @@ use Rattle.run_safety.specs.Bases.{Bases, base_state, state_of_list}
 use Rattle.run_safety.proofs.HeardLaw.{puts_front, get_within}
 use Rattle.run_safety.proofs.Prefix.{IsPrefix, prefix_get}
 use Rattle.node_state.proofs.NameOrder.{text_self}
-use Rattle.entry_laws.proofs.closing_rows.At.{fold_pushed}
 use Rattle.entry_laws.proofs.closing_rows.Told.{Told, less_many, less_now}
 use Rattle.entry_laws.proofs.closing_rows.Lists.{puts_here}
 use Rattle.entry_laws.specs.source_order.Sources.{OfBegun, Rises, reflected_by, reflects, HasReached, RecordClimbs, ReflectionsClimb}
 use Rattle.entry_laws.proofs.source_order.Climbing.{NotBehind, Reached, Ahead, PassedIn, still_passed, first_passed, later_greater}
+use Rattle.step_refinement.proofs.Puts.{fold_pushed}
 
 -- ---- fronts
 

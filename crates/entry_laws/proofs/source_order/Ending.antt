@@ -1,6 +1,6 @@
 -- What begins at the end of a step.
-use Rattle.std.proofs.Common.{◌≡◌, ◌⊎◌, ℕ, zero, suc, List, [], ◌∷◌, length, Option, Some, None, Bool, true, false, cond, refl, sym, ap, ◌∙◌, subst, inl, inr}
-use Rattle.std.specs.Prelude.{not, ◌||◌, find, fold, filter, reverse, if◌then◌else◌}
+use Rattle.std.proofs.Common.{◌≡◌, ◌⊎◌, ℕ, List, [], ◌∷◌, Option, Some, None, Bool, true, false, cond, refl, sym, ap, ◌∙◌, subst, inl, inr}
+use Rattle.std.specs.Prelude.{not, ◌||◌, find, filter, reverse, if◌then◌else◌}
 use Rattle.std.specs.List.{list_any}
 use Rattle.std.specs.Option.{option_map}
 use Rattle.rsct_packet.specs.declared.ids.ViewId.{ViewId}
@@ -16,9 +16,8 @@ use Rattle.proposal_core.specs.declared.proposal.Failure.{Failure}
 use Rattle.proposal_core.specs.declared.proposal.Proposal.TheVariants.{Join, Fail, Reflect}
 use Rattle.proposal_core.specs.declared.group_state.GroupState.{GroupState}
 use Rattle.proposal_core.specs.GroupView.{GroupView}
-use Rattle.proposal_core.specs.Lists.{list_or_new, state_in}
-use Rattle.batch_rules.specs.Waiting.{batches_joins, batches_failures, chosen_of, next_failures, failures_left, next_joins, joins_left}
-use Rattle.source_target.specs.declared.Due.{Due}
+use Rattle.proposal_core.specs.Lists.{state_in}
+use Rattle.batch_rules.specs.Waiting.{batches_joins, chosen_of, failures_left, next_joins, joins_left}
 use Rattle.source_target.specs.declared.Due.TheVariants as owed
 use Rattle.source_target.specs.Due.{is_on, allowed, cast_outs, reflect_from, value_place, reflection_due, due_from, due}
 use Rattle.client_callbacks.specs.declared.told.Why.TheVariants.{NoSource}
@@ -26,20 +25,21 @@ use Rattle.view_state.specs.declared.views.Views.{Views}
 use Rattle.node_state.specs.declared.group.GroupRow.{GroupRow}
 use Rattle.node_state.specs.declared.group.JoinAttrs.{JoinAttrs}
 use Rattle.node_state.specs.declared.state.Core.{Core}
-use Rattle.node_state.specs.State.{new_row, row_found, has_name, row_of, with_row, with_led, led_of, list_of, state_of, len_of, frozen, led_groups}
+use Rattle.node_state.specs.State.{new_row, row_found, has_name, row_of, with_row, with_led, led_of, list_of, state_of, len_of, led_groups}
 use Rattle.node_state.specs.Sending.{sent, send_on}
 use Rattle.node_state.specs.HandOn.{Answering}
-use Rattle.node_state.specs.Leading.{with_waiting, begins}
+use Rattle.node_state.specs.Leading.{with_waiting}
 use Rattle.node_state.specs.Deciding.{keep_decision, refused, known_state, lacks_source, source_len}
-use Rattle.node_state.specs.Ending.{Pass, quiet, begun_now, failures_begin, due_begins, source_begins, attrs_or, attrs_for, carried_len, source_refused, joins_begin, or_due, or_joins, may_begin, first_begins, group_begins, one_pass, passes, most_begun, end_step}
+use Rattle.node_state.specs.Ending.{quiet, attrs_or, attrs_for, carried_len, source_refused, end_step}
 use Rattle.run_safety.specs.Past.{earlier, state_now}
 use Rattle.node_state.proofs.NameOrder.{text_same}
 use Rattle.step_refinement.proofs.SessionLaws.{provider_self}
+use Rattle.entry_laws.proofs.closing_rows.Begins.{BeginsJoins, KeepsBegun, at_groups, at_ended}
 use Rattle.entry_laws.proofs.closing_rows.At.{found, StateIs}
 use Rattle.entry_laws.specs.source_order.Meant.{Decided, meant}
 use Rattle.entry_laws.specs.source_order.Sources.{SameThere, JoinsFrom, IsFirst, LacksMember, BeginsAsMeant}
 use Rattle.entry_laws.proofs.source_order.Holding.{Turn, so_far, kept_of, DecidedAs, Holds, left_fewer}
-use Rattle.entry_laws.proofs.source_order.At.{state_whole, At, at_fold}
+use Rattle.entry_laws.proofs.source_order.At.{state_whole, At}
 use Rattle.entry_laws.proofs.source_order.Leading.{NextBegun, at_waits, at_begins}
 use Rattle.entry_laws.proofs.source_order.Deciding.{at_refused}
 
@@ -233,111 +233,30 @@ module _ (h : Turn) where
       let d = chosen_decided s g b p rest from full.holds in
       (tt, lengths_same c a.source, subst (λ z. BeginsAsMeant (so_far h (reverse c.records)) c.views.me c.views.view g (filter (λ (p : ProviderId). not (lacks_source s z.source p.node)) (p ∷ rest)) z (carried_len c z.source)) e (all_meant s c g p rest still d.0 d.1 full now (kept_of (led_of s g) p) d.2))
 
+  begins_joins : (f : Answering) (s : Core) (g : List ℕ) → Full s → BeginsJoins Full f s g
+  begins_joins f s g a some k =
+      let st : GroupState = state_of s g in
+      let chosen : List ProviderId = next_joins st.attrs.batch (led_of s g).waiting in
+      let at : Attrs = attrs_for st (led_of s g).join_attrs chosen in
+      let ps : List ProviderId = filter (λ (p : ProviderId). not (lacks_source s at.source p.node)) chosen in
+      let out : List ProviderId = filter (λ (p : ProviderId). lacks_source s at.source p.node) chosen in
+      let d : Core = with_waiting s g (joins_left st.attrs.batch) in
+      let c : Core = source_refused d g at.source out in
+      let still : Still s c = refused_still g at.source out s d (waits_still s g st.attrs) in
+      at_begins h (Unit {0}) f c g (Join ps at (carried_len c at.source)) at.phases (joins_well s c g (batches_joins st.attrs.batch) chosen refl at refl still some a k) k
+
   -- ---- what begins in a group
 
-  module _ (f : Answering) (g : List ℕ) where
-    at_failures : (n : ℕ) (s : Core) → Full s → Full (failures_begin n f s g).core
-    unfolding failures_begin
-    at_failures zero s a = a
-    at_failures (suc n) s a =
-        let st : GroupState = state_of s g in
-        let out : List Failure = filter (λ (x : Failure). among st.members x.p) (next_failures st.attrs.batch (led_of s g).waiting) in
-        let c : Core = with_waiting s g (failures_left st.attrs.batch) in
-        let k : Full c = at_waits h (Unit {0}) s g (failures_left st.attrs.batch) (λ l. record { joins = λ q e. e; attrs = refl }) a in by c out st (is_empty out) k (at_failures n c k)
-      where
-        by : (c : Core) (out : List Failure) (st : GroupState) (b : Bool) → Full c → Full (failures_begin n f c g).core → Full (elim b as (λ _. Pass) [ true ↦ failures_begin n f c g | false ↦ begun_now (begins f c g (Fail out) st.attrs.phases) ]).core
-        by c out st true k rest = rest
-        by c out st false k rest = at_begins h (Unit {0}) f c g (Fail out) st.attrs.phases (tt, tt, tt) k
-
-    at_due : (s : Core) (k : List ℕ) (o : Option Due) → (state_of s g).attrs.source ≡ Some k → due (state_of s g) (known_state s k) ≡ o → Full s → Full (due_begins f s g (state_of s g) k o).core
-    unfolding due_begins
-    at_due s k None from q a = a
-    at_due s k (Some (owed.CastOut out)) from q a = at_begins h (Unit {0}) f s g (Fail (chosen_of (batches_failures (state_of s g).attrs.batch) out)) (state_of s g).attrs.phases (tt, tt, tt) a
-    at_due s k (Some (owed.Reflect v i)) from q a =
-        at_begins h (Unit {0}) f s g (Reflect v i (state_of s k).value) (state_of s g).attrs.source_phases (reflects_well s g k v i from q a) a
-
-    at_source : (s : Core) (o : Option (List ℕ)) → (state_of s g).attrs.source ≡ o → Full s → Full (source_begins f s g (state_of s g) o).core
-    unfolding source_begins
-    at_source s None from a = a
-    at_source s (Some k) from a = at_due s k (due (state_of s g) (known_state s k)) from refl a
-
-    at_source_refused : (s : Core) (source : Option (List ℕ)) (ps : List ProviderId) → Full s → Full (source_refused s g source ps)
-    unfolding source_refused
-    at_source_refused s source ps a =
-        at_fold h (Unit {0}) (λ c (p : ProviderId). refused c g p p.join (NoSource (source_len c source))) ps (λ c p i k. at_refused h (Unit {0}) c g p p.join (NoSource (source_len c source)) k) s a
-
-    at_joins : (n : ℕ) (s : Core) → Full s → Full (joins_begin n f s g).core
-    unfolding joins_begin
-    at_joins zero s a = a
-    at_joins (suc n) s a =
-        let st : GroupState = state_of s g in
-        let chosen : List ProviderId = next_joins st.attrs.batch (led_of s g).waiting in
-        let at : Attrs = attrs_for st (led_of s g).join_attrs chosen in
-        let ps : List ProviderId = filter (λ (p : ProviderId). not (lacks_source s at.source p.node)) chosen in
-        let out : List ProviderId = filter (λ (p : ProviderId). lacks_source s at.source p.node) chosen in
-        let d : Core = with_waiting s g (joins_left st.attrs.batch) in
-        let c : Core = source_refused d g at.source out in
-        let k : Full c = at_source_refused d at.source out (at_waits h (Unit {0}) s g (joins_left st.attrs.batch) (λ l. left_fewer l st.attrs.batch) a) in
-        let still : Still s c = refused_still g at.source out s d (waits_still s g st.attrs) in
-        by c ps at (is_empty ps) k (λ some. joins_well s c g (batches_joins st.attrs.batch) chosen refl at refl still some a k) (at_joins n c k)
-      where
-        by : (c : Core) (ps : List ProviderId) (at : Attrs) (b : Bool) → Full c → (b ≡ false → NextBegun h c g (Join ps at (carried_len c at.source))) → Full (joins_begin n f c g).core → Full (elim b as (λ _. Pass) [ true ↦ joins_begin n f c g | false ↦ begun_now (begins f c g (Join ps at (carried_len c at.source)) at.phases) ]).core
-        by c ps at true k well rest = rest
-        by c ps at false k well rest = at_begins h (Unit {0}) f c g (Join ps at (carried_len c at.source)) at.phases (well refl) k
-
-    at_or_due : (p : Pass) → Full p.core → Full (or_due f g p).core
-    unfolding or_due
-    at_or_due p a = by p.began
-      where
-        by : (b : Bool) → Full (elim b as (λ _. Pass) [ true ↦ p | false ↦ source_begins f p.core g (state_of p.core g) (state_of p.core g).attrs.source ]).core
-        by true = a
-        by false = at_source p.core (state_of p.core g).attrs.source refl a
-
-    at_or_joins : (p : Pass) → Full p.core → Full (or_joins f g p).core
-    unfolding or_joins
-    at_or_joins p a = by p.began
-      where
-        by : (b : Bool) → Full (elim b as (λ _. Pass) [ true ↦ p | false ↦ joins_begin (length (led_of p.core g).waiting.joins) f p.core g ]).core
-        by true = a
-        by false = at_joins (length (led_of p.core g).waiting.joins) p.core a
-
-    at_first : (s : Core) (row : GroupRow) → Full s → Full (first_begins f s g row).core
-    unfolding first_begins
-    at_first s row a = by (may_begin (list_or_new row.list))
-      where
-        by : (b : Bool) → Full (elim b as (λ _. Pass) [ false ↦ quiet s | true ↦ or_joins f g (or_due f g (failures_begin (length row.led.waiting.failures) f s g)) ]).core
-        by false = a
-        by true =
-            at_or_joins (or_due f g (failures_begin (length row.led.waiting.failures) f s g)) (at_or_due (failures_begin (length row.led.waiting.failures) f s g) (at_failures (length row.led.waiting.failures) s a))
-
-    at_group : (n : ℕ) (p : Pass) → Full p.core → Full (group_begins n f g p).core
-    unfolding group_begins
-    at_group zero p a = a
-    at_group (suc n) p a = let q : Pass = first_begins f p.core g (row_of p.core g) in
-        let k : Full q.core = at_first p.core (row_of p.core g) a in by q q.began k (at_group n q k)
-      where
-        by : (q : Pass) (b : Bool) → Full q.core → Full (group_begins n f g q).core → Full (elim b as (λ _. Pass) [ true ↦ group_begins n f g q | false ↦ record { core = q.core; began = p.began } ]).core
-        by q true k rest = rest
-        by q false k rest = k
-
-  at_groups : (most : ℕ) (f : Answering) (gs : List (List ℕ)) (p : Pass) → Full p.core → Full (fold (λ p g. group_begins most f g p) p gs).core
-  at_groups most f [] p a = a
-  at_groups most f (g ∷ gs) p a = at_groups most f gs (group_begins most f g p) (at_group f g most p a)
-
-  at_passes : (n most : ℕ) (f : Answering) (s : Core) → Full s → Full (passes n most f s)
-  unfolding passes one_pass
-  at_passes zero most f s a = a
-  at_passes (suc n) most f s a = let p : Pass = one_pass most f s in
-      let k : Full p.core = at_groups most f (led_groups s) (quiet s) a in by p p.began k (at_passes n most f p.core k)
-    where
-      by : (p : Pass) (b : Bool) → Full p.core → Full (passes n most f p.core) → Full (elim b as (λ _. Core) [ true ↦ passes n most f p.core | false ↦ p.core ])
-      by p true k rest = rest
-      by p false k rest = k
+  at_begun : (g : List ℕ) → KeepsBegun Full g
+  at_begun g =
+      record {
+        leaves_failures = λ s b a. at_waits h (Unit {0}) s g (failures_left b) (λ l. record { joins = λ q e. e; attrs = refl }) a;
+        leaves_joins = λ s b a. at_waits h (Unit {0}) s g (joins_left b) (λ l. left_fewer l b) a;
+        refuses = λ s p r y a. at_refused h (Unit {0}) s g p r y a;
+        fails = λ f s out phases a. at_begins h (Unit {0}) f s g (Fail out) phases (tt, tt, tt) a;
+        reflects = λ f s k v i from q a. at_begins h (Unit {0}) f s g (Reflect v i (state_of s k).value) (state_of s g).attrs.source_phases (reflects_well s g k v i from q a) a;
+        joins = λ f s a. begins_joins f s g a;
+      }
 
   pub at_step_ended : (f : Answering) (s : Core) → Full s → Full (end_step f s)
-  unfolding end_step
-  at_step_ended f s a = by (frozen s)
-    where
-      by : (b : Bool) → Full (elim b as (λ _. Core) [ true ↦ s | false ↦ passes (most_begun s) (most_begun s) f s ])
-      by true = a
-      by false = at_passes (most_begun s) (most_begun s) f s a
+  at_step_ended f s a = at_ended Full f (λ most c k. at_groups Full most f (led_groups c) (λ g i. at_begun g) (quiet c) k) s a

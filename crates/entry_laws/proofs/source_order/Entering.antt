@@ -1,29 +1,18 @@
 -- Entering a view, and what a rule of views leaves.
-use Rattle.std.proofs.Common.{◌≡◌, ℕ, List, [], ◌∷◌, ◌++◌, Option, Some, None, Bool, true, false, refl, sym, ap, subst, inl, inr, ⊎_elim, append_assoc, append-nil}
-use Rattle.std.specs.Prelude.{◌==◌, ◌&&◌, not, map, filter, fold, flat_map, reverse, is_some, if◌then◌else◌}
+use Rattle.std.proofs.Common.{◌≡◌, ℕ, List, [], ◌∷◌, ◌++◌, Option, Some, None, Bool, true, false, refl, sym, subst, inl, inr, append_assoc, append-nil}
+use Rattle.std.specs.Prelude.{map, filter, fold, reverse, is_some, if◌then◌else◌}
 use Rattle.std.specs.Str.{bytes_eq}
 use Rattle.std.proofs.lemmas.List.{reverse-append}
 use Rattle.rsct_packet.specs.declared.ids.ViewId.{ViewId}
-use Rattle.rsct_packet.specs.declared.ids.ProviderId.{ProviderId}
 use Rattle.rsct_packet.specs.Providers.{among}
 use Rattle.rsct_packet.specs.Search.{Has}
-use Rattle.rsct_packet.proofs.HasLaws.{has_append, has_map, append_has_right, reverse_has}
-use Rattle.group_attr.specs.Attrs.{host_membership}
+use Rattle.rsct_packet.proofs.HasLaws.{has_map, append_has_right, reverse_has, map_has}
 use Rattle.proposal_core.specs.declared.proposal.Cause.TheVariants.{Died}
-use Rattle.proposal_core.specs.Fold.{present}
-use Rattle.proposal_core.specs.Lists.{state_in}
 use Rattle.batch_rules.specs.Waiting.{add_failure}
 use Rattle.name_server.specs.Names.{node_of}
-use Rattle.subscribe_core.specs.declared.subs.Subscription.{Subscription}
-use Rattle.client_callbacks.specs.declared.told.Told.TheVariants as told
-use Rattle.client_callbacks.specs.declared.told.Why.TheVariants.{Dissolved}
-use Rattle.session_state.specs.declared.state.Provider.{Provider}
-use Rattle.session_state.specs.State.{provider_of, outstanding}
-use Rattle.session_state.specs.HandOn.{take_telling}
 use Rattle.view_state.specs.declared.install.Install.{Install}
 use Rattle.view_state.specs.declared.install.Base.{Base}
-use Rattle.view_state.specs.Bases.{bases_of, base_named}
-use Rattle.view_state.specs.declared.packet.ViewPacket.TheVariants as packet
+use Rattle.view_state.specs.Bases.{bases_of}
 use Rattle.view_state.specs.declared.packet.ViewSend.{ViewSend}
 use Rattle.view_state.specs.declared.views.ViewWork.{ViewWork}
 use Rattle.view_state.specs.Views.{own_install, views_entered}
@@ -33,19 +22,18 @@ use Rattle.node_state.specs.declared.happened.Happened.TheVariants as happened
 use Rattle.node_state.specs.declared.packet.Body.TheVariants as body
 use Rattle.node_state.specs.declared.state.Core.{Core}
 use Rattle.node_state.specs.State.{state_of, held_rows, recorded_all, with_sessions, led_groups}
-use Rattle.node_state.specs.Sending.{sent, send_requests, send_votes_again}
-use Rattle.node_state.specs.HandOn.{Answering, subscriber_name, note_of}
+use Rattle.node_state.specs.Sending.{sent}
+use Rattle.node_state.specs.HandOn.{Answering}
 use Rattle.node_state.specs.Leading.{with_waiting, tally_opened}
-use Rattle.node_state.specs.Applying.{Lacking, lacking, fill_lists, level_set, base_row, base_leader, base_record, view_entered, is_in_base, number_of, dissolved, dissolved_if, group_dissolved, sides_dissolved, base_note, entering_note, entering_noted, taken_sent, owed_sent, wait_failed, phase_reopened, lead, lead_groups, entered, entered_if, apply_install, views_taken}
+use Rattle.node_state.specs.Applying.{Lacking, lacking, fill_lists, level_set, base_row, base_leader, base_record, view_entered, sides_dissolved, entering_noted, taken_sent, owed_sent, wait_failed, phase_reopened, lead, lead_groups, entered, entered_if, apply_install, views_taken}
 use Rattle.step_refinement.proofs.BaseOrder.{base_noted}
-use Rattle.step_refinement.proofs.Turns.{has_turned}
 use Rattle.node_state.proofs.NameOrder.{text_same}
+use Rattle.entry_laws.proofs.closing_rows.Quiet.{at_fold, at_rest_entered}
 use Rattle.entry_laws.specs.source_order.Sources.{RecordedBase}
 use Rattle.entry_laws.proofs.closing_rows.Works.{Stays}
 use Rattle.entry_laws.proofs.source_order.Holding.{Turn, Bare, holds_same, failure_fewer}
-use Rattle.entry_laws.proofs.closing_rows.At.{Silent, calm_fold}
-use Rattle.entry_laws.proofs.closing_rows.Calms.{calm_sent, calm_sessions, owed_calm}
-use Rattle.entry_laws.proofs.source_order.At.{Facts, At, at_fold, at_calm, at_recorded, at_recorded_all}
+use Rattle.entry_laws.proofs.closing_rows.Calms.{calm_sent, calm_fold}
+use Rattle.entry_laws.proofs.source_order.At.{Facts, At, at_calm, keeps_quiet}
 use Rattle.entry_laws.proofs.source_order.Leading.{at_waits, at_tally_opened, at_closes}
 
 -- who the table names is the leader of a base
@@ -57,11 +45,6 @@ named_base g m (b ∷ bs) e = by (bytes_eq g b.name) refl e (named_base g m bs)
     by : (t : Bool) → bytes_eq g b.name ≡ t → (if t then Some b.leader else node_of g (map base_leader bs)) ≡ Some m → (node_of g (map base_leader bs) ≡ Some m → (c : Base) × Has c bs × (c.name ≡ g)) → (c : Base) × Has c (b ∷ bs) × (c.name ≡ g)
     by true q e rest = (b, inl refl, sym (text_same g b.name q))
     by false q e rest = let z = rest e in (z.0, inr z.1, z.2)
-
-has_mapped : {A B : Type 0} (f : A → B) (x : A) (xs : List A) → Has x xs → Has (f x) (map f xs)
-has_mapped f x [] i = absurd i
-has_mapped f x (y ∷ xs) (inl e) = inl (ap f e)
-has_mapped f x (y ∷ xs) (inr i) = inr (has_mapped f x xs i)
 
 module _ (h : Turn) (none_sent : h.sent ≡ []) where
   abbrev Full : Core → Type 0
@@ -98,69 +81,8 @@ module _ (h : Turn) (none_sent : h.sent ≡ []) where
             old = b.0.from;
             len = b.0.len;
             base = b.0.state;
-            there = reverse_has (happened.Base s.views.me i.view g b.0.from b.0.len b.0.state) (s.records ++ enters ∷ map (base_noted s.views.me i.view) (bases_of i)) (append_has_right (happened.Base s.views.me i.view g b.0.from b.0.len b.0.state) s.records (enters ∷ map (base_noted s.views.me i.view) (bases_of i)) (inr (subst (λ n. Has (happened.Base s.views.me i.view n b.0.from b.0.len b.0.state) (map (base_noted s.views.me i.view) (bases_of i))) b.2 (has_mapped (base_noted s.views.me i.view) b.0 (bases_of i) b.1))));
+            there = reverse_has (happened.Base s.views.me i.view g b.0.from b.0.len b.0.state) (s.records ++ enters ∷ map (base_noted s.views.me i.view) (bases_of i)) (append_has_right (happened.Base s.views.me i.view g b.0.from b.0.len b.0.state) s.records (enters ∷ map (base_noted s.views.me i.view) (bases_of i)) (inr (subst (λ n. Has (happened.Base s.views.me i.view n b.0.from b.0.len b.0.state) (map (base_noted s.views.me i.view) (bases_of i))) b.2 (map_has (base_noted s.views.me i.view) b.0 (bases_of i) b.1))));
           }
-
-  -- (3)
-  at_dissolved : (s : Core) (p : ProviderId) (r : ℕ) → Full s → Full (dissolved s p r)
-  unfolding dissolved
-  at_dissolved s p r a =
-      at_recorded h ⊥ (with_sessions s (take_telling s.sessions p r Dissolved)) (happened.Told p r Dissolved) tt (at_calm h ⊥ s (with_sessions s (take_telling s.sessions p r Dissolved)) (calm_sessions s (take_telling s.sessions p r Dissolved)) a)
-
-  at_dissolved_if : (s : Core) (g : List ℕ) (old : ViewId) (b : Option Base) (o : Option Provider) → Full s → Full (dissolved_if s g old b o)
-  unfolding dissolved_if
-  at_dissolved_if s g old b None a = a
-  at_dissolved_if s g old b (Some x) a = by (x.takes_part && bytes_eq x.group g && not (is_in_base old x.p b))
-    where
-      by : (c : Bool) → Full (elim c as (λ _. Core) [ true ↦ dissolved s x.p (number_of (outstanding s.sessions x.p)) | false ↦ s ])
-      by true = at_dissolved s x.p (number_of (outstanding s.sessions x.p)) a
-      by false = a
-
-  at_group_dissolved : (old : ViewId) (bs : List Base) (s : Core) (row : GroupRow) → Full s → Full (group_dissolved old bs s row)
-  unfolding group_dissolved
-  at_group_dissolved old bs s row a =
-      at_fold h ⊥ (λ (t : Core) p. dissolved_if t row.name old (base_named bs row.name) (provider_of t.sessions p)) (present (state_in row.list)) (λ t p i k. at_dissolved_if t row.name old (base_named bs row.name) (provider_of t.sessions p) k) s a
-
-  at_sides : (s : Core) (rows : List GroupRow) (old : ViewId) (bs : List Base) → Full s → Full (sides_dissolved s rows old bs)
-  unfolding sides_dissolved
-  at_sides s rows old bs a = at_fold h ⊥ (group_dissolved old bs) rows (λ t row i k. at_group_dissolved old bs t row k) s a
-
-  -- (4)
-  note_silent : (s : Core) (bs : List Base) (u : Subscription) (r : Happened) → Has r (entering_note s bs u) → Silent r
-  unfolding entering_note base_note note_of
-  note_silent s bs u r i = by (bytes_eq u.group host_membership) i
-    where
-      base : (o : Option Base) → Has r (base_note s u o) → Silent r
-      base None j = absurd j
-      base (Some b) (inl e) = subst Silent (sym e) tt
-      base (Some b) (inr z) = absurd z
-
-      by : (b : Bool) → Has r (elim b as (λ _. List Happened) [ true ↦ happened.Noted s.views.me (subscriber_name s.sessions u) s.views.view None (told.Hosts s.views.view s.views.members) ∷ [] | false ↦ base_note s u (base_named bs u.group) ]) → Silent r
-      by true (inl e) = subst Silent (sym e) tt
-      by true (inr z) = absurd z
-      by false j = base (base_named bs u.group) j
-
-  notes_silent : (s : Core) (bs : List Base) (us : List Subscription) (r : Happened) → Has r (flat_map (entering_note s bs) us) → Silent r
-  notes_silent s bs [] r i = absurd i
-  notes_silent s bs (u ∷ us) r i =
-      ⊎_elim (λ (j : Has r (entering_note s bs u)). note_silent s bs u r j) (λ (j : Has r (flat_map (entering_note s bs) us)). notes_silent s bs us r j) (has_append r (entering_note s bs u) (flat_map (entering_note s bs) us) i)
-
-  at_entering_noted : (s : Core) (bs : List Base) → Full s → Full (entering_noted s bs)
-  unfolding entering_noted
-  at_entering_noted s bs a = at_recorded_all h ⊥ (flat_map (entering_note s bs) s.sessions.subs.live) s (notes_silent s bs s.sessions.subs.live) a
-
-  -- (5) and (6)
-  at_taken_sent : (s : Core) → Full s → Full (taken_sent s)
-  unfolding taken_sent
-  at_taken_sent s a = by (s.views.view.coord == s.views.me)
-    where
-      by : (b : Bool) → Full (elim b as (λ _. Core) [ true ↦ s | false ↦ sent s s.views.view.coord (body.View (packet.Taken s.views.view)) ])
-      by true = a
-      by false = at_calm h ⊥ s _ (calm_sent s s.views.view.coord (body.View (packet.Taken s.views.view))) a
-
-  at_owed_sent : (s : Core) → Full s → Full (owed_sent s)
-  unfolding owed_sent
-  at_owed_sent s a = at_calm h ⊥ s (send_votes_again (send_requests s)) (owed_calm s) a
 
   -- (7)
   at_group_led : (f : Answering) (s : Core) (g : List ℕ) → Full s → Full (lead f s g)
@@ -172,7 +94,7 @@ module _ (h : Turn) (none_sent : h.sent ≡ []) where
 
       waits : Full t
       waits =
-          at_fold h ⊥ (λ t p. with_waiting t g (add_failure p Died)) (filter (among (state_of s g).members) (state_of s g).failed) (λ t p i k. at_waits h ⊥ t g (add_failure p Died) (λ l. failure_fewer l p Died) k) s a
+          at_fold (At h ⊥) (λ t p. with_waiting t g (add_failure p Died)) (filter (among (state_of s g).members) (state_of s g).failed) (λ t p i k. at_waits h ⊥ t g (add_failure p Died) (λ l. failure_fewer l p Died) k) s a
 
       by : (b : Bool) → Full (phase_reopened f t g b)
       by false = waits
@@ -184,10 +106,8 @@ module _ (h : Turn) (none_sent : h.sent ≡ []) where
       let t : Core = fill_lists f s xs in
       let bs : List Base = bases_of i in
       let v : Core = view_entered t i bs in
-      let d : Core = sides_dissolved v (held_rows t) t.views.view bs in
-      let e : Full d = at_sides v (held_rows t) t.views.view bs (at_view_entered t i) in
-      let u : Core = owed_sent (taken_sent (entering_noted d bs)) in
-      at_fold h ⊥ (lead f) (led_groups u) (λ c g i k. at_group_led f c g k) u (at_owed_sent (taken_sent (entering_noted d bs)) (at_taken_sent (entering_noted d bs) (at_entering_noted d bs e)))
+      let u : Core = owed_sent (taken_sent (entering_noted (sides_dissolved v (held_rows t) t.views.view bs) bs)) in
+      at_fold (At h ⊥) (lead f) (led_groups u) (λ c g i k. at_group_led f c g k) u (at_rest_entered (keeps_quiet h ⊥) v (held_rows t) t.views.view bs (at_view_entered t i))
 
   at_applied : (f : Answering) (s : Core) (o : Option Install) → Full s → Full (apply_install f s o)
   unfolding apply_install entered_if

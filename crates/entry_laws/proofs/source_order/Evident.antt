@@ -21,9 +21,9 @@ use Rattle.run_safety.specs.Group.{Line, Put, Kept}
 use Rattle.run_safety.specs.Bases.{Bases, state_of_list}
 use Rattle.node_state.proofs.NameOrder.{text_self}
 use Rattle.entry_laws.proofs.closing_rows.Told.{Told, less_many, less_now}
-use Rattle.entry_laws.proofs.closing_rows.Lists.{puts_here, state_before}
+use Rattle.entry_laws.proofs.closing_rows.Lists.{puts_here, state_before, base_here}
 use Rattle.entry_laws.specs.source_order.Sources.{HasMemberOn, JoinsOver, JoinsFrom, OfBegun, Rises, CarriesLength, BegunFirst, RecordRises, RecordCarries, RecordFirst, ReflectionsRise, JoinsCarryLengths, FirstsFollowSources}
-use Rattle.entry_laws.proofs.source_order.Fronts.{Bound, base_here, front_state}
+use Rattle.entry_laws.proofs.source_order.Fronts.{Bound, front_state}
 use Rattle.entry_laws.proofs.source_order.At.{BegunWell, PutFact, RecordFact}
 
 pub of_begun : (P Q : Proposal → Type 0) → ((x : Proposal) → P x → Q x) → (e : Entry) → OfBegun P e → OfBegun Q e

@@ -4,7 +4,6 @@ use Rattle.std.specs.Prelude.{◌==◌, ◌&&◌, reverse, nat_le, nat_lt}
 use Rattle.std.specs.Option.{unwrap_or}
 use Rattle.rsct_packet.specs.declared.ids.ProviderId.{ProviderId}
 use Rattle.rsct_packet.specs.declared.ids.ProtoId.{ProtoId}
-use Rattle.rsct_packet.specs.Providers.{among}
 use Rattle.rsct_packet.specs.Search.{Has}
 use Rattle.group_attr.specs.declared.attrs.Phases.{Phases}
 use Rattle.proposal_core.specs.declared.proposal.Cause.TheVariants.{Gone}
@@ -13,34 +12,31 @@ use Rattle.proposal_core.specs.declared.proposal.Proposal.{Proposal}
 use Rattle.proposal_core.specs.declared.proposal.Proposal.TheVariants.{Join}
 use Rattle.proposal_core.specs.declared.entry.Entry.{Entry}
 use Rattle.proposal_core.specs.declared.entry.Vote.{Vote}
-use Rattle.proposal_core.specs.Fold.{runs, present}
+use Rattle.proposal_core.specs.Fold.{runs}
 use Rattle.proposal_core.specs.Lists.{state_in, len_in}
 use Rattle.batch_rules.specs.Waiting.{add_failure, drop_join}
 use Rattle.vote_phases.specs.Tally.{TallyView, tally_fail}
 use Rattle.name_server.specs.Names as names
-use Rattle.client_callbacks.specs.declared.told.Why.{Why}
 use Rattle.client_callbacks.specs.declared.told.Why.TheVariants.{GroupsFull}
 use Rattle.session_state.specs.declared.state.Request.{Request}
-use Rattle.node_state.specs.declared.group.Decision.{Decision}
 use Rattle.node_state.specs.declared.group.GroupRow.{GroupRow}
 use Rattle.node_state.specs.declared.group.Led.{Led}
-use Rattle.node_state.specs.declared.packet.Body.{Body}
 use Rattle.node_state.specs.declared.packet.Body.TheVariants as body
 use Rattle.node_state.specs.declared.state.Core.{Core}
-use Rattle.node_state.specs.State.{InNameOrder, with_led, led_of, list_of, state_of, len_of, holds, fits_at_end, forget_below, coordinates, leads, set_leader, acked_raised, decision_of}
+use Rattle.node_state.specs.State.{InNameOrder, with_led, led_of, list_of, state_of, len_of, holds, fits_at_end, forget_below, coordinates, leads, set_leader, acked_raised}
 use Rattle.node_state.specs.Sending.{sent, send_request}
 use Rattle.node_state.specs.HandOn.{Answering}
 use Rattle.node_state.specs.Deciding.{is_idle_empty}
 use Rattle.node_state.proofs.NameOrder.{row_here}
-use Rattle.node_state.specs.Leading.{put_and_hand, with_waiting, with_tally, closes}
-use Rattle.node_state.specs.Following.{take_lookup, take_tell, requests_of, named, is_name_used, take_name, tell_again, decide_new, request_after, request_at, is_group_refused, take_request, entry_next, entry_elsewhere, take_entry, acked, take_ack, vote_cast, take_vote, tally_failed, wait_gone, marked, gone_present, gone_of, take_gone}
+use Rattle.node_state.specs.Leading.{put_and_hand, with_tally, closes}
+use Rattle.node_state.specs.Following.{take_lookup, take_tell, requests_of, named, is_name_used, take_name, decide_new, take_request, entry_next, entry_elsewhere, take_entry, acked, take_ack, vote_cast, take_vote, tally_failed, marked, take_gone}
 use Rattle.run_safety.specs.Requests as requests
-use Rattle.entry_laws.proofs.closing_rows.At.{found, calm_fold}
-use Rattle.entry_laws.proofs.closing_rows.Calms.{calm_sent, request_calm}
+use Rattle.entry_laws.proofs.closing_rows.Quiet.{at_fold, at_tell, at_request_taken, at_sent, at_gone_taken}
+use Rattle.entry_laws.proofs.closing_rows.At.{found}
+use Rattle.entry_laws.proofs.closing_rows.Calms.{request_calm, calm_fold}
 use Rattle.entry_laws.specs.source_order.Meant.{Decided}
 use Rattle.entry_laws.proofs.source_order.Holding.{Turn, so_far, Fewer, fewer_self, failure_fewer, dropped_fewer, Going, going_row, going_looked}
-use Rattle.entry_laws.proofs.source_order.At.{PutFact, At, at_fold, at_calm, at_table}
-use Rattle.entry_laws.proofs.source_order.Quiet.{at_tell}
+use Rattle.entry_laws.proofs.source_order.At.{PutFact, At, at_calm, at_table, keeps_quiet}
 use Rattle.entry_laws.proofs.source_order.Leading.{at_put_and_handed, at_led, at_led_by, at_waits, at_forgets, at_forgets_least, at_tally, at_closes}
 use Rattle.entry_laws.proofs.source_order.Deciding.{at_decided}
 
@@ -58,9 +54,6 @@ module _ (h : Turn) (P : Type 0) where
   abbrev Full : Core → Type 0
   Full s = At h P s
 
-  at_sent : (s : Core) (to : ℕ) (b : Body) → Full s → Full (sent s to b)
-  at_sent s to b a = at_calm h P s (sent s to b) (calm_sent s to b) a
-
   -- ---- LOOKUP and NAME
 
   pub at_lookup : (s : Core) (from : ℕ) (g : List ℕ) → Going h s → (coordinates s ≡ true → h.looked ≡ Some (g, from)) → Full s → Full (take_lookup s from g)
@@ -72,7 +65,7 @@ module _ (h : Turn) (P : Type 0) where
 
       by : (b : Bool) → coordinates s ≡ b → Full (elim b as (λ _. Core) [ false ↦ s | true ↦ sent t from (body.Name s.views.view g (unwrap_or (names.looked_up g from s.names) 0)) ])
       by false e = a
-      by true e = at_sent t from (body.Name s.views.view g (unwrap_or (names.looked_up g from s.names) 0)) (at_table h P s (names.lookup g from s.names) (inl (going_looked h s g from (looked e) going)) a)
+      by true e = at_sent (keeps_quiet h P) t from (body.Name s.views.view g (unwrap_or (names.looked_up g from s.names) 0)) (at_table h P s (names.lookup g from s.names) (inl (going_looked h s g from (looked e) going)) a)
 
   pub at_name : (s : Core) (g : List ℕ) (n : ℕ) → Full s → Full (take_name s g n)
   unfolding take_name named
@@ -80,15 +73,10 @@ module _ (h : Turn) (P : Type 0) where
     where
       by : (zero used : Bool) → Full (elim used as (λ _. Core) [ true ↦ named s g n zero | false ↦ s ])
       by zero false = a
-      by true true = at_fold h P (λ t (q : Request). take_tell t q.p q.r (GroupsFull 64)) (requests_of s g) (λ t q i k. at_tell h P t q.p q.r (GroupsFull 64) k) s a
+      by true true = at_fold (At h P) (λ t (q : Request). take_tell t q.p q.r (GroupsFull 64)) (requests_of s g) (λ t q i k. at_tell (keeps_quiet h P) t q.p q.r (GroupsFull 64) k) s a
       by false true = at_calm h P (set_leader s g n) _ (calm_fold send_request request_calm (requests_of s g) (set_leader s g n)) (at_led_by h P s g n a)
 
   -- ---- REQUEST
-
-  at_told_again : (s : Core) (g : List ℕ) (p : ProviderId) (r : ℕ) (o : Option Why) → Full s → Full (tell_again s g p r o)
-  unfolding tell_again
-  at_told_again s g p r None a = a
-  at_told_again s g p r (Some y) a = at_sent s p.node (body.Tell s.views.view g p r y) a
 
   module _ (f : Answering) (s : Core) (g : List ℕ) (p : ProviderId) (r : ℕ) (phases : Phases) (x : Proposal) (asked : Has (p, r) (requests.requests_of x)) (going : Going h s) (order : InNameOrder s.groups) (taken : (ps : List ProviderId) (attrs : Attrs) (k : Option ℕ) → x ≡ Join ps attrs k → Decided (so_far h []) h.node h.view g p (is_idle_empty (state_of s g)) attrs) where
     at_request_new : Full s → Full (decide_new f s g p r phases x)
@@ -96,24 +84,8 @@ module _ (h : Turn) (P : Type 0) where
     at_request_new a =
         at_decided h P f (set_leader s g s.views.me) g p r phases x asked (going_row h s g (λ row. record row { leader = Some s.views.me }) (λ y. refl) (λ y. fewer_self y.led) going) (λ ps attrs k e. subst (λ st. Decided (so_far h []) h.node h.view g p (is_idle_empty st) attrs) (sym (led_state s g s.views.me order)) (taken ps attrs k e)) (at_led_by h P s g s.views.me a)
 
-    at_request_after : (d : Decision) (b c : Bool) → Full s → Full (request_after f s g p r phases x d b c)
-    unfolding request_after
-    at_request_after d true c a = a
-    at_request_after d false true a = at_told_again s g p r d.why a
-    at_request_after d false false a = at_request_new a
-
-    at_request_at : (o : Option Decision) → Full s → Full (request_at f s g p r phases x o)
-    unfolding request_at
-    at_request_at None a = at_request_new a
-    at_request_at (Some d) a = at_request_after d (nat_lt r d.r) (r == d.r) a
-
     pub at_request : (from : ℕ) → Full s → Full (take_request f s from g p r phases x)
-    unfolding take_request
-    at_request from a = by (is_group_refused s g)
-      where
-        by : (b : Bool) → Full (elim b as (λ _. Core) [ true ↦ sent s from (body.Name s.views.view g 0) | false ↦ request_at f s g p r phases x (decision_of (led_of s g) p) ])
-        by true = at_sent s from (body.Name s.views.view g 0) a
-        by false = at_request_at (decision_of (led_of s g) p) a
+    at_request from a = at_request_taken (keeps_quiet h P) f s g p r phases x a (at_request_new a) from
 
   -- ---- ENTRY and ACK
 
@@ -128,11 +100,11 @@ module _ (h : Turn) (P : Type 0) where
     at_next fact true a =
         let t : Core = put_and_hand f s (Some from) g e in
         let u : Core = sent t from (body.Ack t.views.view g (len_of t g)) in
-        at_forgets h P (set_leader u g from) g stable (at_led_by h P u g from (at_sent t from (body.Ack t.views.view g (len_of t g)) (at_put_and_handed h P f s (Some from) g e fact a)))
+        at_forgets h P (set_leader u g from) g stable (at_led_by h P u g from (at_sent (keeps_quiet h P) t from (body.Ack t.views.view g (len_of t g)) (at_put_and_handed h P f s (Some from) g e fact a)))
 
     at_elsewhere : (b : Bool) → Full s → Full (entry_elsewhere s from g stable b)
     unfolding entry_elsewhere
-    at_elsewhere true a = at_forgets h P (sent s from (body.Ack s.views.view g (len_of s g))) g stable (at_sent s from (body.Ack s.views.view g (len_of s g)) a)
+    at_elsewhere true a = at_forgets h P (sent s from (body.Ack s.views.view g (len_of s g))) g stable (at_sent (keeps_quiet h P) s from (body.Ack s.views.view g (len_of s g)) a)
     at_elsewhere false a = by (holds s g)
       where
         by : (b : Bool) → Full (elim b as (λ _. Core) [ true ↦ forget_below s g stable | false ↦ s ])
@@ -176,30 +148,7 @@ module _ (h : Turn) (P : Type 0) where
   at_failed f s g p None a = a
   at_failed f s g p (Some t) a = at_closes h P f (with_tally s g (Some (tally_fail p t))) g (at_tally h P s g (Some (tally_fail p t)) a)
 
-  at_gone_waits : (s : Core) (g : List ℕ) (p : ProviderId) → Full s → Full (wait_gone s g p)
-  unfolding wait_gone
-  at_gone_waits s g p a = by (among (state_of s g).members p)
-    where
-      by : (b : Bool) → Full (elim b as (λ _. Core) [ true ↦ with_waiting s g (add_failure p Gone) | false ↦ s ])
-      by true = at_waits h P s g (add_failure p Gone) (λ l. failure_fewer l p Gone) a
-      by false = a
-
-  at_gone_present : (f : Answering) (s : Core) (g : List ℕ) (p : ProviderId) → Full s → Full (gone_present f s g p)
-  unfolding gone_present
-  at_gone_present f s g p a =
-      let t : Core = with_led s g (λ l. record l { gone = marked l.gone p }) in
-      at_gone_waits (tally_failed f t g p (led_of t g).tally) g p (at_failed f t g p (led_of t g).tally (at_led h P s g (λ l. record l { gone = marked l.gone p }) (λ l. record { joins = λ q e. e; attrs = refl }) a))
-
-  at_gone_of : (f : Answering) (s : Core) (g : List ℕ) (p : ProviderId) (b c : Bool) → Full s → Full (gone_of f s g p b c)
-  unfolding gone_of
-  at_gone_of f s g p true c a = at_gone_present f s g p a
-  at_gone_of f s g p false true a = at_waits h P s g (drop_join p) (λ l. dropped_fewer l p) a
-  at_gone_of f s g p false false a = a
-
   pub at_gone : (f : Answering) (s : Core) (g : List ℕ) (p : ProviderId) → Full s → Full (take_gone f s g p)
-  unfolding take_gone
-  at_gone f s g p a = by (leads s g)
-    where
-      by : (b : Bool) → Full (elim b as (λ _. Core) [ true ↦ gone_of f s g p (among (present (state_of s g)) p) (among (led_of s g).waiting.joins p) | false ↦ s ])
-      by true = at_gone_of f s g p (among (present (state_of s g)) p) (among (led_of s g).waiting.joins p) a
-      by false = a
+  at_gone f s g p a =
+      let t : Core = with_led s g (λ l. record l { gone = marked l.gone p }) in
+      at_gone_taken Full f s g p (λ led. at_failed f t g p (led_of t g).tally (at_led h P s g (λ l. record l { gone = marked l.gone p }) (λ l. record { joins = λ q e. e; attrs = refl }) a)) (λ u k. at_waits h P u g (add_failure p Gone) (λ l. failure_fewer l p Gone) k) (at_waits h P s g (drop_join p) (λ l. dropped_fewer l p) a) a

@@ -1,6 +1,6 @@
 -- What the leader of a group does.
-use Rattle.std.proofs.Common.{◌≡◌, ℕ, zero, suc, ◌-◌, max, List, [], drop, Option, Some, None, Bool, true, false, refl, subst, inl}
-use Rattle.std.specs.Prelude.{not, filter, nat_le, reverse, if◌then◌else◌}
+use Rattle.std.proofs.Common.{◌≡◌, ℕ, zero, suc, List, [], Option, Some, None, Bool, true, false, refl, subst, inl}
+use Rattle.std.specs.Prelude.{not, filter, nat_le, reverse}
 use Rattle.rsct_packet.specs.declared.ids.ProviderId.{ProviderId}
 use Rattle.rsct_packet.specs.Providers.{among}
 use Rattle.group_attr.specs.declared.attrs.Phases.{Phases}
@@ -14,8 +14,7 @@ use Rattle.proposal_core.specs.declared.entry.Entry.TheVariants.{Once, Begin, Ph
 use Rattle.proposal_core.specs.declared.group_state.GroupState.{GroupState}
 use Rattle.proposal_core.specs.declared.group_state.Running.{Running}
 use Rattle.proposal_core.specs.Fold.{max_phases}
-use Rattle.proposal_core.specs.GroupView.{GroupView}
-use Rattle.proposal_core.specs.Lists.{len_in, forgotten}
+use Rattle.proposal_core.specs.Lists.{len_in}
 use Rattle.batch_rules.specs.Waiting.{WaitingView, add_failure}
 use Rattle.vote_phases.specs.Tally.{TallyView, outcome}
 use Rattle.node_state.specs.declared.group.Led.{Led}
@@ -25,21 +24,12 @@ use Rattle.node_state.specs.State.{with_led, led_of, state_of, len_of, fits_at_e
 use Rattle.node_state.specs.Sending.{send_all}
 use Rattle.node_state.specs.HandOn.{Answering, hand_on}
 use Rattle.node_state.specs.Leading.{put, put_and_hand, forget_least, with_waiting, wait_if, new_members_wait, appended, append_if_fits, tally_set, with_tally, tally_opened, closing, closing_of, closing_entry, is_phase, closes_from, closes, begin_many, begins}
+use Rattle.entry_laws.proofs.closing_rows.Quiet.{at_fold, at_handed}
 use Rattle.entry_laws.proofs.closing_rows.At.{found}
 use Rattle.entry_laws.proofs.closing_rows.Calms.{calm_all}
-use Rattle.entry_laws.proofs.closing_rows.Leading.{forgotten_state}
 use Rattle.entry_laws.proofs.source_order.Holding.{Turn, so_far, Fewer, fewer_self, failure_fewer}
-use Rattle.entry_laws.proofs.source_order.At.{BegunWell, PutWell, PutFact, At, at_put, at_fold, at_calm, at_row}
-use Rattle.entry_laws.proofs.source_order.Quiet.{at_handed}
-
-forgotten_len : (l : Option GroupView) (n : ℕ) → len_in (list_forgotten n l) ≡ len_in l
-unfolding forgotten
-forgotten_len None n = refl
-forgotten_len (Some l) n = by (nat_le n l.len)
-  where
-    by : (b : Bool) → (if b then record l { start = max l.start n; entries = drop (n - l.start) l.entries } else l).len ≡ l.len
-    by true = refl
-    by false = refl
+use Rattle.entry_laws.proofs.source_order.At.{BegunWell, PutWell, PutFact, At, at_put, at_calm, at_row, keeps_quiet}
+use Rattle.step_walk.proofs.Asides.{forgotten_len, forgotten_state}
 
 -- what begins nothing
 abbrev pub Closes : Entry → Type 0
@@ -89,7 +79,7 @@ module _ (h : Turn) where
     pub at_put_and_handed : (f : Answering) (s : Core) (to : Option ℕ) (g : List ℕ) (e : Entry) → PutFact h.what (reverse s.records) h.before s.views.me s.views.view g (len_in (found s g).list) e → Full s → Full (put_and_hand f s to g e)
     unfolding put_and_hand
     at_put_and_handed f s to g e fact a =
-        at_handed h P f (put s g e) to g (len_of s g) (state_of s g) (state_of (put s g e) g) e (at_put h P s g e fact a)
+        at_handed (keeps_quiet h P) f (put s g e) to g (len_of s g) (state_of s g) (state_of (put s g e) g) e (at_put h P s g e fact a)
 
     -- what a leader keeps changes
     pub at_led : (s : Core) (g : List ℕ) (f : Led → Led) → ((l : Led) → Fewer l (f l)) → Full s → Full (with_led s g f)
@@ -108,7 +98,7 @@ module _ (h : Turn) where
     pub at_forgets : (s : Core) (g : List ℕ) (n : ℕ) → Full s → Full (forget_below s g n)
     unfolding forget_below
     at_forgets s g n a =
-        at_row h P s g (λ row. record row { list = list_forgotten n row.list }) (λ x. refl) (λ x. forgotten_state x.list n) (λ x. forgotten_len x.list n) (λ x. fewer_self x.led) a
+        at_row h P s g (λ row. record row { list = list_forgotten n row.list }) (λ x. refl) (λ x. forgotten_state n x.list) (λ x. forgotten_len n x.list) (λ x. fewer_self x.led) a
 
     pub at_forgets_least : (s : Core) (g : List ℕ) → Full s → Full (forget_least s g)
     unfolding forget_least
@@ -123,7 +113,7 @@ module _ (h : Turn) where
     at_new_members : (s : Core) (g : List ℕ) (before after : GroupState) → Full s → Full (new_members_wait s g before after)
     unfolding new_members_wait
     at_new_members s g before after a =
-        at_fold h P (λ t p. wait_if t g p (among after.failed p) (among (led_of s g).gone p)) (filter (λ p. not (among before.members p)) after.members) (λ t p i k. at_waits_if t g p (among after.failed p) (among (led_of s g).gone p) k) s a
+        at_fold (At h P) (λ t p. wait_if t g p (among after.failed p) (among (led_of s g).gone p)) (filter (λ p. not (among before.members p)) after.members) (λ t p i k. at_waits_if t g p (among after.failed p) (among (led_of s g).gone p) k) s a
 
     at_appended : (f : Answering) (s : Core) (g : List ℕ) (e : Entry) → NextWell s g e → Full s → Full (appended f s g e)
     unfolding appended
@@ -133,7 +123,7 @@ module _ (h : Turn) where
         let w : Core = hand_on f u (leader_of u g) g (len_of s g) (state_of s g) (state_of t g) e in
         let put_at : Full t = at_put h P s g e (inl ok) a in
         let sent_at : Full u = at_calm h P t u (calm_all t (others t) (body.Entry t.views.view g (len_of s g) (least_acked t g) e)) put_at in
-        let handed_at : Full w = at_handed h P f u (leader_of u g) g (len_of s g) (state_of s g) (state_of t g) e sent_at in
+        let handed_at : Full w = at_handed (keeps_quiet h P) f u (leader_of u g) g (len_of s g) (state_of s g) (state_of t g) e sent_at in
         at_new_members (forget_least w g) g (state_of s g) (state_of t g) (at_forgets_least w g handed_at)
 
     -- ---- the tally of a phase

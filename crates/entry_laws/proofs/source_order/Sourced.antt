@@ -8,9 +8,9 @@ use Rattle.run_safety.specs.Past.{History, records_of}
 use Rattle.run_safety.specs.Sight.{lines_of}
 use Rattle.run_safety.specs.Bases.{Bases}
 use Rattle.entry_laws.proofs.closing_rows.Told.{Told}
-use Rattle.entry_laws.proofs.closing_rows.Lists.{puts_all}
+use Rattle.entry_laws.proofs.closing_rows.Lists.{puts_all, base_all}
 use Rattle.entry_laws.specs.source_order.Sources.{HasMemberOn, HasFront, OverSource, JoinsOverSources}
-use Rattle.entry_laws.proofs.source_order.Fronts.{Bound, base_all, front_state}
+use Rattle.entry_laws.proofs.source_order.Fronts.{Bound, front_state}
 use Rattle.entry_laws.proofs.source_order.Climbs.{base_line}
 use Rattle.entry_laws.proofs.source_order.Evident.{of_begun, RightOver, RightBegun, AllFacts, rights_of}
 

@@ -19,25 +19,25 @@ use Rattle.node_state.specs.HandOn.{Answering}
 use Rattle.node_state.specs.Following.{take_lookup, take_name, take_request, take_tell, take_entry, take_ack, take_vote, take_gone}
 use Rattle.node_state.specs.Applying.{own_parts, views_taken}
 use Rattle.node_state.specs.Status.{status_text}
-use Rattle.node_state.specs.Ticks.{tick_rings, tick_views, tick_owed, tick_rule}
-use Rattle.node_state.specs.Ending.{end_step}
-use Rattle.node_state.specs.Step.{NodeEvent, Ticks, Asks, Given, Calls, Garbage, is_used, used_if, take_order, view_rule, take_body, packet_rule, event_rule, stepped, at_work}
+use Rattle.node_state.specs.Ticks.{tick_rings, tick_views, tick_owed}
+use Rattle.node_state.specs.Step.{NodeEvent, Ticks, Asks, Given, Calls, Garbage, is_used, used_if, take_order, view_rule, take_body, packet_rule, stepped, at_work}
 use Rattle.world_model.specs.declared.event.Event.{Event}
+use Rattle.step_refinement.proofs.Steps.{acted_tied, begun_at_work, stepped_is}
 use Rattle.step_refinement.specs.Tied.{Scene, Begun, Rests, Tied}
 use Rattle.step_refinement.specs.Rules.{acted, Arises}
 use Rattle.step_refinement.proofs.Begins.{begin_tied}
+use Rattle.entry_laws.proofs.closing_rows.Steps.{entry_had_put}
+use Rattle.entry_laws.proofs.closing_rows.Quiet.{at_tell, at_ring, at_report, at_rings_part, at_call}
 use Rattle.entry_laws.proofs.closing_rows.Calms.{calm_on, owed_part_calm}
 use Rattle.entry_laws.proofs.closing_rows.Works.{Stays, begun_stays, ask_stays, prepare_stays, answer_stays, refuse_stays, install_stays, taken_stays}
 use Rattle.entry_laws.specs.source_order.Meant.{IsDelivery, DeliveryNoted}
 use Rattle.entry_laws.proofs.source_order.Holding.{Turn, so_far, RowHolds, Going, Holds, row_on}
-use Rattle.entry_laws.proofs.source_order.At.{At, at_calm}
-use Rattle.entry_laws.proofs.source_order.Quiet.{at_tell, at_ring, at_report, at_rings_part, at_call}
+use Rattle.entry_laws.proofs.source_order.At.{At, at_calm, keeps_quiet}
 use Rattle.entry_laws.proofs.source_order.Following.{at_lookup, at_name, at_request, at_entry, at_ack, at_vote, at_gone}
 use Rattle.entry_laws.proofs.source_order.Entering.{at_views_taken}
 use Rattle.entry_laws.proofs.source_order.Ticking.{at_views_part, at_led_part}
 use Rattle.entry_laws.proofs.source_order.Ending.{at_step_ended}
-use Rattle.entry_laws.proofs.source_order.Tied.{states_tied, entry_was_put, request_carries, request_decided}
-use Rattle.entry_laws.proofs.source_order.Acted.{acted_tied, begun_at_work}
+use Rattle.entry_laws.proofs.source_order.Tied.{states_tied, request_carries, request_decided}
 
 -- the group that is looked up, where the node is the coordinator
 abbrev pub looked_at : Core → Packet → Body → Option (List ℕ × ℕ)
@@ -83,16 +83,16 @@ module _ (w : Scene) (n : ℕ) (f : Answering) (s : Core) (v : Event) (e : NodeE
 
   body_at : (p : Packet) (b : Body) → e ≡ Given p → p.body ≡ b → (p.to == s.views.me) ≡ true → Has p w.sent → Full (take_body f s p b)
   unfolding take_body
-  body_at p (body.Ring y) event is mine sent = at_ring (turn_of v w n s e []) ⊥ s p.network p.from p.inc y a
-  body_at p (body.Report rows) event is mine sent = at_report (turn_of v w n s e []) ⊥ s rows a
+  body_at p (body.Ring y) event is mine sent = at_ring (keeps_quiet (turn_of v w n s e []) ⊥) s p.network p.from p.inc y a
+  body_at p (body.Report rows) event is mine sent = at_report (keeps_quiet (turn_of v w n s e []) ⊥) s rows a
   body_at p (body.View y) event is mine sent = view_at p.from p.inc y
   body_at p (body.Lookup u g) event is mine sent = used (take_lookup s p.from g) (is_used s p u) (λ now. at_lookup (turn_of v w n s e []) ⊥ s p.from g going (looked p u g event is mine now) a)
   body_at p (body.Name u g k) event is mine sent = used (take_name s g k) (is_used s p u) (λ now. at_name (turn_of v w n s e []) ⊥ s g k a)
   body_at p (body.Request u g q r phases y) event is mine sent =
       used (take_request f s p.from g q r phases y) (is_used s p u) (λ now. at_request (turn_of v w n s e []) ⊥ f s g q r phases y (request_carries u g q r phases y w n s p is sent (all g)) going (all g).own.0.order (λ ps attrs k join. inl (request_decided (Some v) u g q r phases ps attrs k w n s p (is ∙ ap (body.Request u g q r phases) join) sent (delivery p event) none (all g))) p.from a)
-  body_at p (body.Tell u g q r y) event is mine sent = used (take_tell s q r y) (is_used s p u) (λ now. at_tell (turn_of v w n s e []) ⊥ s q r y a)
+  body_at p (body.Tell u g q r y) event is mine sent = used (take_tell s q r y) (is_used s p u) (λ now. at_tell (keeps_quiet (turn_of v w n s e []) ⊥) s q r y a)
   body_at p (body.Entry u g i k y) event is mine sent =
-      used (take_entry f s p.from g i k y) (is_used s p u) (λ now. at_entry (turn_of v w n s e []) ⊥ f s p.from g k y i (λ at. entry_was_put (Some v) u g i k y w n s p is sent (all g) now at) a)
+      used (take_entry f s p.from g i k y) (is_used s p u) (λ now. at_entry (turn_of v w n s e []) ⊥ f s p.from g k y i (λ at. inr (entry_had_put u g i k y w n s p is sent (all g) now at)) a)
   body_at p (body.Ack u g k) event is mine sent = used (take_ack s p.from g k) (is_used s p u) (λ now. at_ack (turn_of v w n s e []) ⊥ s p.from g k a)
   body_at p (body.Vote u g proto phase q ballot value message) event is mine sent =
       used (take_vote f s g proto phase q ballot value message) (is_used s p u) (λ now. at_vote (turn_of v w n s e []) ⊥ f s g proto phase q ballot value message a)
@@ -112,23 +112,15 @@ module _ (w : Scene) (n : ℕ) (f : Answering) (s : Core) (v : Event) (e : NodeE
   unfolding packet_rule
   acted_at Ticks is arises =
       let t : Core = tick_views f (tick_rings s) in
-      at_led_part (turn_of v w n s e []) f (tick_owed t) (at_calm (turn_of v w n s e []) ⊥ t (tick_owed t) (owed_part_calm t) (at_views_part (turn_of v w n s e []) refl f (tick_rings s) (at_rings_part (turn_of v w n s e []) ⊥ s a)))
+      at_led_part (turn_of v w n s e []) f (tick_owed t) (at_calm (turn_of v w n s e []) ⊥ t (tick_owed t) (owed_part_calm t) (at_views_part (turn_of v w n s e []) refl f (tick_rings s) (at_rings_part (keeps_quiet (turn_of v w n s e []) ⊥) s a)))
   acted_at (Asks mask) is arises = order_at mask
-  acted_at (Calls c) is arises = at_call (turn_of v w n s e []) ⊥ s c a
+  acted_at (Calls c) is arises = at_call (keeps_quiet (turn_of v w n s e []) ⊥) s c a
   acted_at Garbage is arises = a
   acted_at (Given p) is arises = by (p.to == s.views.me) refl
     where
       by : (b : Bool) → (p.to == s.views.me) ≡ b → Full (elim b as (λ _. Core) [ true ↦ take_body f s p p.body | false ↦ s ])
       by false mine = a
       by true mine = body_at p p.body is refl mine arises
-
-stepped_is : (f : Answering) (s : Core) (e : NodeEvent) → stepped f s e ≡ end_step f (acted f (at_work s) e)
-unfolding stepped event_rule tick_rule
-stepped_is f s Ticks = refl
-stepped_is f s (Asks mask) = refl
-stepped_is f s (Given p) = refl
-stepped_is f s (Calls c) = refl
-stepped_is f s Garbage = refl
 
 -- what is held does not depend on what was sent
 holds_sent : (v : Event) (w : Scene) (n : ℕ) (s : Core) (e : NodeEvent) (xs ys : List Packet) (c : Core) → Holds (turn_of v w n s e xs) c → Holds (turn_of v w n s e ys) c

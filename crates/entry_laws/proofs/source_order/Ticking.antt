@@ -11,11 +11,11 @@ use Rattle.node_state.specs.HandOn.{Answering}
 use Rattle.node_state.specs.Leading.{with_tally}
 use Rattle.node_state.specs.Applying.{own_parts, views_taken}
 use Rattle.node_state.specs.Ticks.{ring_ask, tick_views, late_appended, announced, ticked_in, tally_ticks, sent_again, tick_group, tick_led}
-use Rattle.entry_laws.proofs.closing_rows.At.{calm_fold}
-use Rattle.entry_laws.proofs.closing_rows.Calms.{again_calm}
+use Rattle.entry_laws.proofs.closing_rows.Quiet.{at_fold}
+use Rattle.entry_laws.proofs.closing_rows.Calms.{again_calm, calm_fold}
 use Rattle.entry_laws.proofs.closing_rows.Works.{begun_stays, ticks_stay, install_again_stays}
 use Rattle.entry_laws.proofs.source_order.Holding.{Turn}
-use Rattle.entry_laws.proofs.source_order.At.{At, at_fold, at_calm}
+use Rattle.entry_laws.proofs.source_order.At.{At, at_calm}
 use Rattle.entry_laws.proofs.source_order.Leading.{at_tally, at_closes, at_appended_if}
 use Rattle.entry_laws.proofs.source_order.Entering.{at_views_taken}
 
@@ -60,4 +60,4 @@ module _ (h : Turn) where
     where
       by : (b : Bool) → Full (elim b as (λ _. Core) [ true ↦ s | false ↦ fold (tick_group f) s (led_groups s) ])
       by true = a
-      by false = at_fold h ⊥ (tick_group f) (led_groups s) (λ c g i k. at_group_ticks f c g k) s a
+      by false = at_fold (At h ⊥) (tick_group f) (led_groups s) (λ c g i k. at_group_ticks f c g k) s a

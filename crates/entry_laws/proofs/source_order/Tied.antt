@@ -1,8 +1,7 @@
 -- What the relation of each group to its life says in the middle of a step: of the states that the lists of the node have,
 -- and of what is sent to it.
-use Rattle.std.proofs.Common.{◌≡◌, ℕ, List, [], ◌∷◌, length, Option, Some, None, true, refl, sym, ap, ◌∙◌, subst, inl, inr}
-use Rattle.std.specs.Prelude.{◌==◌, ◌&&◌, reverse, slice_get, is_none}
-use Rattle.std.proofs.lemmas.Bool.{eqb-true}
+use Rattle.std.proofs.Common.{◌≡◌, ℕ, List, [], ◌∷◌, length, Option, Some, None, refl, sym, ap, ◌∙◌, subst, inl, inr}
+use Rattle.std.specs.Prelude.{◌&&◌, reverse, is_none}
 use Rattle.rsct_packet.specs.declared.ids.ViewId.{ViewId}
 use Rattle.rsct_packet.specs.declared.ids.ProviderId.{ProviderId}
 use Rattle.rsct_packet.specs.Search.{Has}
@@ -10,22 +9,20 @@ use Rattle.rsct_packet.specs.Lists.{is_empty}
 use Rattle.rsct_packet.proofs.HasLaws.{append_has_right, has_map}
 use Rattle.group_attr.specs.declared.attrs.Attrs.{Attrs}
 use Rattle.group_attr.specs.declared.attrs.Phases.{Phases}
-use Rattle.proposal_core.specs.declared.entry.Entry.{Entry}
 use Rattle.proposal_core.specs.declared.proposal.Proposal.{Proposal}
 use Rattle.proposal_core.specs.declared.proposal.Proposal.TheVariants.{Join}
 use Rattle.proposal_core.specs.declared.group_state.GroupState.{GroupState}
-use Rattle.proposal_core.specs.Lists.{list_or_new, len_in}
+use Rattle.proposal_core.specs.Lists.{list_or_new}
 use Rattle.node_state.specs.declared.happened.Happened.TheVariants as happened
 use Rattle.node_state.specs.declared.packet.Body.TheVariants as body
 use Rattle.node_state.specs.declared.packet.Packet.{Packet}
 use Rattle.node_state.specs.declared.state.Core.{Core}
-use Rattle.node_state.specs.State.{row_of, list_of, state_of, len_of}
+use Rattle.node_state.specs.State.{row_of, list_of, state_of}
 use Rattle.node_state.specs.Deciding.{is_idle_empty}
-use Rattle.node_state.specs.Step.{is_used}
 use Rattle.world_model.specs.declared.event.Event.{Event}
 use Rattle.run_safety.specs.Past.{History, records_of, earlier, view_now, puts_of}
 use Rattle.run_safety.specs.Sight.{lines_with, lines_of}
-use Rattle.run_safety.specs.Group.{Origin, Put, Begins, Based, Line, Kept, Noted, kept}
+use Rattle.run_safety.specs.Group.{Origin, Begins, Based, Kept, Noted, kept}
 use Rattle.run_safety.specs.Group as group
 use Rattle.run_safety.specs.GroupLists as lists
 use Rattle.run_safety.specs.Requests.{requests_of}
@@ -33,17 +30,14 @@ use Rattle.run_safety.specs.Bases.{state_of_list}
 use Rattle.run_safety.proofs.Whole.{Whole}
 use Rattle.run_safety.proofs.Lives.{whole}
 use Rattle.step_refinement.specs.Ghost.{Ghost, Keeps}
-use Rattle.step_refinement.specs.Tied.{ShowsBody, ShowsEntry, Scene, opening_of, NodeIs, Tied}
-use Rattle.step_refinement.proofs.Acks.{used_is}
+use Rattle.step_refinement.specs.Tied.{ShowsBody, Scene, opening_of, NodeIs, Tied}
 use Rattle.step_refinement.proofs.RowWorks.{keeps_of}
 use Rattle.entry_laws.proofs.closing_rows.At.{found, StateIs}
 use Rattle.entry_laws.proofs.closing_rows.Told.{Told, told_of}
 use Rattle.entry_laws.proofs.closing_rows.Lists.{puts_all, state_rest}
-use Rattle.entry_laws.proofs.closing_rows.Evident.{put_back}
 use Rattle.row_laws.proofs.hearing.Handing.{has_among}
 use Rattle.row_laws.proofs.failed_rows.Asked.{asked_back}
 use Rattle.entry_laws.specs.source_order.Meant.{IsDelivery, DecidedIn}
-use Rattle.entry_laws.proofs.source_order.At.{PutFact}
 
 -- the records say what state each list of the node has
 pub states_tied : (g : List ℕ) (w : Scene) (n : ℕ) (s : Core) → Tied g w n s → StateIs s.views.me s.views.view g (found s g).list (earlier (reverse s.records) w.before)
@@ -87,22 +81,6 @@ states_tied g w n s t = subst (λ m. StateIs m s.views.view g (found s g).list (
           state = shows.state ∙ ap (state_of_list x.bases s.views.view) (sym full) ∙ state_rest n s.views.view g x.bases o.log h told based;
           len = shows.len ∙ sym (ap length puts);
         }
-
--- an entry that was sent someone had put
-pub entry_was_put : (what : Option Event) (v : ViewId) (g : List ℕ) (place stable : ℕ) (e : Entry) (w : Scene) (n : ℕ) (s : Core) (p : Packet) → p.body ≡ body.Entry v g place stable e → Has p w.sent → Tied g w n s → is_used s p v ≡ true → (place == len_of s g) ≡ true → PutFact what (reverse s.records) w.before s.views.me s.views.view g (len_in (found s g).list) e
-unfolding len_of list_of row_of
-entry_was_put what v g place stable e w n s p is delivered t used at =
-    let o : Whole (opening_of w.config) t.ghost.nodes t.ghost.ps t.ghost.all t.ghost.leads t.ghost.bases = whole t.life in
-    let shown : ShowsEntry t.ghost p.from p.inc v place stable e = (subst (ShowsBody t.ghost g p.from p.inc p.to) is (t.packets p (append_has_right p s.sends w.sent delivered))) refl in
-    let get : slice_get (o.log v) place ≡ Some e = o.good.inv.packet (group.Append v place e) shown.sent in
-    let k = o.firsts.put v place e get in
-    let there : slice_get (o.log v) place ≡ Some k.1 = o.good.inv.records (Put k.0 v place k.1) k.2 in
-    let same : k.1 ≡ e = let z : Some k.1 ≡ Some e = sym there ∙ get in cc in
-    let here : v ≡ s.views.view = (used_is s p v used).0 in
-    let end : place ≡ len_in (found s g).list = eqb-true place (len_of s g) at in
-    let line : Has (Put k.0 v place e) (kept t.ghost.all) = subst (λ z. Has (Put k.0 v place z) (kept t.ghost.all)) same k.2 in
-    let put : Has (happened.Put k.0 v g place e) (earlier (reverse s.records) w.before) = put_back g k.0 v place e (reverse s.records) w.before (subst (λ l. Has (Put k.0 v place e) (kept l)) t.lines line) in
-    inr (k.0, subst (λ (z : ViewId × ℕ). Has (happened.Put k.0 z.0 g z.1 e) (earlier (reverse s.records) w.before)) (λ i. (here i, end i)) put)
 
 -- a request that was sent carries itself: none is for a reflection
 pub request_carries : (v : ViewId) (g : List ℕ) (q : ProviderId) (r : ℕ) (phases : Phases) (x : Proposal) (w : Scene) (n : ℕ) (s : Core) (p : Packet) → p.body ≡ body.Request v g q r phases x → Has p w.sent → Tied g w n s → Has (q, r) (requests_of x)

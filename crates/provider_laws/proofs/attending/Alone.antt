@@ -7,17 +7,16 @@ use Rattle.rsct_packet.specs.declared.ids.ViewId.{ViewId}
 use Rattle.rsct_packet.specs.Providers.{among, none_among, differ}
 use Rattle.rsct_packet.specs.Search.{Has}
 use Rattle.rsct_packet.proofs.HasLaws.{has_filter, has_append, append_has_left, append_has_right, all_has}
-use Rattle.group_attr.specs.declared.attrs.Attrs.{Attrs}
 use Rattle.proposal_core.specs.declared.proposal.Proposal.{Proposal}
-use Rattle.proposal_core.specs.declared.proposal.Proposal.TheVariants.{Join, Leave, Fail, Expel, State, Message, Attributes, Reflect}
+use Rattle.proposal_core.specs.declared.proposal.Proposal.TheVariants.{Join, Leave, Fail, Expel}
 use Rattle.proposal_core.specs.declared.entry.Entry.{Entry}
 use Rattle.proposal_core.specs.declared.entry.Entry.TheVariants.{Once, Begin, Phase, Approve, Reject, Late}
 use Rattle.proposal_core.specs.declared.group_state.GroupState.{GroupState}
 use Rattle.proposal_core.specs.declared.group_state.Running.{Running}
-use Rattle.proposal_core.specs.Fold.{max_providers, joins_of, joiners_in, present, fallen_of, can_begin, fits, without, effect, first_value, first_attrs, take_attrs, begun, replace_proposed, take_value, approve, take_rejection, reject, advance, next_phase, apply, after_if, after}
-use Rattle.run_safety.specs.Past.{fold_from}
+use Rattle.proposal_core.specs.Fold.{max_providers, joins_of, joiners_in, present, fallen_of, can_begin, fits, without, effect, first_value, first_attrs, begun, replace_proposed, approve, take_rejection, reject, advance, next_phase, apply, after_if, after}
 use Rattle.row_laws.proofs.hearing.Handing.{has_among}
 use Rattle.provider_laws.specs.attending.Places.{Alone, Named}
+use Rattle.row_laws.proofs.failed_rows.Grows.{valued_present, attrs_members}
 
 pub differ_alone : (xs : List ProviderId) → differ xs ≡ true → Alone xs
 differ_alone [] e = tt
@@ -67,13 +66,7 @@ none_is xs ps p e h k = out (among xs p) (all_has (λ q. not (among xs q)) ps p 
 joins_apart : (s : GroupState) (x : Proposal) → can_begin s x ≡ true → (p : ProviderId) → Has p s.members → Has p (joins_of x) → ⊥
 unfolding can_begin
 joins_apart s (Join ps attrs n) e p h k = none_is s.members ps p (and_parts (none_among s.members ps) (nat_le (length s.members + length ps) max_providers) e).0 h k
-joins_apart s (Leave q r) e p h k = k
-joins_apart s (Fail out) e p h k = k
-joins_apart s (Expel q r out) e p h k = k
-joins_apart s (State q r value) e p h k = k
-joins_apart s (Message q r bytes) e p h k = k
-joins_apart s (Attributes q r attrs) e p h k = k
-joins_apart s (Reflect view place value) e p h k = k
+joins_apart s _ e p h k = k
 
 begins_alone : (s : GroupState) (x : Proposal) → Alone (present s) → Alone (joins_of x) → can_begin s x ≡ true → Alone (s.members ++ joins_of x)
 begins_alone s x a n e = alone_append s.members (joins_of x) (alone_left s.members (joiners_in s.running) a) n (joins_apart s x e)
@@ -88,36 +81,18 @@ effect_alone s (Join ps attrs n) a = subst Alone (sym (append-nil (s.members ++ 
 effect_alone s (Leave p r) a = left_alone (λ q. not (among (p ∷ []) q)) s.members a
 effect_alone s (Fail out) a = left_alone (λ q. not (among (fallen_of out) q)) s.members a
 effect_alone s (Expel p r out) a = left_alone (λ q. not (among out q)) s.members a
-effect_alone s (State p r value) a = a
-effect_alone s (Message p r bytes) a = a
-effect_alone s (Attributes p r attrs) a = a
-effect_alone s (Reflect view place value) a = a
+effect_alone s _ a = a
 
 rejected_alone : (s : GroupState) (x : Proposal) → Alone (s.members ++ joins_of x) → Alone (present (take_rejection (record s { running = None }) x))
 unfolding take_rejection without
 rejected_alone s (Join ps attrs n) a = subst Alone (sym (append-nil s.members)) (alone_left s.members ps a)
-rejected_alone s (Leave p r) a = a
 rejected_alone s (Fail out) a = left_alone (λ q. not (among (fallen_of out) q)) s.members a
-rejected_alone s (Expel p r out) a = a
-rejected_alone s (State p r value) a = a
-rejected_alone s (Message p r bytes) a = a
-rejected_alone s (Attributes p r attrs) a = a
-rejected_alone s (Reflect view place value) a = a
-
-valued_present : (s : GroupState) (v : ViewId) (i : ℕ) (o : Option (List ℕ)) → present (take_value s v i o) ≡ present s
-unfolding take_value
-valued_present s v i None = refl
-valued_present s v i (Some value) = refl
+rejected_alone s _ a = a
 
 approved_alone : (s : GroupState) (v : ViewId) (i : ℕ) (value : Option (List ℕ)) (run : Running) → Alone (s.members ++ joins_of run.proposal) → Alone (present (approve s v i value (Some run)))
 unfolding approve
 approved_alone s v i value run a =
     subst Alone (sym (valued_present (effect (record s { running = None }) run.proposal) v i (replace_proposed value run.proposed))) (effect_alone s run.proposal a)
-
-attrs_members : (s : GroupState) (o : Option Attrs) → (take_attrs s o).members ≡ s.members
-unfolding take_attrs
-attrs_members s None = refl
-attrs_members s (Some attrs) = refl
 
 applied_alone : (s : GroupState) (v : ViewId) (i : ℕ) (e : Entry) → Alone (present s) → Named e → fits s e ≡ true → Alone (present (apply s v i e))
 unfolding apply approve begun fits reject next_phase advance
@@ -151,7 +126,3 @@ after_alone s v i e a n = by (fits s e) refl
     by : (b : Bool) → fits s e ≡ b → Alone (present (after_if s v i e b))
     by true q = applied_alone s v i e a n q
     by false q = a
-
-pub fold_alone : (v : ViewId) (s : GroupState) (i : ℕ) (es : List Entry) → Alone (present s) → ((e : Entry) → Has e es → Named e) → Alone (present (fold_from v s i es))
-fold_alone v s i [] a n = a
-fold_alone v s i (e ∷ es) a n = fold_alone v (after s v i e) (i + 1) es (after_alone s v i e a (n e (inl refl))) (λ d h. n d (inr h))

@@ -1,10 +1,9 @@
 -- Each change of a step lets providers hear just the next place, and leaves nobody standing twice in a state.
-use Rattle.std.proofs.Common.{◌≡◌, ◌⊎◌, ℕ, List, [], ◌∷◌, ◌++◌, Option, Some, None, refl, sym, ap, ◌∙◌, subst, inl, inr}
-use Rattle.std.specs.Prelude.{reverse, map, find, flat_map}
+use Rattle.std.proofs.Common.{◌≡◌, ◌⊎◌, ℕ, List, [], ◌∷◌, Option, Some, None, refl, sym, ap, ◌∙◌, subst, inl, inr}
+use Rattle.std.specs.Prelude.{reverse, find, flat_map}
 use Rattle.std.specs.Option.{option_map}
 use Rattle.std.specs.Str.{bytes_eq}
 use Rattle.std.proofs.lemmas.List.{reverse-append}
-use Rattle.rsct_packet.specs.declared.ids.ViewId.{ViewId}
 use Rattle.rsct_packet.specs.declared.ids.ProviderId.{ProviderId}
 use Rattle.rsct_packet.specs.Search.{Has}
 use Rattle.rsct_packet.proofs.HasLaws.{append_has_left, append_has_right, find_has}
@@ -14,7 +13,6 @@ use Rattle.proposal_core.specs.Fold.{present}
 use Rattle.proposal_core.specs.Lists.{list_or_new, with_entry}
 use Rattle.client_callbacks.specs.declared.ballot.Filled.{Filled}
 use Rattle.session_state.specs.declared.casts.Cast.{Cast}
-use Rattle.session_state.specs.declared.state.SessionState.{SessionState}
 use Rattle.session_state.specs.HandOn.{hearers, casts_out}
 use Rattle.view_state.specs.declared.install.Install.{Install}
 use Rattle.view_state.specs.declared.install.Base.{Base}
@@ -27,7 +25,7 @@ use Rattle.node_state.specs.declared.state.Core.{Core}
 use Rattle.node_state.specs.State.{InNameOrder, row_found, row_of, with_row, list_of, state_of, len_of, held_rows, recorded, recorded_all, with_sessions, has_name}
 use Rattle.node_state.specs.HandOn.{heard}
 use Rattle.node_state.specs.Leading.{put}
-use Rattle.node_state.specs.Applying.{base_row, base_record, view_entered, sides_dissolved}
+use Rattle.node_state.specs.Applying.{base_row, view_entered, sides_dissolved}
 use Rattle.run_safety.specs.Past.{History, Within, earlier, records_of, view_now, inc_now}
 use Rattle.node_state.proofs.NameOrder.{cases_text, row_here, row_there}
 use Rattle.step_refinement.proofs.BaseOrder.{row_of_base}
@@ -39,10 +37,12 @@ use Rattle.row_laws.proofs.hearing.Attending.{pushed, pushed_reverse, heard_at}
 use Rattle.row_laws.proofs.hearing.Handing.{hearer_found}
 use Rattle.row_laws.proofs.hearing.Viewing.{sides_stand}
 use Rattle.row_laws.proofs.hearing.Doing.{Hearing, hearing_does}
-use Rattle.row_laws.proofs.hearing.Added.{Adds, sides_add, enters_add, enters_inc, enters_view, handing_adds, still_adds, record_added, vote_added, does_grow}
+use Rattle.row_laws.proofs.hearing.Added.{Adds, enters_add, enters_inc, enters_view, handing_adds, still_adds, record_added, vote_added, does_grow}
 use Rattle.provider_laws.specs.attending.Places.{Alone, Named, IsNext, IsUp, NextHeard}
 use Rattle.provider_laws.proofs.attending.Alone.{after_alone}
 use Rattle.provider_laws.proofs.attending.Turns.{aside_next, within_pushed, hearers_alone, casts_alone, all_next, hearer_next}
+use Rattle.provider_laws.proofs.attending.Hands.{handing_said}
+use Rattle.provider_laws.proofs.attending.Entering.{entered_records}
 
 -- an entry that is put names no joiner twice, and nobody stands twice in a base
 abbrev pub Fine : Happened → Type 0
@@ -52,21 +52,6 @@ Fine _ = Unit {0}
 
 abbrev pub AllFine : List Happened → Type 0
 AllFine rs = (r : Happened) → Has r rs → Fine r
-
--- the base of a group that a view begins with is recorded
-base_recorded : (s : Core) (i : Install) (b : Base) → Has b (bases_of i) → (r : Happened) × Has r (sides_dissolved (view_entered s i (bases_of i)) (held_rows s) s.views.view (bases_of i)).records × (Fine r → Alone (present b.state))
-unfolding view_entered recorded_all base_record views_entered
-base_recorded s i b h =
-    let bs : List Base = bases_of i in
-    let d : Core = view_entered s i bs in
-    let adds = sides_add d (held_rows s) s.views.view bs in
-    let r : Happened = base_record d b in
-    (r, subst (Has r) (sym adds.is) (append_has_left r d.records adds.more (append_has_right r s.records (happened.In s.views.me i.view i.members ∷ map (base_record d) bs) (inr (image d b bs h)))), λ k. k)
-  where
-    image : (d : Core) (b : Base) (bs : List Base) → Has b bs → Has (base_record d b) (map (base_record d) bs)
-    image d b [] h = absurd h
-    image d b (c ∷ bs) (inl e) = inl (ap (base_record d) e)
-    image d b (c ∷ bs) (inr h) = inr (image d b bs h)
 
 -- ---- every change
 
@@ -81,7 +66,7 @@ pub record Strict (n inc : ℕ) (before : History) (s : Core) : Type 0 where
 module _ (n inc : ℕ) (before : History) where
   law_adds : (c d : Core) → Adds Aside c d → Within NextHeard (reverse c.records) before → Within NextHeard (reverse d.records) before
   law_adds c d a k =
-      subst (λ z. Within NextHeard z before) (sym (ap reverse a.is ∙ pushed_reverse a.more c.records)) (within_pushed a.more (reverse c.records) before a.all k)
+      subst (λ z. Within NextHeard z before) (sym (ap reverse a.is ∙ pushed_reverse a.more c.records)) (within_pushed NextHeard Aside aside_next a.more (reverse c.records) before a.all k)
 
   put_state : (s : Core) (h : List ℕ) (e : Entry) → InNameOrder s.groups → Named e → ((g : List ℕ) → Alone (present (state_of s g))) → (g : List ℕ) → Alone (present (state_of (put s h e) g))
   unfolding put recorded state_of list_of with_entry with_row row_of
@@ -101,13 +86,10 @@ module _ (n inc : ℕ) (before : History) where
   law_hands : (s c : Core) (h : List ℕ) (e : Entry) (bs : List (Option Filled)) → Same (put s h e) c → Named e → Strict n inc before s → Within NextHeard (reverse (handing c h (len_of s h) (state_of s h) (state_of (put s h e) h) e bs).records) before
   unfolding put recorded recorded_all with_sessions heard with_row casts_out
   law_hands s c h e bs same named k =
-      subst Q (λ i. (sym same.view i, sym same.sessions i, sym same.records i)) first
+      subst (λ z. Within NextHeard z before) (sym (handing_said s.views.me s c h e bs same refl)) all
     where
       after : GroupState
       after = state_of (put s h e) h
-
-      Q : (ViewId × SessionState × List Happened) → Type 0
-      Q z = Within NextHeard (reverse (z.2 ++ flat_map (heard_at z.0 h (len_of s h) e after) (casts_out z.1 h (state_of s h) after e bs))) before
 
       cs : List Cast
       cs = casts_out s.sessions h (state_of s h) after e bs
@@ -135,13 +117,6 @@ module _ (n inc : ℕ) (before : History) where
       all =
           all_next before s.views.view h (len_of s h) e after cs now (tt, k.law) next (casts_alone e after s.sessions.level (hearers s.sessions h (state_of s h) e) bs (hearers_alone s.sessions h (state_of s h) e (k.alone h) named))
 
-      turned : reverse ((put s h e).records ++ rs) ≡ pushed rs now
-      turned =
-          pushed_reverse rs (put s h e).records ∙ ap (pushed rs) (reverse-append s.records (happened.Put s.views.me s.views.view h (len_of s h) e ∷ []))
-
-      first : Q (s.views.view, s.sessions, (put s h e).records)
-      first = subst (λ z. Within NextHeard z before) (sym turned) all
-
   pub put_recorded : (s c : Core) (h : List ℕ) (e : Entry) (bs : List (Option Filled)) → Same (put s h e) c → Has (happened.Put s.views.me s.views.view h (len_of s h) e) (handing c h (len_of s h) (state_of s h) (state_of (put s h e) h) e bs).records
   unfolding put recorded recorded_all with_sessions with_row
   put_recorded s c h e bs same =
@@ -158,7 +133,7 @@ module _ (n inc : ℕ) (before : History) where
 
       by : (o : Option Base) → base_named bs g ≡ o → Alone (present (list_or_new (row_found g (option_map base_row o)).list).state)
       by None q = tt
-      by (Some b) q = let k = base_recorded s i b (find_has (λ (x : Base). bytes_eq x.name g) bs b q).0 in k.2 (fine k.0 k.1)
+      by (Some b) q = fine (happened.Base s.views.me i.view b.name b.from b.len b.state) ((entered_records s i).base b (find_has (λ (x : Base). bytes_eq x.name g) bs b q).0)
 
   entered_view : (s : Core) (i : Install) (bs : List Base) → (view_entered s i bs).views.view ≡ i.view
   unfolding view_entered recorded_all views_entered

@@ -1,18 +1,17 @@
 -- A node enters a view: its stays begin with the base there, and who stays takes part from 0 on.
-use Rattle.std.proofs.Common.{◌≡◌, ◌≢◌, ℕ, List, [], ◌∷◌, Option, Some, None, Bool, true, false, refl, sym, ap, ◌∙◌, subst, inl, inr, arith}
+use Rattle.std.proofs.Common.{◌≡◌, ◌≢◌, ℕ, List, [], ◌∷◌, Option, Some, None, Bool, true, false, refl, sym, ap, ◌∙◌, subst, inl, inr, arith, ◌++◌}
 use Rattle.std.specs.Prelude.{◌==◌, ◌&&◌, reverse, map, find, if◌then◌else◌}
 use Rattle.std.specs.Option.{option_map}
 use Rattle.std.specs.Str.{bytes_eq}
-use Rattle.std.proofs.lemmas.Bool.{and_parts, eq-eqb, eqb-true}
+use Rattle.std.proofs.lemmas.Bool.{and_parts, eqb-true}
 use Rattle.rsct_packet.specs.declared.ids.ViewId.{ViewId}
 use Rattle.rsct_packet.specs.declared.ids.ProviderId.{ProviderId}
 use Rattle.rsct_packet.specs.Ids.{same_view}
 use Rattle.rsct_packet.specs.Providers.{among}
 use Rattle.rsct_packet.specs.Search.{Has}
-use Rattle.rsct_packet.proofs.HasLaws.{find_has}
-use Rattle.proposal_core.specs.declared.group_state.GroupState.{GroupState}
+use Rattle.rsct_packet.proofs.HasLaws.{find_has, append_has_left, append_has_right, map_has}
 use Rattle.proposal_core.specs.Fold.{empty_state, present}
-use Rattle.proposal_core.specs.Lists.{list_or_new, state_in}
+use Rattle.proposal_core.specs.Lists.{list_or_new}
 use Rattle.session_state.specs.declared.state.Provider.{Provider}
 use Rattle.session_state.specs.State.{provider_of}
 use Rattle.view_state.specs.declared.install.Install.{Install}
@@ -23,23 +22,27 @@ use Rattle.node_state.specs.declared.group.GroupRow.{GroupRow}
 use Rattle.node_state.specs.declared.happened.Happened.{Happened}
 use Rattle.node_state.specs.declared.happened.Happened.TheVariants as happened
 use Rattle.node_state.specs.declared.state.Core.{Core}
-use Rattle.node_state.specs.State.{InNameOrder, AllAfter, row_found, row_of, list_of, state_of, len_of, held_rows, recorded_all, has_name}
-use Rattle.node_state.specs.Applying.{level_set, base_row, base_record, view_entered, is_in_base, dissolved_if, group_dissolved, sides_dissolved}
+use Rattle.node_state.specs.State.{row_found, row_of, list_of, state_of, len_of, held_rows, recorded_all, has_name, recorded, with_sessions}
+use Rattle.node_state.specs.Applying.{level_set, base_row, base_record, view_entered, is_in_base, sides_dissolved, dissolved}
 use Rattle.run_safety.specs.ViewOrder.{Lt}
-use Rattle.run_safety.specs.Past.{History, earlier}
+use Rattle.run_safety.specs.Past.{History, earlier, records_of}
 use Rattle.run_safety.specs.SafeHeard.{heard_count}
-use Rattle.run_safety.specs.Stays.{Stay, stays, with_base, part}
+use Rattle.run_safety.specs.Stays.{stays, with_base, part}
 use Rattle.run_safety.proofs.Order.{lt_not_same, lt_trans}
-use Rattle.node_state.proofs.NameOrder.{none_after, text_same}
 use Rattle.step_refinement.proofs.BaseOrder.{bases_ordered, row_of_base, base_noted}
 use Rattle.row_laws.specs.hearing.Hearing.{last_heard}
 use Rattle.row_laws.specs.hearing.Changes.{Aside, Inner}
 use Rattle.row_laws.proofs.hearing.Attending.{Stance, Before, Left, Gone, Attends, pushed, pushed_reverse}
 use Rattle.row_laws.proofs.hearing.Viewing.{sides_stand}
-use Rattle.row_laws.proofs.hearing.Doing.{Hearing, back_fold, dissolved_back, rows_stay, present_row, base_len, entered_groups}
+use Rattle.row_laws.proofs.hearing.Doing.{Hearing, rows_stay, present_row, base_len, entered_groups}
 use Rattle.provider_laws.proofs.attending.Parts.{part_passes, part_enters}
 use Rattle.provider_laws.proofs.attending.Staying.{InStay, Takes, Place, inner_stays, aside_count, none_count}
 use Rattle.row_laws.proofs.hearing.Added.{Adds, sides_add, enters_add}
+use Rattle.provider_laws.proofs.attending.Sides.{sides_keep}
+use Rattle.row_laws.proofs.hearing.Sessions.{fewer_same, fewer_told}
+use Rattle.client_callbacks.specs.declared.told.Why.TheVariants.{Dissolved}
+use Rattle.row_laws.proofs.failed_rows.Bases.{base_is, new_stay, bases_entered}
+use Rattle.std.proofs.lemmas.List.{reverse-append}
 
 -- ---- records that are added
 
@@ -55,46 +58,9 @@ pushed_count p v g (r ∷ rs) now before all =
 
 -- ---- the base of a stay
 
-none_named : (g : List ℕ) (bs : List Base) → AllAfter g (map base_row bs) → base_named bs g ≡ None
-unfolding base_row
-none_named g bs a = by (base_named bs g) refl
-  where
-    by : (o : Option Base) → base_named bs g ≡ o → o ≡ None
-    by None e = refl
-    by (Some b) e = let k = none_after g (map base_row bs) a in let q = row_of_base g bs in let z = ap (option_map base_row) e in absurd (cc)
-
-abbrev pub with_state : Option Base → Stay → Stay
-with_state None x = x
-with_state (Some b) x = record x { base = b.state }
-
-pub bases_stay : (n : ℕ) (v : ViewId) (g : List ℕ) (before : History) (bs : List Base) (now : List Happened) (x : Stay) (older : List Stay) → InNameOrder (map base_row bs) → stays n g (earlier now before) ≡ x ∷ older → stays n g (earlier (pushed (map (base_noted n v) bs) now) before) ≡ with_state (base_named bs g) x ∷ older
-unfolding base_named base_row
-bases_stay n v g before [] now x older o q = q
-bases_stay n v g before (b ∷ bs) now x older o q =
-    by (bytes_eq b.name g) refl (bases_stay n v g before bs (base_noted n v b ∷ now))
-  where
-    self : (n == n) ≡ true
-    self = eq-eqb n n refl
-
-    at : (t : Bool) → bytes_eq b.name g ≡ t → stays n g (earlier (base_noted n v b ∷ now) before) ≡ (if t then with_base b.state (stays n g (earlier now before)) else stays n g (earlier now before))
-    at t e = λ i. if self i && e i then with_base b.state (stays n g (earlier now before)) else stays n g (earlier now before)
-
-    by : (t : Bool) → bytes_eq b.name g ≡ t → ((x : Stay) (older : List Stay) → InNameOrder (map base_row bs) → stays n g (earlier (base_noted n v b ∷ now) before) ≡ x ∷ older → stays n g (earlier (pushed (map (base_noted n v) bs) (base_noted n v b ∷ now)) before) ≡ with_state (base_named bs g) x ∷ older) → stays n g (earlier (pushed (map (base_noted n v) bs) (base_noted n v b ∷ now)) before) ≡ with_state (if t then Some b else base_named bs g) x ∷ older
-    by true e rest =
-        let none : base_named bs g ≡ None = none_named g bs (subst (λ z. AllAfter z (map base_row bs)) (text_same b.name g e) o.0) in
-        rest (record x { base = b.state }) older o.1 (at true e ∙ ap (with_base b.state) q) ∙ ap (λ z. with_state z (record x { base = b.state }) ∷ older) none
-    by false e rest = rest x older o.1 (at false e ∙ q)
-
 pub named_has : (bs : List Base) (g : List ℕ) (b : Base) → base_named bs g ≡ Some b → Has b bs
 unfolding base_named
 named_has bs g b e = (find_has (λ (x : Base). bytes_eq x.name g) bs b e).0
-
-abbrev pub base_is : Option Base → GroupState
-base_is None = empty_state
-base_is (Some b) = b.state
-
-abbrev pub new_stay : ViewId → GroupState → Stay
-new_stay v s = record { view = v; base = s; entries = [] }
 
 pub state_named : (c : Core) (bs : List Base) → c.groups ≡ map base_row bs → (g : List ℕ) → state_of c g ≡ base_is (base_named bs g)
 unfolding state_of list_of row_of base_row
@@ -104,6 +70,34 @@ state_named c bs e g =
     by : (o : Option Base) → (list_or_new (row_found g (option_map base_row o)).list).state ≡ base_is o
     by None = refl
     by (Some b) = refl
+
+-- the view and its bases are recorded, after all that was
+pub record Entered (s : Core) (i : Install) : Type 0 where
+  pub older : (r : Happened) → Has r s.records → Has r (sides_dissolved (view_entered s i (bases_of i)) (held_rows s) s.views.view (bases_of i)).records
+  pub view : Has (happened.In s.views.me i.view i.members) (sides_dissolved (view_entered s i (bases_of i)) (held_rows s) s.views.view (bases_of i)).records
+  pub base : (b : Base) → Has b (bases_of i) → Has (happened.Base s.views.me i.view b.name b.from b.len b.state) (sides_dissolved (view_entered s i (bases_of i)) (held_rows s) s.views.view (bases_of i)).records
+
+dissolved_grows : (c : Core) (p : ProviderId) (k : ℕ) (r : Happened) → Has r c.records → Has r (dissolved c p k).records
+unfolding dissolved recorded with_sessions
+dissolved_grows c p k r h = append_has_left r c.records _ h
+
+pub entered_records : (s : Core) (i : Install) → Entered s i
+unfolding view_entered views_entered recorded_all base_record
+entered_records s i =
+    record {
+      older = λ r h. on r (append_has_left r s.records _ h);
+      view = on (happened.In s.views.me i.view i.members) (append_has_right (happened.In s.views.me i.view i.members) s.records _ (inl refl));
+      base = λ b h. on _ (append_has_right _ s.records _ (inr (map_has (λ (b : Base). happened.Base s.views.me i.view b.name b.from b.len b.state) b (bases_of i) h)));
+    }
+  where
+    on : (r : Happened) → Has r (view_entered s i (bases_of i)).records → Has r (sides_dissolved (view_entered s i (bases_of i)) (held_rows s) s.views.view (bases_of i)).records
+    on r h = sides_keep (λ c. Has r c.records) (λ c p k a. dissolved_grows c p k r a) (held_rows s) s.views.view (bases_of i) (view_entered s i (bases_of i)) h
+
+-- who is there was there
+pub entering_back : (s : Core) (i : Install) (p : ProviderId) (x : Provider) → provider_of (sides_dissolved (view_entered s i (bases_of i)) (held_rows s) s.views.view (bases_of i)).sessions p ≡ Some x → provider_of s.sessions p ≡ Some x
+unfolding view_entered recorded_all level_set dissolved recorded with_sessions
+entering_back s i p x =
+    sides_keep (λ c. provider_of c.sessions p ≡ Some x → provider_of s.sessions p ≡ Some x) (λ c q r old z. old ((fewer_told c.sessions q r Dissolved).providers p x z)) (held_rows s) s.views.view (bases_of i) (view_entered s i (bases_of i)) (λ z. (fewer_same s.sessions (level_set s i.members) refl refl (omega arith) refl refl).providers p x z)
 
 module _ (before : History) (s : Core) (i : Install) where
   abbrev new_bases : List Base
@@ -129,17 +123,13 @@ module _ (before : History) (s : Core) (i : Install) where
   to_inside m g =
       ap (λ z. stays m g (earlier z before)) (ap reverse told.is ∙ pushed_reverse told.more inside.records) ∙ pushed_stays m g told.more (reverse inside.records) before told.all ∙ ap (λ z. stays m g (earlier z before)) (pushed_reverse (entering ∷ map (base_noted s.views.me i.view) new_bases) s.records)
 
-  pub entered_stays : (g : List ℕ) → stays s.views.me g (earlier (reverse entered_core.records) before) ≡ new_stay i.view (base_is (base_named new_bases g)) ∷ stays s.views.me g (earlier (reverse s.records) before)
-  entered_stays g =
-      to_inside s.views.me g ∙ bases_stay s.views.me i.view g before new_bases (entering ∷ reverse s.records) (new_stay i.view empty_state) (stays s.views.me g (earlier (reverse s.records) before)) (bases_ordered i) here ∙ ap (λ x. x ∷ stays s.views.me g (earlier (reverse s.records) before)) (by (base_named new_bases g))
-    where
-      here : stays s.views.me g (earlier (entering ∷ reverse s.records) before) ≡ new_stay i.view empty_state ∷ stays s.views.me g (earlier (reverse s.records) before)
-      here =
-          ap (λ b. if b then new_stay i.view empty_state ∷ stays s.views.me g (earlier (reverse s.records) before) else stays s.views.me g (earlier (reverse s.records) before)) (eq-eqb s.views.me s.views.me refl)
+  -- the list of each group begins with its base
+  pub inside_stays : (g : List ℕ) → stays s.views.me g (earlier (pushed (map (base_noted s.views.me i.view) new_bases) (entering ∷ reverse s.records)) before) ≡ new_stay i.view (base_is (base_named new_bases g)) ∷ stays s.views.me g (earlier (reverse s.records) before)
+  inside_stays g =
+      ap (λ z. stays s.views.me g (earlier z before)) (sym (pushed_reverse (map (base_noted s.views.me i.view) new_bases) (s.records ++ entering ∷ []) ∙ ap (pushed (map (base_noted s.views.me i.view) new_bases)) (reverse-append s.records (entering ∷ [])))) ∙ bases_entered s.views.me i.view i.members g new_bases s.records (records_of before) (bases_ordered i)
 
-      by : (o : Option Base) → with_state o (new_stay i.view empty_state) ≡ new_stay i.view (base_is o)
-      by None = refl
-      by (Some b) = refl
+  pub entered_stays : (g : List ℕ) → stays s.views.me g (earlier (reverse entered_core.records) before) ≡ new_stay i.view (base_is (base_named new_bases g)) ∷ stays s.views.me g (earlier (reverse s.records) before)
+  entered_stays g = to_inside s.views.me g ∙ inside_stays g
 
   pub other_stays : (m : ℕ) (g : List ℕ) → m ≢ s.views.me → stays m g (earlier (reverse entered_core.records) before) ≡ stays m g (earlier (reverse s.records) before)
   other_stays m g ne = to_inside m g ∙ all new_bases (entering ∷ reverse s.records) ∙ by (s.views.me == m) refl
@@ -162,12 +152,6 @@ module _ (before : History) (s : Core) (i : Install) where
   pub entered_count : (p : ProviderId) (u : ViewId) (g : List ℕ) → heard_count p u g (earlier (reverse entered_core.records) before) ≡ heard_count p u g (earlier (reverse s.records) before)
   entered_count p u g =
       ap (λ z. heard_count p u g (earlier z before)) (ap reverse adds.is ∙ pushed_reverse adds.more s.records) ∙ pushed_count p u g adds.more (reverse s.records) before adds.all
-
-  -- who is left was there
-  left_back : (p : ProviderId) (y : Provider) → provider_of entered_core.sessions p ≡ Some y → provider_of s.sessions p ≡ Some y
-  unfolding sides_dissolved group_dissolved view_entered recorded_all level_set provider_of
-  left_back p y q =
-      back_fold (group_dissolved s.views.view new_bases) (λ u r. back_fold (λ (w : Core) p. dissolved_if w r.name s.views.view (base_named new_bases r.name) (provider_of w.sessions p)) (λ w z. dissolved_back w r.name s.views.view (base_named new_bases r.name) (provider_of w.sessions z)) (present (state_in r.list)) u) (held_rows s) inside p y q
 
   module _ (n inc : ℕ) (k : Hearing n inc before s) (lt : Lt s.views.view i.view) (place : Place n s.views.view s.sessions (λ m g. stays m g (earlier (reverse s.records) before)) (λ p u g. heard_count p u g (earlier (reverse s.records) before)) (len_of s) (state_of s)) (lively : (b : Base) → Has b new_bases → same_view b.from s.views.view ≡ true → (p : ProviderId) → p.node ≡ n → p.inc ≡ inc → among b.state.failed p ≡ false) where
     -- nothing was heard of the view yet
@@ -193,7 +177,7 @@ module _ (before : History) (s : Core) (i : Install) where
 
     in_base : (p : ProviderId) (y : Provider) → provider_of entered_core.sessions p ≡ Some y → y.takes_part ≡ true → is_in_base s.views.view p (base_named new_bases y.group) ≡ true
     in_base p y q take =
-        let r = present_row s y.group p (k.at.here p y (left_back p y q) take) in
+        let r = present_row s y.group p (k.at.here p y (entering_back s i p y q) take) in
         subst (λ z. is_in_base s.views.view p (base_named new_bases z) ≡ true) r.2 (rows_stay s.views.view new_bases p y take (held_rows s) inside r.0 r.1 (sym r.2) r.3 q)
 
     pub entered_place : Place n i.view entered_core.sessions (λ m g. stays m g (earlier (reverse entered_core.records) before)) (λ p u g. heard_count p u g (earlier (reverse entered_core.records) before)) (len_of entered_core) (state_of entered_core)
@@ -215,7 +199,7 @@ module _ (before : History) (s : Core) (i : Install) where
         taking p y q take = by (base_named new_bases y.group) refl (in_base p y q take)
           where
             found : provider_of s.sessions p ≡ Some y
-            found = left_back p y q
+            found = entering_back s i p y q
 
             z : Takes (part p (stays n y.group (earlier (reverse s.records) before))) (len_of s y.group) (heard_count p s.views.view y.group (earlier (reverse s.records) before))
             z = place.taking p y found take
@@ -237,6 +221,6 @@ module _ (before : History) (s : Core) (i : Install) where
 
         waiting : (p : ProviderId) (y : Provider) → provider_of entered_core.sessions p ≡ Some y → y.takes_part ≡ false → ((part p (stays n y.group (earlier (reverse entered_core.records) before))).first ≡ None) × (heard_count p i.view y.group (earlier (reverse entered_core.records) before) ≡ 0)
         waiting p y q wait =
-            let found = left_back p y q in
+            let found = entering_back s i p y q in
             let z = place.waiting p y found wait in
             (ap (λ x. (part p x).first) (stays_at y.group) ∙ part_enters p i.view (base_is (base_named new_bases y.group)) (stays n y.group (earlier (reverse s.records) before)) z.0, not_yet p y found y.group)

@@ -19,23 +19,20 @@ use Rattle.session_state.specs.State.{provider_of}
 use Rattle.session_state.specs.HandOn.{beginners, hearers, casts_of, handed_on}
 use Rattle.node_state.specs.declared.happened.Happened.{Happened}
 use Rattle.node_state.specs.declared.happened.Happened.TheVariants as happened
-use Rattle.node_state.specs.HandOn.{cast_record, cast_records}
+use Rattle.node_state.specs.HandOn.{cast_records}
 use Rattle.run_safety.specs.Past.{History, Within, earlier, fold_from}
 use Rattle.run_safety.specs.SafeHeard.{heard_count, is_after, InOrder}
 use Rattle.run_safety.specs.Stays.{Stay, stays, is_join_of, part, takes_part}
 use Rattle.node_state.proofs.NameOrder.{cases_text}
 use Rattle.step_refinement.proofs.SessionLaws.{cast_has}
-use Rattle.row_laws.proofs.hearing.Handing.{Kept, has_among, handed_kept, handed_begun, handed_present, hearer_found, present_hears, new_hears}
+use Rattle.row_laws.proofs.hearing.Handing.{Kept, has_among, handed_kept, handed_begun, handed_present, hearer_found, present_hears, new_hears, some_is}
 use Rattle.row_laws.proofs.hearing.Attending.{pushed, pushed_append, heard_at, has_cast}
 use Rattle.provider_laws.proofs.attending.Parts.{pushed_stay, part_goes, part_joins, part_waits, takes_at}
-use Rattle.provider_laws.proofs.attending.Turns.{CastsAlone, begins_by_join}
+use Rattle.provider_laws.proofs.attending.Turns.{CastsAlone, begins_by_join, casts_keep}
 use Rattle.provider_laws.proofs.attending.Staying.{InStay, Takes, Place, count_own, count_other, count_apart, begins_waits, join_begins, put_here, put_there, stay_pushed}
 
 abbrev pub Order : List Happened → History → Happened → Type 0
 Order now before r = InOrder (earlier now before) r
-
-some_is : {a b : Provider} → Some a ≡ Some b → a ≡ b
-some_is e = cc
 
 -- ---- one after another
 
@@ -44,31 +41,10 @@ module _ (before : History) (n : ℕ) (v : ViewId) (h : List ℕ) (i : ℕ) (e :
   heards cs now = pushed (flat_map (heard_at v h i e st) cs) now
 
   casts_stay : (p : ProviderId) (o : Option (ProtoId × ℕ × BallotView)) (now : List Happened) (m : ℕ) (g : List ℕ) → stays m g (earlier (pushed (cast_records p o) now) before) ≡ stays m g (earlier now before)
-  unfolding cast_records cast_record
-  casts_stay p None now m g = refl
-  casts_stay p (Some c) now m g = by (c.2).filled
-    where
-      by : (b : Option Filled) → stays m g (earlier (pushed (cast_record p c.0 c.1 b) now) before) ≡ stays m g (earlier now before)
-      by None = refl
-      by (Some b) = refl
+  casts_stay p o now m g = casts_keep (λ z. stays m g (earlier z before) ≡ stays m g (earlier now before)) (λ w proto phase b z k. k) p o now refl
 
   casts_count : (p : ProviderId) (o : Option (ProtoId × ℕ × BallotView)) (now : List Happened) (q : ProviderId) (u : ViewId) (g : List ℕ) → heard_count q u g (earlier (pushed (cast_records p o) now) before) ≡ heard_count q u g (earlier now before)
-  unfolding cast_records cast_record
-  casts_count p None now q u g = refl
-  casts_count p (Some c) now q u g = by (c.2).filled
-    where
-      by : (b : Option Filled) → heard_count q u g (earlier (pushed (cast_record p c.0 c.1 b) now) before) ≡ heard_count q u g (earlier now before)
-      by None = refl
-      by (Some b) = refl
-
-  casts_order : (p : ProviderId) (o : Option (ProtoId × ℕ × BallotView)) (now : List Happened) → Within Order now before → Within Order (pushed (cast_records p o) now) before
-  unfolding cast_records cast_record
-  casts_order p None now k = k
-  casts_order p (Some c) now k = by (c.2).filled
-    where
-      by : (b : Option Filled) → Within Order (pushed (cast_record p c.0 c.1 b) now) before
-      by None = k
-      by (Some b) = (tt, k)
+  casts_count p o now q u g = casts_keep (λ z. heard_count q u g (earlier z before) ≡ heard_count q u g (earlier now before)) (λ w proto phase b z k. k) p o now refl
 
   abbrev one_heard : Cast → List Happened → List Happened
   one_heard c now = pushed (cast_records c.p c.cast) (happened.Heard c.p v h i e st.members st.value ∷ now)
@@ -116,7 +92,7 @@ module _ (before : History) (n : ℕ) (v : ViewId) (h : List ℕ) (i : ℕ) (e :
   all_order xs (c ∷ cs) now at k ready alone =
       let heard : List Happened = happened.Heard c.p v h i e st.members st.value ∷ now in
       let r = ready c (inl refl) in
-      let law : Within Order (one_heard c now) before = casts_order c.p c.cast heard (one r, k) in
+      let law : Within Order (one_heard c now) before = casts_keep (λ z. Within Order z before) (λ w proto phase b z i. (tt, i)) c.p c.cast heard (one r, k) in
       subst (λ z. Within Order z before) (sym (split c cs now)) (all_order xs cs (one_heard c now) (casts_stay c.p c.cast heard n h ∙ at) law (λ d j. subst (Ready xs d.p) (sym (one_out c now d.p v h (λ z. alone.0 d j (sym z)))) (ready d (inr j))) alone.1)
     where
       there : c.p.node ≡ n → stays (c.p).node h (earlier now before) ≡ xs

@@ -26,19 +26,9 @@ use Rattle.provider_laws.proofs.attending.Doing.{AllFine, Strict, strict_does}
 
 -- what a scene's records say is fine
 pub records_fine : (c : Config) (w : Scene) → Reached c w → AllFine (records_of w.before)
-records_fine c w k (happened.Up n j) h = tt
-records_fine c w k (happened.Down n) h = tt
-records_fine c w k (happened.Ring n m i ms o) h = tt
-records_fine c w k (happened.In n v ms) h = tt
 records_fine c w k (happened.Base n v g old len s) h = noted_alone c w k n v g old len s h
 records_fine c w k (happened.Put n v g i e) h = put_named w.before (entries_named c w k) n v g i e h
-records_fine c w k (happened.Heard p v g i e ms value) h = tt
-records_fine c w k (happened.Cast p proto phase vote value message) h = tt
-records_fine c w k (happened.Asked p r g x) h = tt
-records_fine c w k (happened.Told p r why) h = tt
-records_fine c w k (happened.Noted n d v i told) h = tt
-records_fine c w k (happened.Refused n d fault) h = tt
-records_fine c w k (happened.Shown n line) h = tt
+records_fine c w k _ h = tt
 
 -- ---- a step of a node
 

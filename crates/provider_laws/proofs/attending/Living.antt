@@ -1,36 +1,31 @@
 -- A provider of a node that enters a view is failed in a base, where it is there, just if that base comes from another view than the
 -- one that the node was in.
-use Rattle.std.proofs.Common.{◌≡◌, ◌<◌, ◌⊎◌, ℕ, List, [], ◌∷◌, ◌++◌, Some, Bool, true, false, refl, sym, ap, ◌∙◌, subst, inl, inr, ⊎_elim, arith, append-nil}
-use Rattle.std.specs.Prelude.{not, ◌==◌, ◌&&◌, reverse, filter, if◌then◌else◌}
-use Rattle.std.specs.Str.{bytes_eq}
+use Rattle.std.proofs.Common.{◌≡◌, ◌<◌, ◌⊎◌, ℕ, List, Some, Bool, true, false, refl, sym, ap, ◌∙◌, subst, inl, inr, ⊎_elim, arith}
+use Rattle.std.specs.Prelude.{not, ◌==◌, ◌&&◌, reverse, filter}
 use Rattle.std.proofs.lemmas.Bool.{and_parts, eq-eqb, eqb-true}
-use Rattle.std.proofs.lemmas.Bool.Decides.{nat_tests}
 use Rattle.rsct_packet.specs.declared.ids.ViewId.{ViewId}
 use Rattle.rsct_packet.specs.declared.ids.Member.{Member}
 use Rattle.rsct_packet.specs.declared.ids.ProviderId.{ProviderId}
-use Rattle.rsct_packet.specs.Ids.{same_view}
 use Rattle.rsct_packet.specs.Providers.{among}
 use Rattle.rsct_packet.specs.Search.{Has}
-use Rattle.rsct_packet.proofs.HasLaws.{has_append, append_has_left, append_has_right, has_filter, filter_has, has_map, has_reverse}
+use Rattle.rsct_packet.proofs.HasLaws.{has_filter, filter_has, has_map, has_reverse, reverse_has}
 use Rattle.proposal_core.specs.declared.entry.Entry.{Entry}
 use Rattle.proposal_core.specs.declared.group_state.GroupState.{GroupState}
 use Rattle.proposal_core.specs.Fold.{present}
 use Rattle.node_state.specs.declared.config.Config.{Config}
-use Rattle.node_state.specs.declared.happened.Happened.{Happened}
 use Rattle.node_state.specs.declared.happened.Happened.TheVariants as happened
 use Rattle.node_state.specs.declared.state.Core.{Core}
 use Rattle.node_state.specs.HandOn.{Answering}
 use Rattle.node_state.specs.Step.{NodeEvent, at_work, stepped}
 use Rattle.world_model.specs.declared.event.Event.{Event}
 use Rattle.run_safety.specs.ViewOrder.{is_same, Lt, Le}
-use Rattle.run_safety.specs.Past.{History, earlier, view_now}
-use Rattle.run_safety.specs.Group.{member, Reply, members_of, Origin, Answer, Install, Record, In, Line, Kept, Noted, Based, kept}
+use Rattle.run_safety.specs.Group.{member, Reply, members_of, Origin, Answer, Install, Record, In, Kept, Noted, Based, kept}
 use Rattle.run_safety.specs.Group as group
 use Rattle.run_safety.specs.GroupLists.{WasIn, From}
 use Rattle.run_safety.specs.Bases.{is_live, marked, side_state, BaseIs, Wins}
 use Rattle.run_safety.specs.Moves.{Opening, Alone, Together, Born}
-use Rattle.run_safety.specs.Sight.{inc_in, lines_at, lines_with, lines_of}
-use Rattle.run_safety.proofs.Order.{lt_not_same, le_antisym}
+use Rattle.run_safety.specs.Sight.{inc_in, lines_with, lines_of}
+use Rattle.run_safety.proofs.Order.{lt_not_same, le_antisym, eq_true, eq_same}
 use Rattle.run_safety.proofs.Parts.{member_parts, Entered}
 use Rattle.run_safety.proofs.Tests.{any_has, has_any}
 use Rattle.run_safety.proofs.Whole.{Whole}
@@ -40,84 +35,17 @@ use Rattle.step_refinement.specs.Rules.{ended, Arises}
 use Rattle.step_refinement.specs.Runs.{Reached, Steps}
 use Rattle.step_refinement.proofs.Changed.{set_here}
 use Rattle.step_refinement.proofs.RunLaw.{reached_rests}
-use Rattle.step_refinement.proofs.Turns.{has_turned}
 use Rattle.row_laws.proofs.hearing.Handing.{among_is, has_among}
 use Rattle.row_laws.proofs.hearing.Listening.{steps_change}
-use Rattle.provider_laws.proofs.attending.Bases.{kept_line}
-use Rattle.provider_laws.proofs.attending.States.{none_told, line_later, base_in}
 use Rattle.provider_laws.proofs.attending.Ordering.{InsAt, does_ins, Lively}
+use Rattle.run_safety.proofs.SightLaws.{line_kept, kept_line, own_line, line_later, line_in, line_split}
 
--- ---- a view that is entered, and the lines of a group
-
-line_kept : (r : Record) (all : List Line) → Has (Kept r) all → Has r (kept all)
-line_kept r [] h = h
-line_kept r (Kept q ∷ all) (inl e) = let z : r ≡ q = cc in inl z
-line_kept r (Kept q ∷ all) (inr h) = inr (line_kept r all h)
-line_kept r (Noted x ∷ all) (inl e) = absurd (cc)
-line_kept r (Noted x ∷ all) (inr h) = line_kept r all h
-
-in_now : (n : ℕ) (v : ViewId) (ms : List Member) (g : List ℕ) (now : List Happened) (before : History) (all : List Line) → Has (happened.In n v ms) now → Has (Kept (In n (inc_in n ms) v ms)) (lines_with g now before all)
-in_now n v ms g [] before all h = absurd h
-in_now n v ms g (r ∷ now) before all (inl q) =
-    subst (λ z. Has (Kept (In n (inc_in n ms) v ms)) (lines_at g (earlier now before) z ++ lines_with g now before all)) q (inl refl)
-in_now n v ms g (r ∷ now) before all (inr h) =
-    append_has_right (Kept (In n (inc_in n ms) v ms)) (lines_at g (earlier now before) r) (lines_with g now before all) (in_now n v ms g now before all h)
-
-if_noted : (b : Bool) (y : group.Note) (x : Record) → Has (Kept x) (if b then Noted y ∷ [] else []) → ⊥
-if_noted true y x (inl q) = cc
-if_noted true y x (inr z) = z
-if_noted false y x z = z
-
--- where the group sees a node enter a view, the record says so
-line_in : (g : List ℕ) (rs : List Happened) (r : Happened) (n j : ℕ) (v : ViewId) (ms : List Member) → Has (Kept (In n j v ms)) (lines_at g rs r) → happened.In n v ms ≡ r
-line_in g rs (happened.Up m k) n j v ms h = absurd h
-line_in g rs (happened.Down m) n j v ms h = absurd h
-line_in g rs (happened.Ring m k i os o) n j v ms h = absurd h
-line_in g rs (happened.In m u ns) n j v ms (inl q) = cc
-line_in g rs (happened.In m u ns) n j v ms (inr z) = absurd z
-line_in g rs (happened.Base m u x old len s) n j v ms h = absurd (if_noted (bytes_eq x g) (Based m u (record { old = old; len = len; state = s })) (In n j v ms) h)
-line_in g rs (happened.Put m u x i e) n j v ms h = by (bytes_eq x g) h
-  where
-    by : (b : Bool) → Has (Kept (In n j v ms)) (if b then Kept (group.Put m u i e) ∷ [] else []) → happened.In n v ms ≡ happened.Put m u x i e
-    by true (inl q) = absurd (cc)
-    by true (inr z) = absurd z
-    by false z = absurd z
-line_in g rs (happened.Heard p u x i e os value) n j v ms h = absurd (if_noted (bytes_eq x g) (group.Heard p u i e os value) (In n j v ms) h)
-line_in g rs (happened.Cast p proto phase vote value message) n j v ms h = absurd h
-line_in g rs (happened.Asked p k x y) n j v ms h = absurd (if_noted (bytes_eq x g) (group.Asked p k y) (In n j v ms) h)
-line_in g rs (happened.Told p k why) n j v ms h = absurd (none_told p k (view_now p.node rs) (In n j v ms) h)
-line_in g rs (happened.Noted m c u i told) n j v ms h = absurd h
-line_in g rs (happened.Refused m c fault) n j v ms h = absurd h
-line_in g rs (happened.Shown m line) n j v ms h = absurd h
-
-in_split : (g : List ℕ) (now : List Happened) (before : History) (all : List Line) (n j : ℕ) (v : ViewId) (ms : List Member) → Has (Kept (In n j v ms)) (lines_with g now before all) → Has (happened.In n v ms) now ⊎ Has (Kept (In n j v ms)) all
-in_split g [] before all n j v ms (inl q) = absurd (cc)
-in_split g [] before all n j v ms (inr h) = inr h
-in_split g (r ∷ now) before all n j v ms h =
-    by (has_append (Kept (In n j v ms)) (lines_at g (earlier now before) r) (lines_with g now before all) h) (in_split g now before all n j v ms)
-  where
-    by : Has (Kept (In n j v ms)) (lines_at g (earlier now before) r) ⊎ Has (Kept (In n j v ms)) (lines_with g now before all) → (Has (Kept (In n j v ms)) (lines_with g now before all) → Has (happened.In n v ms) now ⊎ Has (Kept (In n j v ms)) all) → Has (happened.In n v ms) (r ∷ now) ⊎ Has (Kept (In n j v ms)) all
-    by (inl a) rest = inl (inl (line_in g (earlier now before) r n j v ms a))
-    by (inr a) rest = ⊎_elim (λ (z : Has (happened.In n v ms) now). inl (inr z)) (λ (z : Has (Kept (In n j v ms)) all). inr z) (rest a)
+-- ---- a view that is entered
 
 -- a node does not enter its first view by an install
 born_first : (o : Opening) (n j : ℕ) (v : ViewId) (ms : List Member) → Born o n j v ms → v.number ≡ 1
 born_first Alone n j v ms k = ap (λ (z : ViewId). z.number) k.0
 born_first (Together w all) n j v ms k = ap (λ (z : ViewId). z.number) k.0 ∙ k.3
-
-same_is : (a b : ViewId) → is_same a b ≡ true → a ≡ b
-unfolding is_same
-same_is a b e = by a b e
-  where
-    by : (a b : ViewId) → same_view a b ≡ true → a ≡ b
-    by a b z = grind (arith, nat_tests)
-
-same_true : (a b : ViewId) → a ≡ b → is_same a b ≡ true
-unfolding is_same
-same_true a b e = subst (λ z. same_view a z ≡ true) e (self a)
-  where
-    self : (a : ViewId) → same_view a a ≡ true
-    self a = grind (arith, nat_tests)
 
 -- who is live has not failed
 live_lives : (rs : List Reply) (u : ViewId) (st side : GroupState) (p : ProviderId) → st ≡ marked rs u side → is_live rs u p ≡ true → among st.failed p ≡ false
@@ -195,15 +123,12 @@ module _ (c : Config) (w : Scene) (n : ℕ) (f : Answering) (s : Core) (e : Node
       abbrev base : Origin
       base = record { old = side; len = len; state = st }
 
-      has_turn : (r : Happened) → Has r t.records → Has r (reverse t.records)
-      has_turn r h = subst (Has r) (append-nil (reverse t.records)) (has_turned r t.records [] (append_has_left r t.records [] h))
-
       u_is : u ≡ t.views.view
       u_is = ins n u ms entered
 
       line : Has (In n (inc_in n ms) u ms) (kept r1.ghost.all)
       line =
-          line_kept (In n (inc_in n ms) u ms) r1.ghost.all (subst (Has (Kept (In n (inc_in n ms) u ms))) (sym lines1) (in_now n u ms g (reverse t.records) w.before (lines_of g w.before) (has_turn (happened.In n u ms) entered)))
+          line_kept (In n (inc_in n ms) u ms) r1.ghost.all (subst (Has (Kept (In n (inc_in n ms) u ms))) (sym lines1) (line_in (Kept (In n (inc_in n ms) u ms)) g (happened.In n u ms) (λ rs. inl refl) (reverse t.records) w.before (lines_of g w.before) (reverse_has (happened.In n u ms) t.records entered)))
 
       was1 : WasIn (kept r1.ghost.all) n (w.incs n) u
       was1 =
@@ -220,7 +145,7 @@ module _ (c : Config) (w : Scene) (n : ℕ) (f : Answering) (s : Core) (e : Node
 
       -- whichever view the node came from by the lines is the one that it was in
       from_old : (x : ViewId) → From (kept r1.ghost.all) n (w.incs n) u x → x ≡ old
-      from_old x fr = le_antisym x old (low (in_split g (reverse t.records) w.before (lines_of g w.before) n (w.incs n) x fr.was.0 (subst (Has (Kept (In n (w.incs n) x fr.was.0))) lines1 (kept_line (In n (w.incs n) x fr.was.0) r1.ghost.all fr.was.1)))) (fr.last old (was0.0, still (In n (w.incs n) old was0.0) was0.1) later)
+      from_old x fr = le_antisym x old (low (line_split g (Kept (In n (w.incs n) x fr.was.0)) (happened.In n x fr.was.0) refl (reverse t.records) w.before (lines_of g w.before) (subst (Has (Kept (In n (w.incs n) x fr.was.0))) lines1 (kept_line (In n (w.incs n) x fr.was.0) r1.ghost.all fr.was.1)))) (fr.last old (was0.0, still (In n (w.incs n) old was0.0) was0.1) later)
         where
           low : Has (happened.In n x fr.was.0) (reverse t.records) ⊎ Has (Kept (In n (w.incs n) x fr.was.0)) (lines_of g w.before) → Le x old
           low (inl h) =
@@ -232,7 +157,7 @@ module _ (c : Config) (w : Scene) (n : ℕ) (f : Answering) (s : Core) (e : Node
 
       bases_is : r1.ghost.bases u ≡ Some base
       bases_is =
-          o1.based_ok.noted n u base (subst (Has (Noted (Based n u base))) (sym lines1) (base_in n u g side len st (reverse t.records) w.before (lines_of g w.before) (has_turn (happened.Base n u g side len st) based)))
+          o1.based_ok.noted n u base (subst (Has (Noted (Based n u base))) (sym lines1) (line_in (Noted (Based n u base)) g (happened.Base n u g side len st) (λ rs. own_line g (Noted (Based n u base))) (reverse t.records) w.before (lines_of g w.before) (reverse_has (happened.Base n u g side len st) t.records based)))
 
       made : Made r1.ghost.ps u side st (member n (inc_in n ms))
       made =
@@ -261,7 +186,7 @@ module _ (c : Config) (w : Scene) (n : ℕ) (f : Answering) (s : Core) (e : Node
       lives same p node inc = live_lives made.replies side st made.carried p made.state live
         where
           test : (q : Reply) → q.node ≡ p.node → q.inc ≡ p.inc → q.view ≡ side → (q.node == p.node && (q.inc == p.inc && is_same q.view side)) ≡ true
-          test q a b d = λ j. eq-eqb q.node p.node a j && (eq-eqb q.inc p.inc b j && same_true q.view side d j)
+          test q a b d = λ j. eq-eqb q.node p.node a j && (eq-eqb q.inc p.inc b j && (ap (is_same q.view) (sym d) ∙ eq_same q.view) j)
 
           live : is_live made.replies side p ≡ true
           live =
@@ -277,7 +202,7 @@ module _ (c : Config) (w : Scene) (n : ℕ) (f : Answering) (s : Core) (e : Node
               let r = any_has (λ (q : Reply). q.node == p.node && (q.inc == p.inc && is_same q.view side)) made.replies e in
               let a = and_parts ((r.0).node == p.node) ((r.0).inc == p.inc && is_same (r.0).view side) r.2 in
               let b = and_parts ((r.0).inc == p.inc) (is_same (r.0).view side) a.1 in
-              other (sym (same_is (r.0).view side b.1) ∙ reply_old r.0 (made.sent r.0 r.1) (eqb-true (r.0).node p.node a.0 ∙ node) (eqb-true (r.0).inc p.inc b.0 ∙ inc))
+              other (sym (eq_true (r.0).view side b.1) ∙ reply_old r.0 (made.sent r.0 r.1) (eqb-true (r.0).node p.node a.0 ∙ node) (eqb-true (r.0).inc p.inc b.0 ∙ inc))
 
           has_kept : (b : Bool) → is_live made.replies side p ≡ b → Has p (filter (λ p. not (is_live made.replies side p)) (present made.carried))
           has_kept true e = absurd (away e)

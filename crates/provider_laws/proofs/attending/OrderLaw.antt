@@ -32,9 +32,9 @@ use Rattle.row_laws.proofs.hearing.Incarnations.{incs_of}
 use Rattle.provider_laws.proofs.attending.Staying.{InStay, Takes, Place, aside_count}
 use Rattle.provider_laws.proofs.attending.Handed.{Order}
 use Rattle.provider_laws.proofs.attending.Ordering.{Ordered, aside_order, ordered_does}
-use Rattle.provider_laws.proofs.attending.Entering.{new_stay}
 use Rattle.provider_laws.proofs.attending.Fresh.{fresh_now}
 use Rattle.provider_laws.proofs.attending.Living.{lively_now}
+use Rattle.row_laws.proofs.failed_rows.Bases.{new_stay}
 
 -- node m stands in these records where its stays have it
 abbrev pub Placed : List Happened → ℕ → Core → Type 0
@@ -77,6 +77,19 @@ module _ (c : Config) (n j : ℕ) where
 
 -- ---- a step
 
+pub begin_ordered : (c : Config) (w : Scene) → Reached c w → (n : ℕ) (s : Core) → w.cores n ≡ Some s → Placed (records_of w.before) n s → Ordered n (w.incs n) w.before s.views.view s.sessions.last_request (at_work s)
+unfolding len_of state_of list_of row_of
+begin_ordered c w k n s up place =
+    record {
+      strict = begin_strict c w n s k up (incs_of c w k n);
+      place = place;
+      law = tt;
+      others = λ m g ne. refl;
+      counts = λ p u g ne. refl;
+      begins = λ all. refl;
+      numbers = λ q. omega arith;
+    }
+
 orderly_step : (c : Config) (w : Scene) (n : ℕ) (f : Answering) (s : Core) (e : NodeEvent) (v : Event) → Reached c w → w.cores n ≡ Some s → Arises w e → EachRecord Order w.before → Placed (records_of w.before) n s × Own n s → UpDone orderly w n v (stepped f s e)
 unfolding len_of state_of list_of row_of
 orderly_step c w n f s e v k up arises law old =
@@ -90,21 +103,9 @@ orderly_step c w n f s e v k up arises law old =
     t : Core
     t = stepped f s e
 
-    begin : Ordered n (w.incs n) w.before s.views.view s.sessions.last_request (at_work s)
-    begin =
-        record {
-          strict = begin_strict c w n s k up (incs_of c w k n);
-          place = old.0;
-          law = tt;
-          others = λ m g ne. refl;
-          counts = λ p u g ne. refl;
-          begins = λ all. refl;
-          numbers = λ q. omega arith;
-        }
-
     o : Ordered n (w.incs n) w.before s.views.view s.sessions.last_request t
     o =
-        ordered_does n (w.incs n) w.before s.views.view s.sessions.last_request (at_work s) t (steps_change c w k n s up f e) t.records (λ r h. h) (step_fine c w n s k up f e v arises) (lively_now c w n f s e v k up arises) (fresh_now c w k n s up) begin
+        ordered_does n (w.incs n) w.before s.views.view s.sessions.last_request (at_work s) t (steps_change c w k n s up f e) t.records (λ r h. h) (step_fine c w n s k up f e v arises) (lively_now c w n f s e v k up arises) (fresh_now c w k n s up) (begin_ordered c w k n s up old.0)
 
 order_law : (c : Config) → UpLaw anyhow c orderly
 order_law c =

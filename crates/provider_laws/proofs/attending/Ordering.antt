@@ -2,14 +2,13 @@
 use Rattle.std.proofs.Common.{◌≡◌, ◌≢◌, ◌≤◌, ◌<◌, ◌⊎◌, ℕ, ◌+◌, List, [], ◌∷◌, ◌++◌, Option, Some, None, true, false, refl, sym, ap, ◌∙◌, subst, inl, inr, ⊎_elim, arith}
 use Rattle.std.specs.Prelude.{reverse, map, flat_map}
 use Rattle.std.proofs.lemmas.List.{reverse-append}
-use Rattle.std.proofs.lemmas.Bool.Decides.{nat_tests}
 use Rattle.rsct_packet.specs.declared.ids.ViewId.{ViewId}
 use Rattle.rsct_packet.specs.declared.ids.Member.{Member}
 use Rattle.rsct_packet.specs.declared.ids.ProviderId.{ProviderId}
 use Rattle.rsct_packet.specs.Ids.{same_view}
 use Rattle.rsct_packet.specs.Providers.{among}
 use Rattle.rsct_packet.specs.Search.{Has}
-use Rattle.rsct_packet.proofs.HasLaws.{has_append, append_has_left, append_has_right, has_map}
+use Rattle.rsct_packet.proofs.HasLaws.{has_append, append_has_left, has_map}
 use Rattle.proposal_core.specs.declared.entry.Entry.{Entry}
 use Rattle.proposal_core.specs.declared.group_state.GroupState.{GroupState}
 use Rattle.proposal_core.specs.Fold.{after}
@@ -30,7 +29,6 @@ use Rattle.node_state.specs.declared.happened.Happened.{Happened}
 use Rattle.node_state.specs.declared.happened.Happened.TheVariants as happened
 use Rattle.node_state.specs.declared.state.Core.{Core}
 use Rattle.node_state.specs.State.{InNameOrder, row_of, with_row, list_of, state_of, len_of, held_rows, recorded, recorded_all, with_sessions}
-use Rattle.node_state.specs.HandOn.{heard}
 use Rattle.node_state.specs.Leading.{put}
 use Rattle.node_state.specs.Applying.{base_record, view_entered, sides_dissolved}
 use Rattle.run_safety.specs.ViewOrder.{Lt}
@@ -45,12 +43,14 @@ use Rattle.row_laws.proofs.hearing.Handing.{hearer_found}
 use Rattle.row_laws.proofs.hearing.Viewing.{sides_stand}
 use Rattle.row_laws.proofs.hearing.Attending.{pushed, pushed_reverse, heard_at}
 use Rattle.provider_laws.specs.attending.Places.{Named}
-use Rattle.provider_laws.proofs.attending.Turns.{CastsAlone, hearers_alone, casts_alone}
+use Rattle.provider_laws.proofs.attending.Turns.{CastsAlone, within_pushed, hearers_alone, casts_alone}
 use Rattle.provider_laws.proofs.attending.Staying.{Place, inner_stays, aside_count, place_fewer, place_kept, place_joined, put_there}
 use Rattle.provider_laws.proofs.attending.Handed.{Order, handed_order, handed_place, all_stay, count_out}
-use Rattle.provider_laws.proofs.attending.Entering.{entered_core, entered_place, other_stays, entered_count}
+use Rattle.provider_laws.proofs.attending.Entering.{entered_core, entered_place, other_stays, entered_count, entered_records}
 use Rattle.provider_laws.proofs.attending.Doing.{AllFine, Strict, strict_does, put_recorded}
 use Rattle.row_laws.proofs.hearing.Added.{Adds, does_grow, sides_add, enters_add}
+use Rattle.view_state.proofs.ViewOrder.{same_view_is}
+use Rattle.provider_laws.proofs.attending.Hands.{hands_keep}
 
 -- ---- the view that was entered
 
@@ -125,26 +125,8 @@ Lively n inc v rs =
     (u : ViewId) (ms : List Member) (g : List ℕ) (len : ℕ) (st : GroupState) → Has (happened.In n u ms) rs → Has (happened.Base n u g v len st) rs → Lt v u → (p : ProviderId) → p.node ≡ n → p.inc ≡ inc → among st.failed p ≡ false
 
 pub aside_order : (now : List Happened) (before : History) (r : Happened) → Aside r → Order now before r
-aside_order now before (happened.Up n j) a = tt
-aside_order now before (happened.Down n) a = tt
-aside_order now before (happened.Ring n k i ms m) a = tt
-aside_order now before (happened.In n v ms) a = tt
-aside_order now before (happened.Base n v g u len s) a = tt
-aside_order now before (happened.Put n v g i e) a = tt
 aside_order now before (happened.Heard p v g i e ms value) a = absurd a
-aside_order now before (happened.Cast p proto phase vote value message) a = tt
-aside_order now before (happened.Asked p r g x) a = tt
-aside_order now before (happened.Told p r why) a = tt
-aside_order now before (happened.Noted n c v i told) a = tt
-aside_order now before (happened.Refused n c fault) a = tt
-aside_order now before (happened.Shown n line) a = tt
-
-pub order_pushed : (rs now : List Happened) (before : History) → ((r : Happened) → Has r rs → Aside r) → Within Order now before → Within Order (pushed rs now) before
-order_pushed [] now before aside k = k
-order_pushed (r ∷ rs) now before aside k = order_pushed rs (r ∷ now) before (λ q h. aside q (inr h)) (aside_order now before r (aside r (inl refl)), k)
-
-pub view_same : (a b : ViewId) → same_view a b ≡ true → a ≡ b
-view_same a b z = grind (arith, nat_tests)
+aside_order now before _ a = tt
 
 -- the node that entered is in the view
 enters_at : (s : Core) (i : Install) → (sides_dissolved (view_entered s i (bases_of i)) (held_rows s) s.views.view (bases_of i)).views.view ≡ i.view
@@ -155,35 +137,32 @@ filled_now : {A : Type 0} (xs : List A) (x : A) → xs ++ x ∷ [] ≡ [] → �
 filled_now [] x e = cc
 filled_now (y ∷ xs) x e = cc
 
+-- what an entry that is put makes of the lists
+pub put_made : (s : Core) (h : List ℕ) (e : Entry) → InNameOrder s.groups → (len_of (put s h e) h ≡ len_of s h + 1) × (state_of (put s h e) h ≡ after (state_of s h) s.views.view (len_of s h) e) × ((g : List ℕ) → (h ≡ g → ⊥) → (len_of (put s h e) g ≡ len_of s g) × (state_of (put s h e) g ≡ state_of s g))
+unfolding put recorded len_of state_of list_of with_entry with_row row_of
+put_made s h e o =
+    let F : GroupRow → GroupRow = λ row. record row { list = Some (with_entry (list_or_new row.list) s.views.view e) } in
+    (ap (λ (row : GroupRow). (list_or_new row.list).len) (row_here h F (λ x. refl) s o), ap (λ (row : GroupRow). (list_or_new row.list).state) (row_here h F (λ x. refl) s o), λ g ne. (ap (λ (row : GroupRow). (list_or_new row.list).len) (row_there h F (λ x. refl) s g ne), ap (λ (row : GroupRow). (list_or_new row.list).state) (row_there h F (λ x. refl) s g ne)))
+
 module _ (n inc : ℕ) (before : History) (v : ViewId) (last : ℕ) where
   abbrev Core_place : ViewId → SessionState → List Happened → (List ℕ → ℕ) → (List ℕ → GroupState) → Type 0
   Core_place u t rs lens states =
       Place n u t (λ m g. stays m g (earlier (reverse rs) before)) (λ p w g. heard_count p w g (earlier (reverse rs) before)) lens states
 
-  put_made : (s : Core) (h : List ℕ) (e : Entry) → InNameOrder s.groups → (len_of (put s h e) h ≡ len_of s h + 1) × (state_of (put s h e) h ≡ after (state_of s h) s.views.view (len_of s h) e) × ((g : List ℕ) → (h ≡ g → ⊥) → (len_of (put s h e) g ≡ len_of s g) × (state_of (put s h e) g ≡ state_of s g))
-  unfolding put recorded len_of state_of list_of with_entry with_row row_of
-  put_made s h e o =
-      let F : GroupRow → GroupRow = λ row. record row { list = Some (with_entry (list_or_new row.list) s.views.view e) } in
-      (ap (λ (row : GroupRow). (list_or_new row.list).len) (row_here h F (λ x. refl) s o), ap (λ (row : GroupRow). (list_or_new row.list).state) (row_here h F (λ x. refl) s o), λ g ne. (ap (λ (row : GroupRow). (list_or_new row.list).len) (row_there h F (λ x. refl) s g ne), ap (λ (row : GroupRow). (list_or_new row.list).state) (row_there h F (λ x. refl) s g ne)))
+  -- what stands of a node that is in view u, with these sessions, when this was said
+  abbrev Stands : ViewId → SessionState → List Happened → (List ℕ → ℕ) → (List ℕ → GroupState) → Type 0
+  Stands u t now lens states =
+      Place n u t (λ m g. stays m g (earlier now before)) (λ p w g. heard_count p w g (earlier now before)) lens states × Within Order now before × ((m : ℕ) (g : List ℕ) → m ≢ n → stays m g (earlier now before) ≡ stays m g (records_of before)) × ((p : ProviderId) (w : ViewId) (g : List ℕ) → p.node ≢ n → heard_count p w g (earlier now before) ≡ heard_count p w g (records_of before))
 
-  -- what stands of a node that is in view u, with these sessions and records
-  abbrev Now : ViewId → SessionState → List Happened → (List ℕ → ℕ) → (List ℕ → GroupState) → Type 0
-  Now u t rs lens states =
-      Core_place u t rs lens states × Within Order (reverse rs) before × ((m : ℕ) (g : List ℕ) → m ≢ n → stays m g (earlier (reverse rs) before) ≡ stays m g (records_of before)) × ((p : ProviderId) (w : ViewId) (g : List ℕ) → p.node ≢ n → heard_count p w g (earlier (reverse rs) before) ≡ heard_count p w g (records_of before))
-
-  now_hands : (s c : Core) (h : List ℕ) (e : Entry) (bs : List (Option Filled)) → InNameOrder s.groups → Same (put s h e) c → Named e → Ordered n inc before v last s → let t : Core = handing c h (len_of s h) (state_of s h) (state_of (put s h e) h) e bs in Now t.views.view t.sessions t.records (len_of t) (state_of t)
-  unfolding put recorded recorded_all with_sessions heard with_row casts_out len_of state_of list_of row_of
-  now_hands s c h e bs o same named k = subst Q (λ i. (sym same.view i, sym same.sessions i, sym same.records i, (λ g. sym (same.lens g) i), (λ g. sym (same.states g) i))) first
+  now_hands : (s c : Core) (h : List ℕ) (e : Entry) (bs : List (Option Filled)) → InNameOrder s.groups → Same (put s h e) c → Named e → Ordered n inc before v last s → let t : Core = handing c h (len_of s h) (state_of s h) (state_of (put s h e) h) e bs in Stands t.views.view t.sessions (reverse t.records) (len_of t) (state_of t)
+  unfolding casts_out
+  now_hands s c h e bs o same named k = hands_keep n s c h e bs same k.strict.hearing.me Stands (place, law, others, counts)
     where
       st : GroupState
       st = state_of (put s h e) h
 
       made : (len_of (put s h e) h ≡ len_of s h + 1) × (state_of (put s h e) h ≡ after (state_of s h) s.views.view (len_of s h) e) × ((g : List ℕ) → (h ≡ g → ⊥) → (len_of (put s h e) g ≡ len_of s g) × (state_of (put s h e) g ≡ state_of s g))
       made = put_made s h e o
-
-      Q : (ViewId × SessionState × List Happened × (List ℕ → ℕ) × (List ℕ → GroupState)) → Type 0
-      Q z =
-          Now z.0 (handed_on z.1 h (state_of s h) st e bs) (z.2 ++ flat_map (heard_at z.0 h (len_of s h) e st) (casts_out z.1 h (state_of s h) st e bs)) z.3 z.4
 
       ps : List ProviderId
       ps = hearers s.sessions h (state_of s h) e
@@ -199,10 +178,6 @@ module _ (n inc : ℕ) (before : History) (v : ViewId) (last : ℕ) where
 
       put_now : List Happened
       put_now = happened.Put n s.views.view h (len_of s h) e ∷ now
-
-      turned : reverse ((put s h e).records ++ rs) ≡ pushed rs put_now
-      turned =
-          pushed_reverse rs (put s h e).records ∙ ap (pushed rs) (reverse-append s.records (happened.Put s.views.me s.views.view h (len_of s h) e ∷ [])) ∙ ap (λ m. pushed rs (happened.Put m s.views.view h (len_of s h) e ∷ now)) k.strict.hearing.me
 
       own : (p : ProviderId) (x : Provider) → provider_of s.sessions p ≡ Some x → p.node ≡ n
       own p x q = (k.strict.hearing.at.own p x q).0
@@ -229,42 +204,19 @@ module _ (n inc : ℕ) (before : History) (v : ViewId) (last : ℕ) where
       counts p w g ne =
           count_out before n s.views.view h (len_of s h) e st cs put_now p w g (λ x i q. ne (ap (λ (z : ProviderId). z.node) (sym q) ∙ hears x i)) ∙ k.counts p w g ne
 
-      first : Q (s.views.view, s.sessions, (put s h e).records, len_of (put s h e), state_of (put s h e))
-      first =
-          (subst (λ z. Place n s.views.view (handed_on s.sessions h (state_of s h) st e bs) (λ m g. stays m g (earlier z before)) (λ p u g. heard_count p u g (earlier z before)) (len_of (put s h e)) (state_of (put s h e))) (sym turned) place, subst (λ z. Within Order z before) (sym turned) law, λ m g ne. ap (λ z. stays m g (earlier z before)) turned ∙ others m g ne, λ p w g ne. ap (λ z. heard_count p w g (earlier z before)) turned ∙ counts p w g ne)
-
   hands_some : (s c : Core) (h : List ℕ) (e : Entry) (bs : List (Option Filled)) → Same (put s h e) c → (handing c h (len_of s h) (state_of s h) (state_of (put s h e) h) e bs).records ≡ [] → ⊥
   hands_some s c h e bs same q = subst (Has (happened.Put s.views.me s.views.view h (len_of s h) e)) q (put_recorded n inc before s c h e bs same)
-
-  pub entering_recorded : (s : Core) (i : Install) → Has (happened.In s.views.me i.view i.members) (entered_core before s i).records
-  unfolding view_entered recorded_all views_entered base_record
-  entering_recorded s i =
-      let told = sides_add (view_entered s i (bases_of i)) (held_rows s) s.views.view (bases_of i) in
-      let r : Happened = happened.In s.views.me i.view i.members in
-      subst (Has r) (sym told.is) (append_has_left r (view_entered s i (bases_of i)).records told.more (append_has_right r s.records (r ∷ map (base_record (view_entered s i (bases_of i))) (bases_of i)) (inl refl)))
-
-  pub base_recorded_at : (s : Core) (i : Install) (b : Base) → Has b (bases_of i) → Has (happened.Base s.views.me i.view b.name b.from b.len b.state) (entered_core before s i).records
-  unfolding view_entered recorded_all views_entered base_record
-  base_recorded_at s i b h =
-      let told = sides_add (view_entered s i (bases_of i)) (held_rows s) s.views.view (bases_of i) in
-      let r : Happened = happened.Base s.views.me i.view b.name b.from b.len b.state in
-      subst (Has r) (sym told.is) (append_has_left r (view_entered s i (bases_of i)).records told.more (append_has_right r s.records (happened.In s.views.me i.view i.members ∷ map (base_record (view_entered s i (bases_of i))) (bases_of i)) (inr (image (bases_of i) h))))
-    where
-      image : (bs : List Base) → Has b bs → Has (happened.Base s.views.me i.view b.name b.from b.len b.state) (map (base_record (view_entered s i (bases_of i))) bs)
-      image [] h = absurd h
-      image (c ∷ bs) (inl e) = inl (ap (λ (z : Base). happened.Base s.views.me i.view z.name z.from z.len z.state) e)
-      image (c ∷ bs) (inr h) = inr (image bs h)
 
   ordered_enters : (s : Core) (i : Install) → Lt s.views.view i.view → ((r : Happened) → Has r s.records → Unentered r) → (rs : List Happened) → ((r : Happened) → Has r (entered_core before s i).records → Has r rs) → Lively n inc v rs → Strict n inc before (entered_core before s i) → Ordered n inc before v last s → Ordered n inc before v last (entered_core before s i)
   ordered_enters s i lt none rs more lively strict k =
       record {
         strict = strict;
         place = subst (λ u. Core_place u (entered_core before s i).sessions (entered_core before s i).records (len_of (entered_core before s i)) (state_of (entered_core before s i))) (sym view_is) (entered_place before s i n inc k.strict.hearing lt k.place lives);
-        law = subst (λ z. Within Order z before) (sym (ap reverse adds.is ∙ pushed_reverse adds.more s.records)) (order_pushed adds.more (reverse s.records) before adds.all k.law);
+        law = subst (λ z. Within Order z before) (sym (ap reverse adds.is ∙ pushed_reverse adds.more s.records)) (within_pushed Order Aside aside_order adds.more (reverse s.records) before adds.all k.law);
         others = λ m g ne. other_stays before s i m g (λ z. ne (z ∙ k.strict.hearing.me)) ∙ k.others m g ne;
         counts = λ p u g ne. entered_count before s i p u g ∙ k.counts p u g ne;
-        begins = λ all. absurd (all (happened.In s.views.me i.view i.members) (entering_recorded s i));
-        numbers = λ q. absurd (subst (Has (happened.In s.views.me i.view i.members)) q (entering_recorded s i));
+        begins = λ all. absurd (all (happened.In s.views.me i.view i.members) (entered_records s i).view);
+        numbers = λ q. absurd (subst (Has (happened.In s.views.me i.view i.members)) q (entered_records s i).view);
       }
     where
       adds : Adds Aside s (entered_core before s i)
@@ -276,9 +228,9 @@ module _ (n inc : ℕ) (before : History) (v : ViewId) (last : ℕ) where
       lives : (b : Base) → Has b (bases_of i) → same_view b.from s.views.view ≡ true → (p : ProviderId) → p.node ≡ n → p.inc ≡ inc → among b.state.failed p ≡ false
       lives b h e p node inc_is =
           let at : s.views.view ≡ v = k.begins none in
-          let from : b.from ≡ v = view_same b.from s.views.view e ∙ at in
+          let from : b.from ≡ v = same_view_is b.from s.views.view e ∙ at in
           let me : s.views.me ≡ n = k.strict.hearing.me in
-          lively i.view i.members b.name b.len b.state (subst (λ m. Has (happened.In m i.view i.members) rs) me (more _ (entering_recorded s i))) (subst (λ (z : ℕ × ViewId). Has (happened.Base z.0 i.view b.name z.1 b.len b.state) rs) (λ j. (me j, from j)) (more _ (base_recorded_at s i b h))) (subst (λ z. Lt z i.view) at lt) p node inc_is
+          lively i.view i.members b.name b.len b.state (subst (λ m. Has (happened.In m i.view i.members) rs) me (more _ (entered_records s i).view)) (subst (λ (z : ℕ × ViewId). Has (happened.Base z.0 i.view b.name z.1 b.len b.state) rs) (λ j. (me j, from j)) (more _ ((entered_records s i).base b h))) (subst (λ z. Lt z i.view) at lt) p node inc_is
 
   pub ordered_does : (s t : Core) → Does s t → (rs : List Happened) → ((r : Happened) → Has r t.records → Has r rs) → AllFine rs → Lively n inc v rs → Fresh n inc before v last → Ordered n inc before v last s → Ordered n inc before v last t
   unfolding recorded recorded_all with_sessions len_of state_of list_of row_of put with_row join_asked

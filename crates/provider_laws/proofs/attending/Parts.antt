@@ -90,16 +90,6 @@ last_comes p v f s i (x ∷ es) e le q =
 pub zero_and : (n : ℕ) → 0 + n ≡ n
 zero_and n = omega arith
 
-pub fold_push : (v : ViewId) (s : GroupState) (i : ℕ) (es : List Entry) (e : Entry) → fold_from v s i (es ++ e ∷ []) ≡ after (fold_from v s i es) v (i + length es) e
-fold_push v s i [] e = ap (λ k. after s v k e) (same i)
-  where
-    same : (i : ℕ) → i ≡ i + 0
-    same i = omega arith
-fold_push v s i (x ∷ es) e = fold_push v (after s v i x) (i + 1) es e ∙ ap (λ k. after (fold_from v (after s v i x) (i + 1) es) v k e) (same i (length es))
-  where
-    same : (i n : ℕ) → (i + 1) + n ≡ i + suc n
-    same i n = omega arith
-
 -- ---- a stay with an entry more
 
 abbrev pub pushed_stay : Stay → Entry → Stay

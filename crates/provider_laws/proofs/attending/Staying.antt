@@ -12,7 +12,7 @@ use Rattle.rsct_packet.specs.Search.{Has}
 use Rattle.rsct_packet.proofs.HasLaws.{has_filter, filter_has}
 use Rattle.group_attr.specs.declared.attrs.Attrs.{Attrs}
 use Rattle.proposal_core.specs.declared.entry.Entry.{Entry}
-use Rattle.proposal_core.specs.declared.entry.Entry.TheVariants.{Once, Begin, Phase, Approve, Reject, Late}
+use Rattle.proposal_core.specs.declared.entry.Entry.TheVariants.{Once, Begin}
 use Rattle.proposal_core.specs.declared.group_state.GroupState.{GroupState}
 use Rattle.proposal_core.specs.Fold.{after, joins_of}
 use Rattle.subscribe_core.specs.declared.subs.ClientToken.{ClientToken}
@@ -33,7 +33,9 @@ use Rattle.step_refinement.proofs.SessionLaws.{provider_same, provider_self}
 use Rattle.row_laws.specs.hearing.Hearing.{last_heard}
 use Rattle.row_laws.specs.hearing.Changes.{Aside, Inner, Fewer}
 use Rattle.row_laws.proofs.hearing.Handing.{among_is}
-use Rattle.provider_laws.proofs.attending.Parts.{pushed_stay, zero_and, fold_push}
+use Rattle.provider_laws.proofs.attending.Parts.{pushed_stay, zero_and}
+use Rattle.std.proofs.lemmas.Bool.{eqb-true, eq-eqb}
+use Rattle.step_refinement.proofs.Puts.{fold_pushed}
 
 -- the latest stay is in the view, and what was put there makes the state
 pub record InStay (v : ViewId) (xs : List Stay) (len : ℕ) (st : GroupState) : Type 0 where
@@ -61,32 +63,16 @@ pub record Place (n : ℕ) (v : ViewId) (t : SessionState) (S : ℕ → List ℕ
 pub inner_stays : (m : ℕ) (g : List ℕ) (r : Happened) (rs : List Happened) → Inner r → stays m g (r ∷ rs) ≡ stays m g rs
 inner_stays m g (happened.Up n j) rs a = absurd a
 inner_stays m g (happened.Down n) rs a = absurd a
-inner_stays m g (happened.Ring n k i ms o) rs a = refl
 inner_stays m g (happened.In n v ms) rs a = absurd a
 inner_stays m g (happened.Base n v h old len s) rs a = absurd a
 inner_stays m g (happened.Put n v h i e) rs a = absurd a
 inner_stays m g (happened.Heard p v h i e ms value) rs a = absurd a
-inner_stays m g (happened.Cast p proto phase vote value message) rs a = refl
-inner_stays m g (happened.Asked p r h x) rs a = refl
-inner_stays m g (happened.Told p r why) rs a = refl
-inner_stays m g (happened.Noted n c v i told) rs a = refl
-inner_stays m g (happened.Refused n c fault) rs a = refl
-inner_stays m g (happened.Shown n line) rs a = refl
+inner_stays m g _ rs a = refl
 
 pub aside_count : (p : ProviderId) (v : ViewId) (g : List ℕ) (r : Happened) (rs : List Happened) → Aside r → heard_count p v g (r ∷ rs) ≡ heard_count p v g rs
-aside_count p v g (happened.Up n j) rs a = refl
-aside_count p v g (happened.Down n) rs a = refl
-aside_count p v g (happened.Ring n k i ms o) rs a = refl
-aside_count p v g (happened.In n u ms) rs a = refl
-aside_count p v g (happened.Base n u h old len s) rs a = refl
 aside_count p v g (happened.Put n u h i e) rs a = absurd a
 aside_count p v g (happened.Heard q u h i e ms value) rs a = absurd a
-aside_count p v g (happened.Cast q proto phase vote value message) rs a = refl
-aside_count p v g (happened.Asked q r h x) rs a = refl
-aside_count p v g (happened.Told q r why) rs a = refl
-aside_count p v g (happened.Noted n c u i told) rs a = refl
-aside_count p v g (happened.Refused n c fault) rs a = refl
-aside_count p v g (happened.Shown n line) rs a = refl
+aside_count p v g _ rs a = refl
 
 -- who heard nothing of a list heard nothing
 pub none_count : (p : ProviderId) (v : ViewId) (g : List ℕ) (rs : List Happened) → last_heard p v g rs ≡ None → heard_count p v g rs ≡ 0
@@ -96,18 +82,7 @@ none_count p v g (happened.Heard w u h i e ms value ∷ rs) q = by (same_provide
     by : (b : Bool) → (if b then Some i else last_heard p v g rs) ≡ None → (last_heard p v g rs ≡ None → heard_count p v g rs ≡ 0) → (if b then heard_count p v g rs + 1 else heard_count p v g rs) ≡ 0
     by true z rest = absurd (cc)
     by false z rest = rest z
-none_count p v g (happened.Up n j ∷ rs) q = none_count p v g rs q
-none_count p v g (happened.Down n ∷ rs) q = none_count p v g rs q
-none_count p v g (happened.Ring n k i ms o ∷ rs) q = none_count p v g rs q
-none_count p v g (happened.In n u ms ∷ rs) q = none_count p v g rs q
-none_count p v g (happened.Base n u h old len s ∷ rs) q = none_count p v g rs q
-none_count p v g (happened.Put n u h i e ∷ rs) q = none_count p v g rs q
-none_count p v g (happened.Cast w proto phase vote value message ∷ rs) q = none_count p v g rs q
-none_count p v g (happened.Asked w r h x ∷ rs) q = none_count p v g rs q
-none_count p v g (happened.Told w r why ∷ rs) q = none_count p v g rs q
-none_count p v g (happened.Noted n c u i told ∷ rs) q = none_count p v g rs q
-none_count p v g (happened.Refused n c fault ∷ rs) q = none_count p v g rs q
-none_count p v g (happened.Shown n line ∷ rs) q = none_count p v g rs q
+none_count p v g (_ ∷ rs) q = none_count p v g rs q
 
 -- what is heard counts for the provider, in that list
 pub count_own : (q : ProviderId) (v : ViewId) (h : List ℕ) (i : ℕ) (e : Entry) (ms : List ProviderId) (value : List ℕ) (rs : List Happened) → heard_count q v h (happened.Heard q v h i e ms value ∷ rs) ≡ heard_count q v h rs + 1
@@ -132,6 +107,19 @@ count_apart p u g q v h i e ms value rs ne = by (same_provider q p) (same_view v
     by true false false k = refl
     by true true false k = refl
 
+-- who is found with one provider more was found before, or is that one
+pub found_joined : (x : Provider) (p : ProviderId) (xs : List Provider) (y : Provider) → find (is_provider p) (xs ++ x ∷ []) ≡ Some y → (find (is_provider p) xs ≡ Some y) ⊎ ((y ≡ x) × (p ≡ x.p))
+found_joined x p [] y e = last (is_provider p x) refl e
+  where
+    last : (b : Bool) → is_provider p x ≡ b → (if b then Some x else None) ≡ Some y → (find (is_provider p) [] ≡ Some y) ⊎ ((y ≡ x) × (p ≡ x.p))
+    last true q e = let z : y ≡ x = cc in inr (z, sym (provider_same x.p p q))
+    last false q e = absurd (cc)
+found_joined x p (z ∷ xs) y e = by (is_provider p z) e (found_joined x p xs y)
+  where
+    by : (b : Bool) → (if b then Some z else find (is_provider p) (xs ++ x ∷ [])) ≡ Some y → (find (is_provider p) (xs ++ x ∷ []) ≡ Some y → (find (is_provider p) xs ≡ Some y) ⊎ ((y ≡ x) × (p ≡ x.p))) → ((if b then Some z else find (is_provider p) xs) ≡ Some y) ⊎ ((y ≡ x) × (p ≡ x.p))
+    by true e rest = inl e
+    by false e rest = rest e
+
 module _ (n : ℕ) (v : ViewId) (t : SessionState) (S : ℕ → List ℕ → List Stay) (C : ProviderId → ViewId → List ℕ → ℕ) (lens : List ℕ → ℕ) (states : List ℕ → GroupState) where
   -- ---- sessions
 
@@ -150,34 +138,19 @@ module _ (n : ℕ) (v : ViewId) (t : SessionState) (S : ℕ → List ℕ → Lis
   place_joined c h instance attrs fresh k =
       record {
         stay = k.stay;
-        taking = λ p y q take. ⊎_elim (λ (a : find (is_provider p) t.providers ≡ Some y). k.taking p y a take) (λ (a : (y ≡ x) × (p ≡ x.p)). absurd (let z : false ≡ true = ap (λ (z : Provider). z.takes_part) (sym a.0) ∙ take in cc)) (found p t.providers y q);
-        waiting = λ p y q take. ⊎_elim (λ (a : find (is_provider p) t.providers ≡ Some y). k.waiting p y a take) (λ (a : (y ≡ x) × (p ≡ x.p)). subst (λ (z : ProviderId × Provider). ((part z.0 (S n z.1.group)).first ≡ None) × (C z.0 v z.1.group ≡ 0)) (λ i. (sym a.1 i, sym a.0 i)) fresh) (found p t.providers y q);
+        taking = λ p y q take. ⊎_elim (λ (a : find (is_provider p) t.providers ≡ Some y). k.taking p y a take) (λ (a : (y ≡ x) × (p ≡ x.p)). absurd (let z : false ≡ true = ap (λ (z : Provider). z.takes_part) (sym a.0) ∙ take in cc)) (found_joined x p t.providers y q);
+        waiting = λ p y q take. ⊎_elim (λ (a : find (is_provider p) t.providers ≡ Some y). k.waiting p y a take) (λ (a : (y ≡ x) × (p ≡ x.p)). subst (λ (z : ProviderId × Provider). ((part z.0 (S n z.1.group)).first ≡ None) × (C z.0 v z.1.group ≡ 0)) (λ i. (sym a.1 i, sym a.0 i)) fresh) (found_joined x p t.providers y q);
       }
     where
       x : Provider
       x = record { p = new_provider t instance; client = c; group = h; takes_part = false; opened = None }
-
-      found : (p : ProviderId) (xs : List Provider) (y : Provider) → find (is_provider p) (xs ++ x ∷ []) ≡ Some y → (find (is_provider p) xs ≡ Some y) ⊎ ((y ≡ x) × (p ≡ x.p))
-      found p [] y e = last (is_provider p x) refl e
-        where
-          last : (b : Bool) → is_provider p x ≡ b → (if b then Some x else None) ≡ Some y → (find (is_provider p) [] ≡ Some y) ⊎ ((y ≡ x) × (p ≡ x.p))
-          last true q e = let z : y ≡ x = cc in inr (z, sym (provider_same x.p p q))
-          last false q e = absurd (cc)
-      found p (z ∷ xs) y e = by (is_provider p z) e (found p xs y)
-        where
-          by : (b : Bool) → (if b then Some z else find (is_provider p) (xs ++ x ∷ [])) ≡ Some y → (find (is_provider p) (xs ++ x ∷ []) ≡ Some y → (find (is_provider p) xs ≡ Some y) ⊎ ((y ≡ x) × (p ≡ x.p))) → ((if b then Some z else find (is_provider p) xs) ≡ Some y) ⊎ ((y ≡ x) × (p ≡ x.p))
-          by true e rest = inl e
-          by false e rest = rest e
 
 -- ---- an entry is put
 
 brings_join : (p : ProviderId) (e : Entry) → is_join_of p e ≡ true → Has p (brought_by e)
 brings_join p (Once x) h = among_is (joins_of x) p h
 brings_join p (Begin x) h = among_is (joins_of x) p h
-brings_join p (Phase c) h = absurd (cc)
-brings_join p (Approve c) h = absurd (cc)
-brings_join p (Reject c) h = absurd (cc)
-brings_join p (Late proto phase ps) h = absurd (cc)
+brings_join p _ h = absurd (cc)
 
 -- who begins did not take part
 pub begins_waits : (t : SessionState) (h : List ℕ) (e : Entry) (p : ProviderId) → Has p (beginners t h e) → (x : Provider) → provider_of t p ≡ Some x → x.takes_part ≡ true → ⊥
@@ -194,19 +167,13 @@ join_begins t h e p x found part group k =
     filter_has (λ p. hears h false (provider_of t p)) p (brought_by e) (brings_join p e k) (ap (hears h false) found ∙ (λ i. not (part i) && bytes_eq (group i) h) ∙ text_self h)
 
 pub put_here : (n : ℕ) (v : ViewId) (h : List ℕ) (i : ℕ) (e : Entry) (rs : List Happened) (x : Stay) (older : List Stay) → stays n h rs ≡ x ∷ older → stays n h (happened.Put n v h i e ∷ rs) ≡ pushed_stay x e ∷ older
-put_here n v h i e rs x older q = (λ k. if number n k && text_self h k then with_entry e (stays n h rs) else stays n h rs) ∙ ap (with_entry e) q
-  where
-    number : (n : ℕ) → (n == n) ≡ true
-    number n = grind (arith, nat_tests)
+put_here n v h i e rs x older q = (λ k. if eq-eqb n n refl k && text_self h k then with_entry e (stays n h rs) else stays n h rs) ∙ ap (with_entry e) q
 
 pub put_there : (n m : ℕ) (v : ViewId) (h g : List ℕ) (i : ℕ) (e : Entry) (rs : List Happened) → ((n ≡ m) → (h ≡ g) → ⊥) → stays m g (happened.Put n v h i e ∷ rs) ≡ stays m g rs
 put_there n m v h g i e rs ne = by (n == m) (bytes_eq h g) refl refl
   where
-    number : (n m : ℕ) → (n == m) ≡ true → n ≡ m
-    number n m z = grind (arith, nat_tests)
-
     by : (a b : Bool) → (n == m) ≡ a → bytes_eq h g ≡ b → (if a && b then with_entry e (stays m g rs) else stays m g rs) ≡ stays m g rs
-    by true true x y = absurd (ne (number n m x) (text_same h g y))
+    by true true x y = absurd (ne (eqb-true n m x) (text_same h g y))
     by true false x y = refl
     by false b x y = refl
 
@@ -219,5 +186,5 @@ stay_pushed v x older e len st view ln state =
       is = refl;
       view = view;
       len_is = length-append x.entries (e ∷ []) ∙ ap (λ z. z + 1) ln;
-      state = fold_push v x.base 0 x.entries e ∙ ap (λ k. after (fold_from v x.base 0 x.entries) v k e) (zero_and (length x.entries)) ∙ (λ i. after (state i) v (ln i) e);
+      state = fold_pushed v x.entries x.base 0 e ∙ ap (λ k. after (fold_from v x.base 0 x.entries) v k e) (zero_and (length x.entries)) ∙ (λ i. after (state i) v (ln i) e);
     }

@@ -9,7 +9,7 @@ use Rattle.rsct_packet.specs.declared.ids.ProtoId.{ProtoId}
 use Rattle.rsct_packet.specs.Search.{Has}
 use Rattle.rsct_packet.proofs.HasLaws.{has_filter, has_append}
 use Rattle.proposal_core.specs.declared.entry.Entry.{Entry}
-use Rattle.proposal_core.specs.declared.entry.Entry.TheVariants.{Once, Begin, Phase, Approve, Reject, Late}
+use Rattle.proposal_core.specs.declared.entry.Entry.TheVariants.{Once, Begin}
 use Rattle.proposal_core.specs.declared.group_state.GroupState.{GroupState}
 use Rattle.proposal_core.specs.Fold.{joins_of, joiners_in, present}
 use Rattle.client_callbacks.specs.declared.ballot.Filled.{Filled}
@@ -36,33 +36,31 @@ use Rattle.provider_laws.proofs.attending.Alone.{alone_filter, alone_append, alo
 -- ---- records that nobody hears
 
 pub aside_next : (now : List Happened) (before : History) (r : Happened) → Aside r → NextHeard now before r
-aside_next now before (happened.Up n j) a = tt
-aside_next now before (happened.Down n) a = tt
-aside_next now before (happened.Ring n k i ms m) a = tt
-aside_next now before (happened.In n v ms) a = tt
-aside_next now before (happened.Base n v g u len s) a = tt
-aside_next now before (happened.Put n v g i e) a = tt
 aside_next now before (happened.Heard p v g i e ms value) a = absurd a
-aside_next now before (happened.Cast p proto phase vote value message) a = tt
-aside_next now before (happened.Asked p r g x) a = tt
-aside_next now before (happened.Told p r why) a = tt
-aside_next now before (happened.Noted n c v i told) a = tt
-aside_next now before (happened.Refused n c fault) a = tt
-aside_next now before (happened.Shown n line) a = tt
+aside_next now before _ a = tt
 
-pub within_pushed : (rs now : List Happened) (before : History) → ((r : Happened) → Has r rs → Aside r) → Within NextHeard now before → Within NextHeard (pushed rs now) before
-within_pushed [] now before aside k = k
-within_pushed (r ∷ rs) now before aside k = within_pushed rs (r ∷ now) before (λ q h. aside q (inr h)) (aside_next now before r (aside r (inl refl)), k)
+-- what holds of each record of such a kind goes on with these
+pub within_pushed : (P : List Happened → History → Happened → Type 0) (A : Happened → Type 0) → ((now : List Happened) (before : History) (r : Happened) → A r → P now before r) → (rs now : List Happened) (before : History) → ((r : Happened) → Has r rs → A r) → Within P now before → Within P (pushed rs now) before
+within_pushed P A of [] now before all k = k
+within_pushed P A of (r ∷ rs) now before all k =
+    within_pushed P A of rs (r ∷ now) before (λ q h. all q (inr h)) (of now before r (all r (inl refl)), k)
+
+-- and what no ballot changes, none of a notice does
+pub casts_keep : (P : List Happened → Type 0) → ((p : ProviderId) (proto : ProtoId) (phase : ℕ) (b : Filled) (now : List Happened) → P now → P (happened.Cast p proto phase b.vote b.value b.message ∷ now)) → (p : ProviderId) (o : Option (ProtoId × ℕ × BallotView)) (now : List Happened) → P now → P (pushed (cast_records p o) now)
+unfolding cast_records cast_record
+casts_keep P one p None now k = k
+casts_keep P one p (Some c) now k = by (c.2).filled
+  where
+    by : (b : Option Filled) → P (pushed (cast_record p c.0 c.1 b) now)
+    by None = k
+    by (Some b) = one p c.0 c.1 b now k
 
 -- ---- who hears an entry
 
 brought_alone : (e : Entry) → Named e → Alone (brought_by e)
 brought_alone (Once x) k = k
 brought_alone (Begin x) k = k
-brought_alone (Phase c) k = tt
-brought_alone (Approve c) k = tt
-brought_alone (Reject c) k = tt
-brought_alone (Late proto phase ps) k = tt
+brought_alone _ k = tt
 
 pub hearers_alone : (s : SessionState) (g : List ℕ) (before : GroupState) (e : Entry) → Alone (present before) → Named e → Alone (hearers s g before e)
 unfolding hearers hearers_in beginners
@@ -103,10 +101,7 @@ hearers_alone s g before e a n =
 join_brings : (p : ProviderId) (e : Entry) → Has p (brought_by e) → is_join_of p e ≡ true
 join_brings p (Once x) h = has_among (joins_of x) p h
 join_brings p (Begin x) h = has_among (joins_of x) p h
-join_brings p (Phase c) h = absurd h
-join_brings p (Approve c) h = absurd h
-join_brings p (Reject c) h = absurd h
-join_brings p (Late proto phase ps) h = absurd h
+join_brings p _ h = absurd h
 
 -- who begins is named by the entry
 pub begins_by_join : (t : SessionState) (h : List ℕ) (e : Entry) (p : ProviderId) → Has p (beginners t h e) → is_join_of p e ≡ true
@@ -134,38 +129,17 @@ module _ (before : History) (v : ViewId) (h : List ℕ) (i : ℕ) (e : Entry) (s
 
   -- what is heard and cast moves no node
   casts_up : (p : ProviderId) (o : Option (ProtoId × ℕ × BallotView)) (now : List Happened) (q : ProviderId) → IsUp q v (earlier now before) → IsUp q v (earlier (pushed (cast_records p o) now) before)
-  unfolding cast_records cast_record
-  casts_up p None now q k = k
-  casts_up p (Some c) now q k = by (c.2).filled
-    where
-      by : (b : Option Filled) → IsUp q v (earlier (pushed (cast_record p c.0 c.1 b) now) before)
-      by None = k
-      by (Some b) = k
-
-  cast_within : (p : ProviderId) (o : Option (ProtoId × ℕ × BallotView)) (now : List Happened) → Within NextHeard now before → Within NextHeard (pushed (cast_records p o) now) before
-  unfolding cast_records cast_record
-  cast_within p None now k = k
-  cast_within p (Some c) now k = by (c.2).filled
-    where
-      by : (b : Option Filled) → Within NextHeard (pushed (cast_record p c.0 c.1 b) now) before
-      by None = k
-      by (Some b) = (tt, k)
+  casts_up p o now q k = casts_keep (λ z. IsUp q v (earlier z before)) (λ w proto phase b z i. i) p o now k
 
   cast_last : (p : ProviderId) (o : Option (ProtoId × ℕ × BallotView)) (now : List Happened) (q : ProviderId) → last_heard q v h (earlier (pushed (cast_records p o) now) before) ≡ last_heard q v h (earlier now before)
-  unfolding cast_records cast_record
-  cast_last p None now q = refl
-  cast_last p (Some c) now q = by (c.2).filled
-    where
-      by : (b : Option Filled) → last_heard q v h (earlier (pushed (cast_record p c.0 c.1 b) now) before) ≡ last_heard q v h (earlier now before)
-      by None = refl
-      by (Some b) = refl
+  cast_last p o now q = casts_keep (λ z. last_heard q v h (earlier z before) ≡ last_heard q v h (earlier now before)) (λ w proto phase b z i. i) p o now refl
 
   pub all_next : (cs : List Cast) (now : List Happened) → Within NextHeard now before → ((c : Cast) → Has c cs → Next now c.p) → CastsAlone cs → Within NextHeard (pushed (flat_map (heard_at v h i e st) cs) now) before
   all_next [] now k next alone = k
   all_next (c ∷ cs) now k next alone =
       let heard : List Happened = happened.Heard c.p v h i e st.members st.value ∷ now in
       let mid : List Happened = pushed (cast_records c.p c.cast) heard in
-      let law : Within NextHeard mid before = cast_within c.p c.cast heard (next c (inl refl), k) in
+      let law : Within NextHeard mid before = casts_keep (λ z. Within NextHeard z before) (λ w proto phase b z i. (tt, i)) c.p c.cast heard (next c (inl refl), k) in
       subst (λ z. Within NextHeard z before) (sym (pushed_append (heard_at v h i e st c) (flat_map (heard_at v h i e st) cs) now)) (all_next cs mid law (λ d j. (subst (λ o. IsNext d.p e o i) (sym (cast_last c.p c.cast heard d.p ∙ heard_other d.p v h c.p v h i e st.members st.value (earlier now before) (alone.0 d j))) (next d (inr j)).0, casts_up c.p c.cast heard d.p (next d (inr j)).1)) alone.1)
 
 -- who hears an entry heard the place before it last, or nothing of the list

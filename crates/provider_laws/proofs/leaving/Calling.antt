@@ -1,40 +1,39 @@
 -- What a call records and makes of the sessions: names differ, and who says goodbye has no session then.
 use Rattle.std.proofs.Common.{◌≡◌, ◌⊎◌, ℕ, ◌+◌, List, [], ◌∷◌, ◌++◌, Option, Some, None, Bool, true, false, refl, sym, ap, ◌∙◌, subst, inl, inr, suc}
-use Rattle.std.specs.Prelude.{◌||◌, find, filter, fold, if◌then◌else◌, Result, Ok, Err}
+use Rattle.std.specs.Prelude.{filter, if◌then◌else◌, Result, Ok, Err}
 use Rattle.std.specs.Option.{option_map}
 use Rattle.std.specs.List.{list_any, last_or}
 use Rattle.std.proofs.lemmas.Bool.{eqb-true, eq-eqb}
 use Rattle.rsct_packet.specs.declared.ids.ProviderId.{ProviderId}
 use Rattle.rsct_packet.specs.Search.{Has, place_where}
 use Rattle.rsct_packet.proofs.HasLaws.{has_append, append_has_right}
-use Rattle.group_attr.specs.declared.attrs.Attrs.{Attrs}
-use Rattle.group_attr.specs.declared.attrs.Phases.{Phases}
-use Rattle.proposal_core.specs.declared.proposal.Proposal.{Proposal}
-use Rattle.proposal_core.specs.declared.proposal.Proposal.TheVariants.{Attributes}
 use Rattle.client_callbacks.specs.declared.ballot.Filled.{Filled}
 use Rattle.subscribe_core.specs.declared.subs.ClientToken.{ClientToken}
 use Rattle.session_state.specs.declared.fault.GsFault.{GsFault}
 use Rattle.session_state.specs.declared.fault.GsFault.TheVariants as fault
 use Rattle.session_state.specs.declared.state.KeptBallot.{KeptBallot}
-use Rattle.session_state.specs.declared.state.MemberToken.{MemberToken}
 use Rattle.session_state.specs.declared.state.Provider.{Provider}
 use Rattle.session_state.specs.declared.state.Request.{Request}
 use Rattle.session_state.specs.declared.state.Session.{Session}
 use Rattle.session_state.specs.declared.state.SessionState.{SessionState}
-use Rattle.session_state.specs.State.{is_member_of, is_session, is_named, is_client_of, client_token}
-use Rattle.session_state.specs.Calls.{or_fault, client_fault, unless_fault, if_session, is_empty, init_fault, add_session, inited, join_fault, join_asked, joined, asked, ask_fault, member_asks, request_made, left, expelled, state_changed, message_sent, member_changes, attributes_changed, subscribe_taken, unsubscribe_taken, removed_at, end_session, goodbye_taken}
+use Rattle.session_state.specs.State.{is_session, is_named, is_client_of, client_token}
+use Rattle.session_state.specs.Calls.{or_fault, client_fault, unless_fault, init_fault, add_session, inited, join_fault, join_asked, joined, left, expelled, state_changed, message_sent, subscribe_taken, unsubscribe_taken, removed_at, end_session, goodbye_taken}
 use Rattle.node_state.specs.declared.call.CallLine.{CallLine}
 use Rattle.node_state.specs.declared.call.CallLine.TheVariants as call
 use Rattle.node_state.specs.declared.happened.Happened.{Happened}
 use Rattle.node_state.specs.declared.happened.Happened.TheVariants as happened
 use Rattle.node_state.specs.declared.state.Core.{Core}
-use Rattle.node_state.specs.State.{frozen, leader_of, recorded, with_sessions}
-use Rattle.node_state.specs.Sending.{send_request_to, send_request, send_kept_to, send_kept}
-use Rattle.node_state.specs.Calls.{caller, refuse_call, changed, ask_last, proposed, record_ballot, ballot_sent_if, cast_last, give_ballot, send_gone, send_all_gone, goodbye_said, take_call}
+use Rattle.node_state.specs.State.{frozen, recorded, with_sessions}
+use Rattle.node_state.specs.Sending.{send_request, send_kept}
+use Rattle.node_state.specs.Calls.{caller, refuse_call, changed, ask_last, proposed, record_ballot, ballot_sent_if, cast_last, give_ballot, send_all_gone, goodbye_said, take_call}
 use Rattle.node_state.proofs.NameOrder.{text_self}
-use Rattle.row_laws.proofs.hearing.Changes.{Sends, sends_nothing, sends_one, sends_known, sends_fold}
+use Rattle.row_laws.proofs.hearing.Changes.{Sends}
 use Rattle.row_laws.proofs.hearing.Sessions.{casts_voted, unless_is}
-use Rattle.row_laws.proofs.failed_rows.Owners.{Owned, known_session}
+use Rattle.row_laws.proofs.failed_rows.Owners.{Owned, known_session, removed_was}
+use Rattle.row_laws.proofs.hearing.Rules.{request_sends, kept_sends, gone_sends}
+use Rattle.row_laws.proofs.failed_rows.Joining.{made_asks, changes_asks}
+use Rattle.run_safety.proofs.Tests.{has_any}
+use Rattle.row_laws.proofs.hearing.Handing.{some_is}
 
 -- ---- names differ
 
@@ -50,19 +49,6 @@ apart_added (z ∷ xs) x new k = ((λ y i e. by y (has_append y xs (x ∷ []) i)
     by y (inl i) e = k.0 y i e
     by y (inr (inl q)) e = new z (inl refl) (ap (λ (a : Session). a.name) (sym q) ∙ e)
     by y (inr (inr a)) e = a
-
-removed_was : (test : Session → Bool) (y : Session) (xs : List Session) → Has y (removed_at (place_where test xs) xs) → Has y xs
-removed_was test y [] i = i
-removed_was test y (x ∷ xs) i = by (test x) i (removed_was test y xs)
-  where
-    at : (o : Option ℕ) → (Has y (removed_at o xs) → Has y xs) → Has y (removed_at (option_map suc o) (x ∷ xs)) → Has y (x ∷ xs)
-    at None rest i = i
-    at (Some n) rest (inl e) = inl e
-    at (Some n) rest (inr j) = inr (rest j)
-
-    by : (b : Bool) → Has y (removed_at (if b then Some 0 else option_map suc (place_where test xs)) (x ∷ xs)) → (Has y (removed_at (place_where test xs) xs) → Has y xs) → Has y (x ∷ xs)
-    by true i rest = inr i
-    by false i rest = at (place_where test xs) rest i
 
 apart_removed : (test : Session → Bool) (xs : List Session) → Apart xs → Apart (removed_at (place_where test xs) xs)
 apart_removed test [] k = tt
@@ -141,40 +127,9 @@ last_has : (xs : List Request) (q : Request) (o : Option Request) → last_or o 
 last_has [] q o e = inr e
 last_has (x ∷ xs) q o e = by (last_has xs q (Some x) e)
   where
-    some_is : {a b : Request} → Some a ≡ Some b → a ≡ b
-    some_is e = cc
-
     by : Has q xs ⊎ (Some x ≡ Some q) → Has q (x ∷ xs) ⊎ (o ≡ Some q)
     by (inl i) = inl (inr i)
     by (inr z) = inl (inl (sym (some_is z)))
-
-request_sends : (c : Core) (q : Request) → Sends c (send_request c q)
-unfolding send_request send_request_to
-request_sends c q = by (frozen c)
-  where
-    to : (o : Option ℕ) → Sends c (send_request_to c q o)
-    to None = sends_one c _ _
-    to (Some n) = sends_one c _ _
-
-    by : (b : Bool) → Sends c (elim b as (λ _. Core) [ true ↦ c | false ↦ send_request_to c q (leader_of c q.group) ])
-    by true = sends_nothing c
-    by false = to (leader_of c q.group)
-
-kept_sends : (c : Core) (k : KeptBallot) → Sends c (send_kept c k)
-unfolding send_kept send_kept_to
-kept_sends c k = by k.ballot.filled
-  where
-    by : (o : Option Filled) → Sends c (send_kept_to c k (leader_of c k.group) o)
-    by None = sends_nothing c
-    by (Some b) = sends_known c _ _
-
-gone_sends : (c : Core) (xs : List Provider) → Sends c (send_all_gone c xs)
-unfolding send_all_gone send_gone
-gone_sends c xs = by (frozen c)
-  where
-    by : (b : Bool) → Sends c (elim b as (λ _. Core) [ true ↦ c | false ↦ fold send_gone c xs ])
-    by true = sends_nothing c
-    by false = sends_fold send_gone (λ t x. sends_known t _ _) xs c
 
 fit_changed : (s : Core) → s.records ≡ [] → (client : List ℕ) (r : Result SessionState GsFault) → ((u : SessionState) → r ≡ Ok u → Apart u.sessions) → Fit s → Fit (changed s client r)
 unfolding changed
@@ -236,26 +191,6 @@ module _ (s : SessionState) where
   unless_same : (o : Option GsFault) (t : SessionState) → t.sessions ≡ s.sessions → Same (unless_fault o t)
   unless_same o t same u e = ap (λ (z : SessionState). z.sessions) (unless_is o t u e) ∙ same
 
-  if_same : (b : Bool) (r : Result SessionState GsFault) → Same r → Same (if_session b r)
-  if_same true r k u e = absurd (cc)
-  if_same false r k u e = k u e
-
-  made_same : (m : MemberToken) (phases : Phases) (f : Option GsFault) (make : Provider → ℕ → Proposal) → Same (request_made s m phases f make)
-  unfolding request_made asked
-  made_same m phases f make = if_same (is_empty s.sessions) _ (by (find (is_member_of m) s.providers))
-    where
-      by : (o : Option Provider) → Same (member_asks s o phases f make)
-      by None u e = absurd (cc)
-      by (Some x) u e = unless_same (ask_fault s x f) (asked s x phases (make x)) refl u e
-
-  changes_same : (m : MemberToken) (phases : Phases) (attrs : Attrs) → Same (attributes_changed s m phases attrs)
-  unfolding attributes_changed asked
-  changes_same m phases attrs = if_same (is_empty s.sessions) _ (by (find (is_member_of m) s.providers))
-    where
-      by : (o : Option Provider) → Same (member_changes s o phases attrs)
-      by None u e = absurd (cc)
-      by (Some x) u e = unless_same _ (asked s x phases (λ r. Attributes x.p r attrs)) refl u e
-
   same_apart : (r : Result SessionState GsFault) → Apart s.sessions → Same r → (u : SessionState) → r ≡ Ok u → Apart u.sessions
   same_apart r a same u e = subst Apart (sym (same u e)) a
 
@@ -267,16 +202,7 @@ unfolding init_fault add_session
 new_apart s name u e k = by (list_any (is_named name) s.sessions) refl _ _ e
   where
     new : list_any (is_named name) s.sessions ≡ false → (y : Session) → Has y s.sessions → name ≡ y.name → ⊥
-    new none y i q = absurd (none_named s.sessions none i)
-      where
-        none_named : (xs : List Session) → list_any (is_named name) xs ≡ false → Has y xs → ⊥
-        none_named [] n j = j
-        none_named (x ∷ xs) n j = at (is_named name x) refl n j (none_named xs)
-          where
-            at : (b : Bool) → is_named name x ≡ b → (b || list_any (is_named name) xs) ≡ false → Has y (x ∷ xs) → (list_any (is_named name) xs ≡ false → Has y xs → ⊥) → ⊥
-            at true f n j rest = absurd (cc)
-            at false f n (inl z) rest = let a : is_named name x ≡ true = ap (λ (b : Session). is_named name b) (sym z) ∙ ap (λ b. is_named b y) q ∙ text_self y.name in let b : true ≡ false = sym a ∙ f in cc
-            at false f n (inr z) rest = rest n z
+    new none y i q = let a : list_any (is_named name) s.sessions ≡ true = has_any (is_named name) s.sessions y i (ap (λ b. is_named b y) q ∙ text_self y.name) in let b : true ≡ false = sym a ∙ none in cc
 
     by : (b : Bool) → list_any (is_named name) s.sessions ≡ b → (a c : Option GsFault) → unless_fault (or_fault a (or_fault (if b then Some fault.Exists else None) c)) (add_session s name) ≡ Ok u → Apart u.sessions
     by true f None c q = absurd (cc)
@@ -288,11 +214,11 @@ unfolding take_call inited joined left expelled state_changed message_sent subsc
 call_fits (call.Init node name votes) s none k = fit_changed s none name _ (λ u e. new_apart s.sessions name u e k.apart) k
 call_fits (call.Join client g instance attrs) s none k =
     fit_proposed s none client _ (same_apart s.sessions _ k.apart (unless_same s.sessions (join_fault s.sessions (client_token s.sessions client) g attrs) (join_asked s.sessions (client_token s.sessions client) g instance attrs) refl)) k
-call_fits (call.Leave client g phases) s none k = fit_proposed s none client _ (same_apart s.sessions _ k.apart (made_same s.sessions (caller s.sessions client g) phases _ _)) k
-call_fits (call.Expel client g phases out) s none k = fit_proposed s none client _ (same_apart s.sessions _ k.apart (made_same s.sessions (caller s.sessions client g) phases _ _)) k
-call_fits (call.ChangeState client g phases value) s none k = fit_proposed s none client _ (same_apart s.sessions _ k.apart (made_same s.sessions (caller s.sessions client g) phases _ _)) k
-call_fits (call.SendMessage client g phases bytes) s none k = fit_proposed s none client _ (same_apart s.sessions _ k.apart (made_same s.sessions (caller s.sessions client g) phases _ _)) k
-call_fits (call.ChangeAttributes client g phases attrs) s none k = fit_proposed s none client _ (same_apart s.sessions _ k.apart (changes_same s.sessions (caller s.sessions client g) phases attrs)) k
+call_fits (call.Leave client g phases) s none k = fit_proposed s none client _ (same_apart s.sessions _ k.apart (λ u e. (made_asks s.sessions (caller s.sessions client g) phases _ _ u e).sessions)) k
+call_fits (call.Expel client g phases out) s none k = fit_proposed s none client _ (same_apart s.sessions _ k.apart (λ u e. (made_asks s.sessions (caller s.sessions client g) phases _ _ u e).sessions)) k
+call_fits (call.ChangeState client g phases value) s none k = fit_proposed s none client _ (same_apart s.sessions _ k.apart (λ u e. (made_asks s.sessions (caller s.sessions client g) phases _ _ u e).sessions)) k
+call_fits (call.SendMessage client g phases bytes) s none k = fit_proposed s none client _ (same_apart s.sessions _ k.apart (λ u e. (made_asks s.sessions (caller s.sessions client g) phases _ _ u e).sessions)) k
+call_fits (call.ChangeAttributes client g phases attrs) s none k = fit_proposed s none client _ (same_apart s.sessions _ k.apart (λ u e. (changes_asks s.sessions (caller s.sessions client g) phases attrs u e).sessions)) k
 call_fits (call.Vote client g v value) s none k = fit_given s none client _ (same_apart s.sessions _ k.apart (λ u e. ap (λ (z : SessionState). z.sessions) (casts_voted s.sessions (caller s.sessions client g) v value u e).is)) k
 call_fits (call.Subscribe client g) s none k = fit_changed s none client _ (same_apart s.sessions _ k.apart (unless_same s.sessions _ _ refl)) k
 call_fits (call.Unsubscribe client g) s none k = fit_changed s none client _ (same_apart s.sessions _ k.apart (unless_same s.sessions _ _ refl)) k

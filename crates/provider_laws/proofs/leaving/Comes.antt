@@ -1,13 +1,9 @@
 -- Who is a provider of a node after a change was one before, or joined under a number that was not given yet.
-use Rattle.std.proofs.Common.{◌≡◌, ◌≤◌, ◌<◌, ◌⊎◌, ℕ, ◌+◌, List, [], ◌∷◌, Option, Some, None, Bool, true, false, refl, sym, ap, ◌∙◌, subst, inl, inr, arith}
-use Rattle.std.specs.Prelude.{◌&&◌, not, find, fold, is_none}
-use Rattle.std.specs.Str.{bytes_eq}
-use Rattle.rsct_packet.specs.declared.ids.ViewId.{ViewId}
+use Rattle.std.proofs.Common.{◌≡◌, ◌≤◌, ◌<◌, ◌⊎◌, ℕ, ◌+◌, List, [], ◌∷◌, Option, Some, None, false, refl, sym, ap, ◌∙◌, subst, inl, inr, arith}
+use Rattle.std.specs.Prelude.{find, is_none}
 use Rattle.rsct_packet.specs.declared.ids.ProviderId.{ProviderId}
 use Rattle.rsct_packet.specs.Search.{Has}
 use Rattle.rsct_packet.proofs.HasLaws.{has_append, find_has, find_none}
-use Rattle.proposal_core.specs.Fold.{present}
-use Rattle.proposal_core.specs.Lists.{state_in}
 use Rattle.client_callbacks.specs.declared.told.Why.TheVariants.{Dissolved}
 use Rattle.client_callbacks.specs.declared.ballot.Filled.{Filled}
 use Rattle.group_attr.specs.declared.attrs.Attrs.{Attrs}
@@ -15,20 +11,20 @@ use Rattle.proposal_core.specs.declared.entry.Entry.{Entry}
 use Rattle.subscribe_core.specs.declared.subs.ClientToken.{ClientToken}
 use Rattle.session_state.specs.declared.state.Provider.{Provider}
 use Rattle.session_state.specs.declared.state.SessionState.{SessionState}
-use Rattle.session_state.specs.State.{provider_of, is_provider, outstanding}
+use Rattle.session_state.specs.State.{provider_of, is_provider}
 use Rattle.session_state.specs.Calls.{join_asked, keeps, new_provider}
 use Rattle.session_state.specs.HandOn.{handed_on, take_telling}
 use Rattle.view_state.specs.declared.install.Install.{Install}
 use Rattle.view_state.specs.declared.install.Base.{Base}
-use Rattle.view_state.specs.Bases.{bases_of, base_named}
-use Rattle.node_state.specs.declared.group.GroupRow.{GroupRow}
+use Rattle.view_state.specs.Bases.{bases_of}
 use Rattle.node_state.specs.declared.state.Core.{Core}
 use Rattle.node_state.specs.State.{state_of, len_of, held_rows, with_row, recorded, recorded_all, with_sessions}
 use Rattle.node_state.specs.Leading.{put}
-use Rattle.node_state.specs.Applying.{level_set, view_entered, is_in_base, number_of, dissolved, dissolved_if, group_dissolved, sides_dissolved}
+use Rattle.node_state.specs.Applying.{level_set, view_entered, dissolved}
 use Rattle.step_refinement.proofs.SessionLaws.{provider_self, provider_same, handed_later}
 use Rattle.row_laws.specs.hearing.Changes.{Same, Fewer, handing, entering, Does, Stays, Then, Records, Hands, Loses, Joins, Votes, Enters}
 use Rattle.row_laws.proofs.failed_rows.Living.{IsLive, Slimmer, told_slim, handed_slim}
+use Rattle.provider_laws.proofs.attending.Sides.{sides_keep}
 use Rattle.provider_laws.proofs.leaving.Left.{live_slim, told_kept}
 
 pub record Comes (s t : SessionState) : Type 0 where
@@ -48,12 +44,8 @@ comes_then s t u a b = record { last = (let x = a.last in let y = b.last in omeg
     by p (inl l) = a.back p l
     by p (inr k) = inr (let x = a.last in omega (arith, x, k))
 
-comes_fold : {A : Type 0} (f : Core → A → Core) → ((c : Core) (x : A) → Comes c.sessions (f c x).sessions) → (xs : List A) (c : Core) → Comes c.sessions (fold f c xs).sessions
-comes_fold f one [] c = comes_same c.sessions c.sessions refl refl
-comes_fold f one (x ∷ xs) c = comes_then c.sessions (f c x).sessions (fold f (f c x) xs).sessions (one c x) (comes_fold f one xs (f c x))
-
 -- who is a provider is found
-live_found : (t : SessionState) (p : ProviderId) → IsLive t p → (x : Provider) × (provider_of t p ≡ Some x)
+pub live_found : (t : SessionState) (p : ProviderId) → IsLive t p → (x : Provider) × (provider_of t p ≡ Some x)
 unfolding provider_of
 live_found t p k = by (find (is_provider p) t.providers) refl
   where
@@ -61,16 +53,12 @@ live_found t p k = by (find (is_provider p) t.providers) refl
     by (Some x) e = (x, e)
     by None e = absurd (find_none (is_provider p) t.providers k.0 (ap is_none e) k.1 (ap (λ z. is_provider p (record (k.0) { p = z })) k.2 ∙ provider_self p))
 
-found_live : (t : SessionState) (p : ProviderId) (x : Provider) → provider_of t p ≡ Some x → x.p ≡ p → IsLive t p
+pub found_live : (t : SessionState) (p : ProviderId) (x : Provider) → provider_of t p ≡ Some x → IsLive t p
 unfolding provider_of
-found_live t p x e q = (x, (find_has (is_provider p) t.providers x e).0, q)
+found_live t p x e = let k = find_has (is_provider p) t.providers x e in (x, k.0, provider_same x.p p k.1)
 
 comes_fewer : (s t : SessionState) → Fewer s t → Comes s t
-unfolding provider_of
-comes_fewer s t f = record { last = f.last; back = λ p l. inl (let z = live_found t p l in let e = f.providers p z.0 z.1 in found_live s p z.0 e (is s p z.0 e)) }
-  where
-    is : (s : SessionState) (p : ProviderId) (x : Provider) → find (is_provider p) s.providers ≡ Some x → x.p ≡ p
-    is s p x e = provider_same x.p p (find_has (is_provider p) s.providers x e).1
+comes_fewer s t f = record { last = f.last; back = λ p l. inl (let z = live_found t p l in found_live s p z.0 (f.providers p z.0 z.1)) }
 
 comes_joined : (s : SessionState) (t : ClientToken) (g : List ℕ) (instance : ℕ) (attrs : Attrs) → Comes s (join_asked s t g instance attrs)
 unfolding join_asked
@@ -84,25 +72,16 @@ comes_joined s t g instance attrs = record { last = omega arith; back = λ p l. 
     by p y e (inr (inl q)) = inr (let z : p.join ≡ s.last_request + 1 = ap (λ (a : ProviderId). a.join) (sym e) ∙ ap (λ (a : Provider). a.p.join) q in omega (arith, z))
     by p y e (inr (inr z)) = absurd z
 
-comes_dissolved : (c : Core) (g : List ℕ) (old : ViewId) (b : Option Base) (o : Option Provider) → Comes c.sessions (dissolved_if c g old b o).sessions
-unfolding dissolved_if dissolved recorded with_sessions
-comes_dissolved c g old b None = comes_same c.sessions c.sessions refl refl
-comes_dissolved c g old b (Some x) = by (x.takes_part && bytes_eq x.group g && not (is_in_base old x.p b))
-  where
-    r : ℕ
-    r = number_of (outstanding c.sessions x.p)
-
-    by : (t : Bool) → Comes c.sessions (elim t as (λ _. Core) [ true ↦ dissolved c x.p r | false ↦ c ]).sessions
-    by true = comes_slim c.sessions (take_telling c.sessions x.p r Dissolved) (told_slim c.sessions x.p r Dissolved) (told_kept c.sessions x.p r Dissolved).0
-    by false = comes_same c.sessions c.sessions refl refl
-
 comes_enters : (s : Core) (i : Install) → Comes s.sessions (entering s i).sessions
-unfolding sides_dissolved group_dissolved view_entered recorded_all level_set
-comes_enters s i =
-    comes_then s.sessions (view_entered s i bs).sessions (entering s i).sessions (comes_same s.sessions (view_entered s i bs).sessions refl refl) (comes_fold (group_dissolved s.views.view bs) (λ c (row : GroupRow). comes_fold (λ (u : Core) q. dissolved_if u row.name s.views.view (base_named bs row.name) (provider_of u.sessions q)) (λ u q. comes_dissolved u row.name s.views.view (base_named bs row.name) (provider_of u.sessions q)) (present (state_in row.list)) c) (held_rows s) (view_entered s i bs))
+unfolding view_entered recorded_all level_set dissolved recorded with_sessions
+comes_enters s i = sides_keep (λ d. Comes s.sessions d.sessions) tells (held_rows s) s.views.view bs (view_entered s i bs) (comes_same s.sessions (view_entered s i bs).sessions refl refl)
   where
     bs : List Base
     bs = bases_of i
+
+    tells : (d : Core) (p : ProviderId) (r : ℕ) → Comes s.sessions d.sessions → Comes s.sessions (dissolved d p r).sessions
+    tells d p r k =
+        comes_then s.sessions d.sessions (dissolved d p r).sessions k (comes_slim d.sessions (take_telling d.sessions p r Dissolved) (told_slim d.sessions p r Dissolved) (told_kept d.sessions p r Dissolved).0)
 
 comes_hands : (s c : Core) (h : List ℕ) (e : Entry) (bs : List (Option Filled)) → Same (put s h e) c → Comes s.sessions (handing c h (len_of s h) (state_of s h) (state_of (put s h e) h) e bs).sessions
 unfolding put recorded recorded_all with_sessions with_row

@@ -28,39 +28,15 @@ pub any_none : {A : Type 0} (test : A → Bool) (xs : List A) → ((x : A) → H
 any_none test [] all = refl
 any_none test (x ∷ xs) all = λ i. all x (inl refl) i || any_none test xs (λ y j. all y (inr j)) i
 
-pub any_one : {A : Type 0} (test : A → Bool) (x : A) (xs : List A) → Has x xs → test x ≡ true → list_any test xs ≡ true
-any_one test x [] i e = absurd i
-any_one test x (y ∷ xs) (inl q) e = ap (λ b. b || list_any test xs) (ap test (sym q) ∙ e)
-any_one test x (y ∷ xs) (inr i) e = either (test y) (any_one test x xs i e)
-  where
-    either : (b : Bool) → list_any test xs ≡ true → (b || list_any test xs) ≡ true
-    either true k = refl
-    either false k = k
-
 -- ---- whom an event lets go
 
 pub same_dissolved : (y : Why) → is_dissolved y ≡ true → session.is_dissolved y ≡ true
-same_dissolved (why.Collide a) e = absurd (cc)
-same_dissolved why.DuplicateInstance e = absurd (cc)
-same_dissolved (why.NoSource a) e = absurd (cc)
-same_dissolved why.BadAttributes e = absurd (cc)
-same_dissolved why.NotAMember e = absurd (cc)
-same_dissolved (why.ListFull a b) e = absurd (cc)
-same_dissolved (why.GroupFull a) e = absurd (cc)
-same_dissolved (why.GroupsFull a) e = absurd (cc)
 same_dissolved why.Dissolved e = refl
+same_dissolved _ e = absurd (cc)
 
 -- a record of a step ends nobody who is not known, or who is still there
 pub says_spares : (a t : SessionState) (p : ProviderId) (inc : ℕ) (r : Happened) → (Known a p → IsLive t p) → Says a t r → ends p inc r ≡ false
-says_spares a t p inc (happened.Up n j) k s = refl
 says_spares a t p inc (happened.Down n) k s = absurd s
-says_spares a t p inc (happened.Ring n j i ms b) k s = refl
-says_spares a t p inc (happened.In n v ms) k s = refl
-says_spares a t p inc (happened.Base n v g old len st) k s = refl
-says_spares a t p inc (happened.Put n v g i e) k s = refl
-says_spares a t p inc (happened.Heard q v g i e ms value) k s = refl
-says_spares a t p inc (happened.Cast q proto phase vote value message) k s = refl
-says_spares a t p inc (happened.Asked q r g x) k s = refl
 says_spares a t p inc (happened.Told q r y) k s = by (same_provider q p) (is_dissolved y) refl refl
   where
     by : (b c : Bool) → same_provider q p ≡ b → is_dissolved y ≡ c → (b && c) ≡ false
@@ -69,9 +45,7 @@ says_spares a t p inc (happened.Told q r y) k s = by (same_provider q p) (is_dis
     by true true e d =
         let same : q ≡ p = provider_same q p e in
         absurd (s.1 (same_dissolved y d) (subst (IsLive t) (sym same) (k (subst (Known a) same s.0))))
-says_spares a t p inc (happened.Noted n c v i told) k s = refl
-says_spares a t p inc (happened.Refused n c fault) k s = refl
-says_spares a t p inc (happened.Shown n line) k s = refl
+says_spares a t p inc _ k s = refl
 
 -- one of no step ends nobody, unless this node stops
 pub idle_ends : (p : ProviderId) (inc : ℕ) (r : Happened) → Idle r → ((m : ℕ) → r ≡ happened.Down m → (m == p.node && inc == p.inc) ≡ false) → ends p inc r ≡ false
@@ -90,23 +64,7 @@ goodbye_is n o (event.Call m (call.Goodbye c)) e = (m, c, refl, eqb-true m n (fi
     second : (a b : Bool) → (a && b) ≡ true → b ≡ true
     second true b e = e
     second false b e = absurd (cc)
-goodbye_is n o (event.Call m (call.Init node name votes)) e = absurd (cc)
-goodbye_is n o (event.Call m (call.Join client g instance attrs)) e = absurd (cc)
-goodbye_is n o (event.Call m (call.Leave client g phases)) e = absurd (cc)
-goodbye_is n o (event.Call m (call.Expel client g phases out)) e = absurd (cc)
-goodbye_is n o (event.Call m (call.ChangeState client g phases value)) e = absurd (cc)
-goodbye_is n o (event.Call m (call.SendMessage client g phases bytes)) e = absurd (cc)
-goodbye_is n o (event.Call m (call.ChangeAttributes client g phases attrs)) e = absurd (cc)
-goodbye_is n o (event.Call m (call.Vote client g b value)) e = absurd (cc)
-goodbye_is n o (event.Call m (call.Subscribe client g)) e = absurd (cc)
-goodbye_is n o (event.Call m (call.Unsubscribe client g)) e = absurd (cc)
-goodbye_is n o (event.Start m) e = absurd (cc)
-goodbye_is n o (event.Stop m) e = absurd (cc)
-goodbye_is n o (event.Tick m) e = absurd (cc)
-goodbye_is n o (event.Ask m mask) e = absurd (cc)
-goodbye_is n o (event.Show m what) e = absurd (cc)
-goodbye_is n o (event.Deliver m k i) e = absurd (cc)
-goodbye_is n o (event.Garbage m bytes) e = absurd (cc)
+goodbye_is n o _ e = absurd (cc)
 
 -- whoever is not let go
 pub spared : (p : ProviderId) (v : Event) (rs : List Happened) (h : History) → ((r : Happened) → Has r rs → ends p (inc_now p.node (records_of h)) r ≡ false) → ((m : ℕ) (c : List ℕ) → v ≡ event.Call m (call.Goodbye c) → m ≡ p.node → is_named c (client_of p h) ≡ true → list_any is_refused rs ≡ false → ⊥) → was_let_go p h ≡ false → was_let_go p (record { event = Some v; records = rs } ∷ h) ≡ false

@@ -94,18 +94,7 @@ module _ (w : Scene) (rests : (g : List ℕ) → Rests g w) (p : ProviderId) whe
       by false b e d = refl
       by true false e d = refl
       by true true e d = absurd (unasked_of un q r g x i (provider_same q p e) (eqb-true r p.join d))
-  unasked un (happened.Up n j) i = refl
-  unasked un (happened.Down n) i = refl
-  unasked un (happened.Ring n j m ms b) i = refl
-  unasked un (happened.In n v ms) i = refl
-  unasked un (happened.Base n v g old len st) i = refl
-  unasked un (happened.Put n v g m e) i = refl
-  unasked un (happened.Heard q v g m e ms value) i = refl
-  unasked un (happened.Cast q proto phase vote value message) i = refl
-  unasked un (happened.Told q r y) i = refl
-  unasked un (happened.Noted n c v m told) i = refl
-  unasked un (happened.Refused n c fault) i = refl
-  unasked un (happened.Shown n line) i = refl
+  unasked un _ i = refl
 
   pub unused_client : Unused w p → client_of p w.before ≡ None
   unused_client un = client_none p w.before (unasked un)

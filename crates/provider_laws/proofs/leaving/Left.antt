@@ -121,17 +121,9 @@ Says a t _ = Unit {0}
 says_on : (a t u : SessionState) (r : Happened) → Slimmer t u → Says a t r → Says a u r
 says_on a t u (happened.Up n j) s k = k
 says_on a t u (happened.Down n) s k = k
-says_on a t u (happened.Ring n j i ms b) s k = tt
-says_on a t u (happened.In n v ms) s k = tt
-says_on a t u (happened.Base n v g old len st) s k = tt
-says_on a t u (happened.Put n v g i e) s k = tt
 says_on a t u (happened.Heard p v g i e ms value) s k = k
-says_on a t u (happened.Cast p proto phase vote value message) s k = tt
-says_on a t u (happened.Asked p r g x) s k = tt
 says_on a t u (happened.Told p r y) s k = (k.0, λ d l. k.1 d (live_slim t u p s l))
-says_on a t u (happened.Noted n c v i told) s k = tt
-says_on a t u (happened.Refused n c fault) s k = tt
-says_on a t u (happened.Shown n line) s k = tt
+says_on a t u _ s k = tt
 
 -- ---- a step
 

@@ -1,5 +1,5 @@
 -- A step lets go whom it should, and who hears was not let go.
-use Rattle.std.proofs.Common.{◌≡◌, ◌≢◌, ◌≤◌, ◌<◌, ◌⊎◌, ℕ, List, [], ◌∷◌, Option, Some, None, Bool, true, false, refl, sym, ap, ◌∙◌, subst, inl, inr, arith, append-nil}
+use Rattle.std.proofs.Common.{◌≡◌, ◌≢◌, ◌≤◌, ◌<◌, ◌⊎◌, ℕ, List, [], ◌∷◌, Option, Some, None, Bool, true, false, refl, sym, ap, ◌∙◌, subst, inl, inr, arith}
 use Rattle.std.specs.Prelude.{◌==◌, ◌&&◌, reverse, if◌then◌else◌}
 use Rattle.std.specs.List.{list_any}
 use Rattle.rsct_packet.specs.declared.ids.ProviderId.{ProviderId}
@@ -17,7 +17,7 @@ use Rattle.node_state.specs.declared.happened.Happened.TheVariants as happened
 use Rattle.node_state.specs.declared.state.Core.{Core}
 use Rattle.node_state.specs.HandOn.{Answering}
 use Rattle.node_state.specs.Calls.{take_call}
-use Rattle.node_state.specs.Step.{NodeEvent, Ticks, Asks, Given, Calls, Garbage, at_work, stepped}
+use Rattle.node_state.specs.Step.{NodeEvent, Calls, at_work, stepped}
 use Rattle.world_model.specs.declared.event.Event.{Event}
 use Rattle.world_model.specs.declared.event.Event.TheVariants as event
 use Rattle.run_safety.specs.Past.{History, Within, records_of, inc_now}
@@ -32,7 +32,6 @@ use Rattle.step_refinement.proofs.Calls.{call_is_tied}
 use Rattle.step_refinement.proofs.Changed.{each_set, set_here}
 use Rattle.step_refinement.proofs.RunLaw.{reached_rests}
 use Rattle.step_refinement.proofs.SessionLaws.{provider_same}
-use Rattle.step_refinement.proofs.Turns.{has_turned}
 use Rattle.row_laws.proofs.hearing.Rules.{call_onward}
 use Rattle.row_laws.specs.failed_rows.Scenes.{Names}
 use Rattle.row_laws.proofs.failed_rows.Joining.{call_now}
@@ -43,62 +42,31 @@ use Rattle.provider_laws.specs.leaving.Scenes.{IsCall}
 use Rattle.provider_laws.proofs.leaving.Left.{Known, Left, Says, left_stepped, live_slim}
 use Rattle.provider_laws.proofs.leaving.Calling.{Apart, Fit, CallSays, call_fits, goodbye_ends}
 use Rattle.provider_laws.proofs.leaving.Comes.{Comes, comes_does, comes_same}
-use Rattle.provider_laws.proofs.leaving.Events.{any_none, any_one, says_spares, spared}
+use Rattle.provider_laws.proofs.leaving.Events.{any_none, says_spares, spared}
 use Rattle.provider_laws.proofs.leaving.Keeping.{Late, Unused, Kept, KeptIf, Clean, kept_on, unused_client}
+use Rattle.run_safety.proofs.Tests.{has_any}
 
 -- ---- records
 
 call_spares : (a : SessionState) (p : ProviderId) (inc : ℕ) (r : Happened) → CallSays a r → ends p inc r ≡ false
-call_spares a p inc (happened.Up n j) s = refl
 call_spares a p inc (happened.Down n) s = absurd s
-call_spares a p inc (happened.Ring n j i ms b) s = refl
-call_spares a p inc (happened.In n v ms) s = refl
-call_spares a p inc (happened.Base n v g old len st) s = refl
-call_spares a p inc (happened.Put n v g i e) s = refl
-call_spares a p inc (happened.Heard q v g i e ms value) s = refl
-call_spares a p inc (happened.Cast q proto phase vote value message) s = refl
-call_spares a p inc (happened.Asked q r g x) s = refl
 call_spares a p inc (happened.Told q r y) s = absurd s
-call_spares a p inc (happened.Noted n c v i told) s = refl
-call_spares a p inc (happened.Refused n c fault) s = refl
-call_spares a p inc (happened.Shown n line) s = refl
+call_spares a p inc _ s = refl
 
 -- who asks has something outstanding
 call_asks : (a : SessionState) (p : ProviderId) (r : Happened) → (Known a p → ⊥) → CallSays a r → asks_join p r ≡ false
-call_asks a p (happened.Up n j) k s = refl
-call_asks a p (happened.Down n) k s = refl
-call_asks a p (happened.Ring n j i ms b) k s = refl
-call_asks a p (happened.In n v ms) k s = refl
-call_asks a p (happened.Base n v g old len st) k s = refl
-call_asks a p (happened.Put n v g i e) k s = refl
-call_asks a p (happened.Heard q v g i e ms value) k s = refl
-call_asks a p (happened.Cast q proto phase vote value message) k s = refl
 call_asks a p (happened.Asked q r g x) k s = by (same_provider q p) refl
   where
     by : (b : Bool) → same_provider q p ≡ b → (b && (r == p.join)) ≡ false
     by false e = refl
     by true e = absurd (k (inl (s.0, s.1, s.2 ∙ provider_same q p e)))
-call_asks a p (happened.Told q r y) k s = refl
-call_asks a p (happened.Noted n c v i told) k s = refl
-call_asks a p (happened.Refused n c fault) k s = refl
-call_asks a p (happened.Shown n line) k s = refl
+call_asks a p _ k s = refl
 
 -- who hears was there
 heard_law : (a t : SessionState) (now : List Happened) (h : History) (r : Happened) → ((p : ProviderId) → IsLive a p → was_let_go p h ≡ false) → CallSays a r ⊎ Says a t r → NotLetGo now h r
-heard_law a t now h (happened.Up n j) k s = tt
-heard_law a t now h (happened.Down n) k s = tt
-heard_law a t now h (happened.Ring n j i ms b) k s = tt
-heard_law a t now h (happened.In n v ms) k s = tt
-heard_law a t now h (happened.Base n v g old len st) k s = tt
-heard_law a t now h (happened.Put n v g i e) k s = tt
 heard_law a t now h (happened.Heard p v g i e ms value) k (inl z) = absurd z
 heard_law a t now h (happened.Heard p v g i e ms value) k (inr l) = k p l
-heard_law a t now h (happened.Cast p proto phase vote value message) k s = tt
-heard_law a t now h (happened.Asked p r g x) k s = tt
-heard_law a t now h (happened.Told p r y) k s = tt
-heard_law a t now h (happened.Noted n c v i told) k s = tt
-heard_law a t now h (happened.Refused n c fault) k s = tt
-heard_law a t now h (happened.Shown n line) k s = tt
+heard_law a t now h _ k s = tt
 
 pub within_all : (P : List Happened → History → Happened → Type 0) (rs : List Happened) (h : History) → ((now : List Happened) (r : Happened) → Has r rs → P now h r) → Within P rs h
 within_all P [] h all = tt
@@ -126,25 +94,16 @@ module _ (c : Config) (w : Scene) (n : ℕ) (f : Answering) (s : Core) (e : Node
   begun = record { says = λ r i. absurd i; apart = were.apart }
 
   fit_of : (e : NodeEvent) → Fit (root_of (at_work s) e)
-  fit_of Ticks = begun
-  fit_of (Asks mask) = begun
-  fit_of (Given p) = begun
   fit_of (Calls d) = call_fits d (at_work s) refl begun
-  fit_of Garbage = begun
+  fit_of _ = begun
 
   tied_of : (e : NodeEvent) → Tied [] w n (root_of (at_work s) e)
-  tied_of Ticks = begin_tied [] w n s up (rests [])
-  tied_of (Asks mask) = begin_tied [] w n s up (rests [])
-  tied_of (Given p) = begin_tied [] w n s up (rests [])
   tied_of (Calls d) = call_is_tied d [] w n (at_work s) (begin_tied [] w n s up (rests []))
-  tied_of Garbage = begin_tied [] w n s up (rests [])
+  tied_of _ = begin_tied [] w n s up (rests [])
 
   comes_of : (e : NodeEvent) → Comes s.sessions (root_of (at_work s) e).sessions
-  comes_of Ticks = comes_same s.sessions s.sessions refl refl
-  comes_of (Asks mask) = comes_same s.sessions s.sessions refl refl
-  comes_of (Given p) = comes_same s.sessions s.sessions refl refl
   comes_of (Calls d) = comes_does (at_work s) (take_call (at_work s) d) (call_onward (at_work s) d ((rests []).turns n s up).owner refl here.0.order).does
-  comes_of Garbage = comes_same s.sessions s.sessions refl refl
+  comes_of _ = comes_same s.sessions s.sessions refl refl
 
   fit : Fit root
   fit = fit_of e
@@ -189,12 +148,9 @@ module _ (c : Config) (w : Scene) (n : ℕ) (f : Answering) (s : Core) (e : Node
   none_asks p un = left.slim.asks p ∙ any_none (asks_join p) (reverse root.records) (λ r i. call_asks root.sessions p r un (fit.says r (has_reverse r root.records i)))
 
   rooted : (e : NodeEvent) → Names n e v → Owned (λ p. if list_any (asks_join p) (reverse (root_of (at_work s) e).records) then joining_client (Some v) else client_of p w.before) (root_of (at_work s) e).sessions
-  rooted Ticks says = were.owners
-  rooted (Asks mask) says = were.owners
-  rooted (Given p) says = were.owners
-  rooted Garbage says = were.owners
   rooted (Calls c) says =
       subst (λ (z : Event). Owned (λ p. if list_any (asks_join p) (reverse (take_call (at_work s) c).records) then joining_client (Some z) else client_of p w.before) (take_call (at_work s) c).sessions) (sym (says c refl)) (call_now (λ p. client_of p w.before) c (at_work s) refl ((rests []).turns n s up).numbered were.owners)
+  rooted _ says = were.owners
 
   owners : Owned (λ p. client_of p (over v t ∷ w.before)) t.sessions
   owners =
@@ -212,7 +168,7 @@ module _ (c : Config) (w : Scene) (n : ℕ) (f : Answering) (s : Core) (e : Node
       name false z = sym (text_same d (o.0).name (ap (is_named d) (sym z) ∙ named))
 
       by : ((f : GsFault) × Has (happened.Refused s.views.me d f) root.records) ⊎ ((y : Session) → Has y root.sessions.sessions → y.name ≡ d → ⊥) → ⊥
-      by (inl r) = let z : false ≡ true = sym taken ∙ any_one is_refused (happened.Refused s.views.me d r.0) (reverse t.records) (reverse_has (happened.Refused s.views.me d r.0) t.records (left.grown (happened.Refused s.views.me d r.0) r.1)) refl in cc
+      by (inl r) = let z : false ≡ true = sym taken ∙ has_any is_refused (reverse t.records) (happened.Refused s.views.me d r.0) (reverse_has (happened.Refused s.views.me d r.0) t.records (left.grown (happened.Refused s.views.me d r.0) r.1)) refl in cc
       by (inr un) = un o.0 (subst (Has o.0) left.slim.sessions.names o.1) (name (list_any (asks_join x.p) (reverse t.records)) o.3)
 
   own : Kept (over v t ∷ w.before) t

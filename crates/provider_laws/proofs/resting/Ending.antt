@@ -1,15 +1,15 @@
 -- After the end of a step the node rests, where it is not frozen; and a node that rests stays as it is at the end of a step.
-use Rattle.std.proofs.Common.{◌≡◌, ◌≤◌, ◌<◌, ◌⊎◌, ℕ, zero, suc, List, [], ◌∷◌, length, fold, Bool, true, false, refl, sym, ap, ◌∙◌, subst, inl, inr, arith}
+use Rattle.std.proofs.Common.{◌≡◌, ◌≤◌, ◌<◌, ◌⊎◌, ℕ, List, [], ◌∷◌, length, fold, Bool, true, false, refl, sym, ap, subst, inl, inr, arith}
 use Rattle.rsct_packet.specs.Search.{Has}
 use Rattle.view_state.specs.Views.{is_frozen}
 use Rattle.node_state.specs.declared.group.GroupRow.{GroupRow}
 use Rattle.node_state.specs.declared.state.Core.{Core}
 use Rattle.node_state.specs.State.{frozen, led_groups}
 use Rattle.node_state.specs.HandOn.{Answering}
-use Rattle.node_state.specs.Ending.{Pass, quiet, group_begins, one_pass, passes, most_begun, end_step}
+use Rattle.node_state.specs.Ending.{quiet, group_begins, one_pass, passes, most_begun, end_step}
 use Rattle.provider_laws.proofs.resting.Orderly.{Orderly}
 use Rattle.provider_laws.proofs.resting.Onward.{led_few}
-use Rattle.provider_laws.proofs.resting.Passing.{AllRest, room, room_most, passes_rest, passes_onward, passes_settle}
+use Rattle.provider_laws.proofs.resting.Passing.{AllRest, room, room_most, passes_rest, passes_onward, passes_settle, passes_same}
 
 rows_or_none : (rows : List GroupRow) → (length rows ≤ 0) ⊎ (1 ≤ length rows)
 rows_or_none [] = inl (omega arith)
@@ -21,19 +21,8 @@ none_led (g ∷ gs) k = absurd (omega (arith, k))
 
 -- where no group is led, nothing changes
 passes_none : (n most : ℕ) (f : Answering) (s : Core) → led_groups s ≡ [] → passes n most f s ≡ s
-unfolding passes one_pass
-passes_none zero most f s none = refl
-passes_none (suc n) most f s none = by p.began (passes_none n most f p.core (ap led_groups same ∙ none))
-  where
-    p : Pass
-    p = one_pass most f s
-
-    same : p.core ≡ s
-    same = ap (λ gs. (fold (λ q g. group_begins most f g q) (quiet s) gs).core) none
-
-    by : (b : Bool) → passes n most f p.core ≡ p.core → (elim b as (λ _. Core) [ true ↦ passes n most f p.core | false ↦ p.core ]) ≡ s
-    by true r = r ∙ same
-    by false r = same
+unfolding one_pass
+passes_none n most f s none = passes_same n most f s (ap (λ gs. (fold (λ q g. group_begins most f g q) (quiet s) gs).core) none)
 
 led_none : (s : Core) → length s.groups ≤ 0 → led_groups s ≡ []
 led_none s k = none_led (led_groups s) (let m = led_few s in omega (arith, k, m))

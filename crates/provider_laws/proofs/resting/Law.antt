@@ -42,7 +42,7 @@ pub record Resting (s : Core) : Type 0 where
   pub rests : frozen s ≡ false → AllRest s
 
 -- a state of the same groups, view and config
-resting_same : (s t : Core) → t.groups ≡ s.groups → t.views ≡ s.views → t.config ≡ s.config → Resting s → Resting t
+pub resting_same : (s t : Core) → t.groups ≡ s.groups → t.views ≡ s.views → t.config ≡ s.config → Resting s → Resting t
 unfolding frozen row_of led_of
 resting_same s t groups views config k =
     record { orderly = alike s t groups k.orderly; rests = λ thawed g i. rest_same g (k.rests (ap is_frozen (sym views) ∙ thawed) g (subst (Has g) (led_same s t (ap bones_of groups) views config) i)) }
@@ -51,7 +51,7 @@ resting_same s t groups views config k =
     rest_same g r = rest_on s t g (λ h. ap (λ (rows : List GroupRow). (row_found h (find (has_name h) rows)).list) groups) (ap (λ (rows : List GroupRow). (row_found g (find (has_name g) rows)).led.waiting) groups) r
 
 -- a step leaves it so
-stepped_rests : (f : Answering) (s : Core) (e : NodeEvent) → Orderly s → Resting (stepped f s e)
+pub stepped_rests : (f : Answering) (s : Core) (e : NodeEvent) → Orderly s → Resting (stepped f s e)
 stepped_rests f s e k = subst Resting (sym (stepped_is f s e)) (record { orderly = ended_orderly f u o; rests = λ thawed. ended_rests f u o (sym (ended_frozen f u o) ∙ thawed) })
   where
     a : Core
@@ -78,9 +78,9 @@ goodbye_quiet f s client k r i = parts.none r (subst (λ (c : Core). Has r c.rec
 
 -- ---- every scene
 
-fresh : (c : Config) (n j : ℕ) → Resting (started c n j)
+pub started_rests : (c : Config) (n j : ℕ) → Resting (started c n j)
 unfolding started with_sessions led_groups
-fresh c n j = record { orderly = record { order = tt; few = λ row i. absurd i }; rests = λ thawed g i. absurd i }
+started_rests c n j = record { orderly = record { order = tt; few = λ row i. absurd i }; rests = λ thawed g i. absurd i }
 
 -- nothing is said of what was sent
 abbrev restful : UpClaim
@@ -92,7 +92,7 @@ rest_law c =
       none = tt;
       sent_on = λ e h x k. tt;
       stays = λ w e t o m s up all k. k;
-      comes = λ w e t o m came down. fresh c m (w.incs m + 1);
+      comes = λ w e t o m came down. started_rests c m (w.incs m + 1);
       lines_on = λ w e t o k. tt;
       steps = λ w n f s e v r next up arises told h k. record { sends = λ x i. tt; node = stepped_rests f s e k.orderly; others = λ m ne d is a. a; lines = tt };
     }

@@ -200,20 +200,22 @@ module _ (most : ℕ) (f : Answering) (plenty : 128 < most) where
 abbrev pub AllRest : Core → Type 0
 AllRest s = (g : List ℕ) → Has g (led_groups s) → Rest s g
 
-pub passes_rest : (n most : ℕ) (f : Answering) (s : Core) → 128 < most → AllRest s → passes n most f s ≡ s
-unfolding passes one_pass
-passes_rest zero most f s plenty all = refl
-passes_rest (suc n) most f s plenty all = by p.began (passes_rest n most f p.core plenty (subst AllRest (sym same) all))
+-- where one pass changes nothing, none does
+pub passes_same : (n most : ℕ) (f : Answering) (s : Core) → (one_pass most f s).core ≡ s → passes n most f s ≡ s
+unfolding passes
+passes_same zero most f s same = refl
+passes_same (suc n) most f s same = by p.began (passes_same n most f p.core (subst (λ c. (one_pass most f c).core ≡ c) (sym same) same))
   where
     p : Pass
     p = one_pass most f s
 
-    same : p.core ≡ s
-    same = through_rests most f plenty (led_groups s) (quiet s) all
-
     by : (b : Bool) → passes n most f p.core ≡ p.core → (elim b as (λ _. Core) [ true ↦ passes n most f p.core | false ↦ p.core ]) ≡ s
     by true r = r ∙ same
     by false r = same
+
+pub passes_rest : (n most : ℕ) (f : Answering) (s : Core) → 128 < most → AllRest s → passes n most f s ≡ s
+unfolding one_pass
+passes_rest n most f s plenty all = passes_same n most f s (through_rests most f plenty (led_groups s) (quiet s) all)
 
 pub passes_onward : (n most : ℕ) (f : Answering) (s : Core) → 128 < most → Orderly s → Onward s (passes n most f s)
 unfolding passes one_pass

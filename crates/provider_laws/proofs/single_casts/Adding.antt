@@ -1,26 +1,20 @@
 -- What a node records as long as it stays in its view, and as it enters another.
-use Rattle.std.proofs.Common.{◌≡◌, ◌⊎◌, ℕ, List, [], ◌∷◌, ◌++◌, Option, Some, None, Bool, true, false, refl, sym, ap, ◌∙◌, subst, inl, inr, ⊎_elim}
-use Rattle.std.specs.Prelude.{not, ◌&&◌, fold, flat_map, map}
-use Rattle.std.specs.Str.{bytes_eq}
+use Rattle.std.proofs.Common.{◌≡◌, ◌⊎◌, ℕ, List, [], ◌∷◌, ◌++◌, Option, Some, None, refl, sym, ap, ◌∙◌, subst, inl, inr, ⊎_elim}
+use Rattle.std.specs.Prelude.{flat_map, map}
 use Rattle.rsct_packet.specs.declared.ids.ViewId.{ViewId}
 use Rattle.rsct_packet.specs.declared.ids.ProviderId.{ProviderId}
 use Rattle.rsct_packet.specs.declared.ids.ProtoId.{ProtoId}
 use Rattle.rsct_packet.specs.Search.{Has}
-use Rattle.rsct_packet.proofs.HasLaws.{has_append, append_has_left, append_has_right, has_map}
+use Rattle.rsct_packet.proofs.HasLaws.{has_append, has_map}
 use Rattle.proposal_core.specs.declared.entry.Entry.{Entry}
 use Rattle.proposal_core.specs.declared.group_state.GroupState.{GroupState}
-use Rattle.proposal_core.specs.Fold.{present}
-use Rattle.proposal_core.specs.Lists.{state_in}
 use Rattle.client_callbacks.specs.declared.ballot.Filled.{Filled}
 use Rattle.client_callbacks.specs.Ballots.{BallotView}
 use Rattle.session_state.specs.declared.casts.Cast.{Cast}
-use Rattle.session_state.specs.declared.state.Provider.{Provider}
-use Rattle.session_state.specs.State.{provider_of, outstanding}
 use Rattle.session_state.specs.HandOn.{casts_out}
 use Rattle.view_state.specs.declared.install.Install.{Install}
 use Rattle.view_state.specs.declared.install.Base.{Base}
-use Rattle.view_state.specs.Bases.{bases_of, base_named}
-use Rattle.node_state.specs.declared.group.GroupRow.{GroupRow}
+use Rattle.view_state.specs.Bases.{bases_of}
 use Rattle.node_state.specs.declared.happened.Happened.{Happened}
 use Rattle.node_state.specs.declared.happened.Happened.TheVariants as happened
 use Rattle.node_state.specs.declared.state.Core.{Core}
@@ -28,33 +22,13 @@ use Rattle.node_state.specs.State.{state_of, len_of, with_row, held_rows, record
 use Rattle.node_state.specs.HandOn.{cast_record, cast_records, heard}
 use Rattle.node_state.specs.Leading.{put}
 use Rattle.view_state.specs.Views.{views_entered}
-use Rattle.node_state.specs.Applying.{base_record, view_entered, is_in_base, number_of, dissolved, dissolved_if, group_dissolved, sides_dissolved}
+use Rattle.node_state.specs.Applying.{base_record, view_entered, dissolved}
 use Rattle.run_safety.specs.ViewOrder.{Lt, Le}
 use Rattle.run_safety.proofs.Order.{lt_refl, lt_le, le_trans, le_antisym, lt_not_same}
 use Rattle.row_laws.specs.hearing.Changes.{Inner, entering, Does, Stays, Then, Records, Hands, Loses, Joins, Votes, Enters}
 use Rattle.row_laws.proofs.hearing.Attending.{heard_at}
 use Rattle.row_laws.proofs.hearing.Viewing.{sides_stand}
-
--- ---- whoever is dissolved is told so, one after another
-
-module _ (P : Core → Type 0) (tells : (c : Core) (p : ProviderId) (r : ℕ) → P c → P (dissolved c p r)) where
-  kept_if : (c : Core) (h : List ℕ) (old : ViewId) (b : Option Base) (o : Option Provider) → P c → P (dissolved_if c h old b o)
-  unfolding dissolved_if
-  kept_if c h old b None k = k
-  kept_if c h old b (Some x) k = by (x.takes_part && bytes_eq x.group h && not (is_in_base old x.p b))
-    where
-      by : (t : Bool) → P (elim t as (λ _. Core) [ true ↦ dissolved c x.p (number_of (outstanding c.sessions x.p)) | false ↦ c ])
-      by true = tells c x.p (number_of (outstanding c.sessions x.p)) k
-      by false = k
-
-  kept_fold : {A : Type 0} (f : Core → A → Core) → ((c : Core) (x : A) → P c → P (f c x)) → (xs : List A) (c : Core) → P c → P (fold f c xs)
-  kept_fold f one [] c k = k
-  kept_fold f one (x ∷ xs) c k = kept_fold f one xs (f c x) (one c x k)
-
-  pub sides_keep : (rows : List GroupRow) (old : ViewId) (bs : List Base) (c : Core) → P c → P (sides_dissolved c rows old bs)
-  unfolding sides_dissolved group_dissolved
-  sides_keep rows old bs c k =
-      kept_fold (group_dissolved old bs) (λ t row j. kept_fold (λ (u : Core) p. dissolved_if u row.name old (base_named bs row.name) (provider_of u.sessions p)) (λ u p i. kept_if u row.name old (base_named bs row.name) (provider_of u.sessions p) i) (present (state_in row.list)) t j) rows c k
+use Rattle.provider_laws.proofs.attending.Sides.{sides_keep}
 
 -- ---- views
 
@@ -106,17 +80,10 @@ Own v _ = Unit {0}
 inner_own : (v : ViewId) (r : Happened) → Inner r → Own v r
 inner_own v (happened.Up n j) a = absurd a
 inner_own v (happened.Down n) a = absurd a
-inner_own v (happened.Ring n k i ms m) a = tt
 inner_own v (happened.In n u ms) a = absurd a
 inner_own v (happened.Base n u g old len s) a = absurd a
 inner_own v (happened.Put n u g i e) a = absurd a
-inner_own v (happened.Heard p u g i e ms value) a = tt
-inner_own v (happened.Cast p proto phase vote value message) a = tt
-inner_own v (happened.Asked p r g x) a = tt
-inner_own v (happened.Told p r why) a = tt
-inner_own v (happened.Noted n c u i told) a = tt
-inner_own v (happened.Refused n c fault) a = tt
-inner_own v (happened.Shown n line) a = tt
+inner_own v _ a = tt
 
 -- what is heard and cast with a notice
 abbrev pub Voiced : Happened → Type 0
@@ -141,19 +108,9 @@ all_voiced v h i e st (c ∷ cs) r k =
     one (Some y) (inr a) = cast y (y.2).filled a
 
 voiced_own : (v : ViewId) (r : Happened) → Voiced r → Own v r
-voiced_own v (happened.Up n j) a = absurd a
-voiced_own v (happened.Down n) a = absurd a
-voiced_own v (happened.Ring n k i ms m) a = absurd a
-voiced_own v (happened.In n u ms) a = absurd a
-voiced_own v (happened.Base n u g old len s) a = absurd a
-voiced_own v (happened.Put n u g i e) a = absurd a
 voiced_own v (happened.Heard p u g i e ms value) a = tt
 voiced_own v (happened.Cast p proto phase vote value message) a = tt
-voiced_own v (happened.Asked p r g x) a = absurd a
-voiced_own v (happened.Told p r why) a = absurd a
-voiced_own v (happened.Noted n c u i told) a = absurd a
-voiced_own v (happened.Refused n c fault) a = absurd a
-voiced_own v (happened.Shown n line) a = absurd a
+voiced_own v _ a = absurd a
 
 -- one more at the end
 last_more : (r q : Happened) (rs : List Happened) → Has r (rs ++ q ∷ []) → Has r rs ⊎ (r ≡ q)
@@ -205,30 +162,3 @@ entering_adds s i r = sides_keep (λ c. Has r c.records → Goal) tells (held_ro
         new : Has r (happened.In s.views.me i.view i.members ∷ map (λ (b : Base). happened.Base s.views.me i.view b.name b.from b.len b.state) bs) → Goal
         new (inl q) = inr (inl q)
         new (inr k) = let m = has_map (λ (b : Base). happened.Base s.views.me i.view b.name b.from b.len b.state) r bs k in inr (inr (inl (m.0, m.1, m.2)))
-
--- so the view and its bases are recorded, after all that was
-pub record Entered (s : Core) (i : Install) : Type 0 where
-  pub older : (r : Happened) → Has r s.records → Has r (entering s i).records
-  pub view : Has (happened.In s.views.me i.view i.members) (entering s i).records
-  pub base : (b : Base) → Has b (bases_of i) → Has (happened.Base s.views.me i.view b.name b.from b.len b.state) (entering s i).records
-
-dissolved_grows : (c : Core) (p : ProviderId) (k : ℕ) (r : Happened) → Has r c.records → Has r (dissolved c p k).records
-unfolding dissolved recorded with_sessions
-dissolved_grows c p k r h = append_has_left r c.records _ h
-
-pub entered_records : (s : Core) (i : Install) → Entered s i
-unfolding view_entered views_entered recorded_all base_record
-entered_records s i =
-    record {
-      older = λ r h. on r (append_has_left r s.records _ h);
-      view = on (happened.In s.views.me i.view i.members) (append_has_right (happened.In s.views.me i.view i.members) s.records _ (inl refl));
-      base = λ b h. on _ (append_has_right _ s.records _ (inr (image b (bases_of i) h)));
-    }
-  where
-    on : (r : Happened) → Has r (view_entered s i (bases_of i)).records → Has r (entering s i).records
-    on r h = sides_keep (λ c. Has r c.records) (λ c p k a. dissolved_grows c p k r a) (held_rows s) s.views.view (bases_of i) (view_entered s i (bases_of i)) h
-
-    image : (b : Base) (bs : List Base) → Has b bs → Has (happened.Base s.views.me i.view b.name b.from b.len b.state) (map (λ (b : Base). happened.Base s.views.me i.view b.name b.from b.len b.state) bs)
-    image b [] h = absurd h
-    image b (x ∷ bs) (inl e) = inl (ap (λ (z : Base). happened.Base s.views.me i.view z.name z.from z.len z.state) e)
-    image b (x ∷ bs) (inr h) = inr (image b bs h)

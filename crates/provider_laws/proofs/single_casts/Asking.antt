@@ -24,6 +24,7 @@ use Rattle.row_laws.specs.hearing.Changes.{Inner}
 use Rattle.step_refinement.proofs.SessionLaws.{provider_same, provider_self}
 use Rattle.row_laws.proofs.hearing.Attending.{pushed, pushed_append, heard_at}
 use Rattle.provider_laws.specs.single_casts.Ballots.{due_by, ballot_due, CastWhenDue}
+use Rattle.row_laws.proofs.hearing.Handing.{some_is}
 
 -- ---- records by which nothing is heard or cast
 
@@ -33,53 +34,22 @@ Silent (happened.Cast p proto phase vote value message) = ⊥
 Silent _ = Unit {0}
 
 pub inner_silent : (r : Happened) → Inner r → Silent r
-inner_silent (happened.Up n j) a = tt
-inner_silent (happened.Down n) a = tt
-inner_silent (happened.Ring n k i ms m) a = tt
-inner_silent (happened.In n v ms) a = tt
-inner_silent (happened.Base n v g u len s) a = tt
-inner_silent (happened.Put n v g i e) a = tt
 inner_silent (happened.Heard p v g i e ms value) a = a
 inner_silent (happened.Cast p proto phase vote value message) a = a
-inner_silent (happened.Asked p r g x) a = tt
-inner_silent (happened.Told p r why) a = tt
-inner_silent (happened.Noted n c v i told) a = tt
-inner_silent (happened.Refused n c fault) a = tt
-inner_silent (happened.Shown n line) a = tt
+inner_silent _ a = tt
 
 -- what was cast until now
 abbrev pub Rightly : List Happened → History → Happened → Type 0
 Rightly now before r = CastWhenDue (earlier now before) r
 
 pub silent_law : (now : List Happened) (before : History) (r : Happened) → Silent r → Rightly now before r
-silent_law now before (happened.Up n j) a = tt
-silent_law now before (happened.Down n) a = tt
-silent_law now before (happened.Ring n k i ms m) a = tt
-silent_law now before (happened.In n v ms) a = tt
-silent_law now before (happened.Base n v g u len s) a = tt
-silent_law now before (happened.Put n v g i e) a = tt
-silent_law now before (happened.Heard p v g i e ms value) a = tt
 silent_law now before (happened.Cast p proto phase vote value message) a = absurd a
-silent_law now before (happened.Asked p r g x) a = tt
-silent_law now before (happened.Told p r why) a = tt
-silent_law now before (happened.Noted n c v i told) a = tt
-silent_law now before (happened.Refused n c fault) a = tt
-silent_law now before (happened.Shown n line) a = tt
+silent_law now before _ a = tt
 
 pub silent_due : (p : ProviderId) (r : Happened) → Silent r → (rs : List Happened) → ballot_due p (r ∷ rs) ≡ ballot_due p rs
-silent_due p (happened.Up n j) a rs = refl
-silent_due p (happened.Down n) a rs = refl
-silent_due p (happened.Ring n k i ms m) a rs = refl
-silent_due p (happened.In n v ms) a rs = refl
-silent_due p (happened.Base n v h w len s) a rs = refl
-silent_due p (happened.Put n v h i e) a rs = refl
 silent_due p (happened.Heard q v h i e ms value) a rs = absurd a
 silent_due p (happened.Cast q proto phase vote value message) a rs = absurd a
-silent_due p (happened.Asked q r h x) a rs = refl
-silent_due p (happened.Told q r why) a rs = refl
-silent_due p (happened.Noted n c v i told) a rs = refl
-silent_due p (happened.Refused n c fault) a rs = refl
-silent_due p (happened.Shown n line) a rs = refl
+silent_due p _ a rs = refl
 
 -- ---- one provider hears, and casts or not
 
@@ -95,20 +65,13 @@ pub cast_another : (p q : ProviderId) (proto : ProtoId) (phase : ℕ) (f : Fille
 cast_another p q proto phase f rs ne = another q p false (ballot_due p rs) ne
 
 late_by : (e : Entry) (b : Bool) → is_late e ≡ true → due_by e b ≡ b
-late_by (Once x) b late = absurd (cc)
-late_by (Begin x) b late = absurd (cc)
-late_by (Phase c) b late = absurd (cc)
-late_by (Approve c) b late = absurd (cc)
-late_by (Reject c) b late = absurd (cc)
 late_by (Late proto phase ps) b late = refl
+late_by _ b late = absurd (cc)
 
 opens_by : (e : Entry) (b : Bool) → opens_phase e ≡ true → due_by e b ≡ true
-opens_by (Once x) b opens = absurd (cc)
 opens_by (Begin x) b opens = refl
 opens_by (Phase c) b opens = refl
-opens_by (Approve c) b opens = absurd (cc)
-opens_by (Reject c) b opens = absurd (cc)
-opens_by (Late proto phase ps) b opens = absurd (cc)
+opens_by _ b opens = absurd (cc)
 
 -- a Late opens no phase
 pub late_opens : (e : Entry) → is_late e ≡ true → opens_phase e ≡ true → ⊥
@@ -231,9 +194,6 @@ one_in_phase : (e : Entry) (after : GroupState) (level : ℕ) (p : ProviderId) (
 unfolding cast_of
 one_in_phase e after level p b y = by (asks e after p) refl
   where
-    some_is : {A : Type 0} {a b : A} → Some a ≡ Some b → a ≡ b
-    some_is q = cc
-
     cast : (run : Option Running) (b : Option Filled) → cast_in run level b ≡ Some y → running_phase run ≡ Some (record { proto = y.0; phase = y.1 })
     cast None b q = absurd (cc)
     cast (Some run) None q = absurd (cc)
@@ -255,9 +215,6 @@ one_filled : (e : Entry) (after : GroupState) (level : ℕ) (p : ProviderId) (b 
 unfolding cast_of
 one_filled e after level p b y = by (asks e after p)
   where
-    some_is : {A : Type 0} {a b : A} → Some a ≡ Some b → a ≡ b
-    some_is q = cc
-
     cast : (run : Option Running) (b : Option Filled) → cast_in run level b ≡ Some y → (f : Filled) × ((y.2).filled ≡ Some f)
     cast None b q = absurd (cc)
     cast (Some run) None q = absurd (cc)

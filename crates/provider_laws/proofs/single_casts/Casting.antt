@@ -1,6 +1,6 @@
 -- Where a node stands with the ballots of its providers: whatever is open for one, its ballot is due or kept.
-use Rattle.std.proofs.Common.{◌≡◌, ◌≢◌, ◌≤◌, ℕ, ◌+◌, List, [], ◌∷◌, ◌++◌, Option, Some, None, Bool, true, false, refl, sym, ap, ◌∙◌, subst, inl, inr, ◌⊎◌, ⊎_elim, arith}
-use Rattle.std.specs.Prelude.{◌&&◌, ◌||◌, ◌==◌, find, flat_map, if◌then◌else◌}
+use Rattle.std.proofs.Common.{◌≡◌, ◌≢◌, ◌≤◌, ℕ, ◌+◌, List, [], ◌∷◌, Option, Some, None, Bool, true, false, refl, sym, ap, ◌∙◌, subst, inl, inr, ◌⊎◌, ⊎_elim, arith}
+use Rattle.std.specs.Prelude.{◌&&◌, ◌==◌, find, flat_map, if◌then◌else◌}
 use Rattle.std.specs.List.{list_any}
 use Rattle.std.proofs.lemmas.Bool.Decides.{nat_tests}
 use Rattle.rsct_packet.specs.declared.ids.ViewId.{ViewId}
@@ -32,11 +32,13 @@ use Rattle.run_safety.specs.Past.{History, Within, earlier, records_of}
 use Rattle.step_refinement.proofs.SessionLaws.{provider_same, Later, handed_later, cast_has}
 use Rattle.row_laws.specs.hearing.Changes.{Fewer}
 use Rattle.row_laws.proofs.hearing.Sessions.{fewer_has}
-use Rattle.row_laws.proofs.hearing.Handing.{Kept, handed_kept, handed_begun, hearer_found, present_hears}
+use Rattle.row_laws.proofs.hearing.Handing.{Kept, handed_kept, handed_begun, hearer_found, present_hears, some_is}
 use Rattle.row_laws.proofs.hearing.Attending.{Attending, pushed, heard_at, has_cast}
 use Rattle.provider_laws.specs.single_casts.Ballots.{ballot_due}
 use Rattle.provider_laws.proofs.single_casts.Handed.{Opening, brought, handed_open, handed_stays, handed_brings, handed_from}
 use Rattle.provider_laws.proofs.single_casts.Asking.{Silent, Rightly, silent_law, silent_due, cast_another, late_opens, CastIn, run_other, run_late, run_own, run_law, InPhase, in_phase, filled_with, asks_opens}
+use Rattle.run_safety.proofs.Tests.{has_any}
+use Rattle.provider_laws.proofs.attending.Staying.{found_joined}
 
 -- a ballot of the provider in that phase is kept
 pub record Keeps (t : SessionState) (p : ProviderId) (o : OpenPhase) : Type 0 where
@@ -64,39 +66,13 @@ pub record Casting (n : ℕ) (before : History) (t : SessionState) (now : List H
   pub numbered : (k : KeptBallot) → Has k t.kept → k.p.join ≤ t.last_request
   pub cast : (k : KeptBallot) → Has k t.kept → BallotRecorded (earlier now before) k
 
-pub some_is : {A : Type 0} {a b : A} → Some a ≡ Some b → a ≡ b
-some_is e = cc
-
--- who is found where one more stands at the end
-pub joined_found : (p : ProviderId) (y : Provider) (xs : List Provider) (x : Provider) → find (is_provider p) (xs ++ y ∷ []) ≡ Some x → (find (is_provider p) xs ≡ Some x) ⊎ ((x ≡ y) × (p ≡ y.p))
-joined_found p y [] x e = last (is_provider p y) refl e
-  where
-    last : (b : Bool) → is_provider p y ≡ b → (if b then Some y else None) ≡ Some x → (find (is_provider p) [] ≡ Some x) ⊎ ((x ≡ y) × (p ≡ y.p))
-    last true q e = inr (sym (some_is e), sym (provider_same y.p p q))
-    last false q e = absurd (cc)
-joined_found p y (z ∷ xs) x e = by (is_provider p z) e (joined_found p y xs x)
-  where
-    by : (b : Bool) → (if b then Some z else find (is_provider p) (xs ++ y ∷ [])) ≡ Some x → (find (is_provider p) (xs ++ y ∷ []) ≡ Some x → (find (is_provider p) xs ≡ Some x) ⊎ ((x ≡ y) × (p ≡ y.p))) → ((if b then Some z else find (is_provider p) xs) ≡ Some x) ⊎ ((x ≡ y) × (p ≡ y.p))
-    by true e rest = inl e
-    by false e rest = rest e
-
 -- ---- what is kept, found by a test
 
 pub any_kept : (p : ProviderId) (o : OpenPhase) (ks : List KeptBallot) (k : KeptBallot) → Has k ks → k.p ≡ p → k.proto ≡ o.proto → k.phase ≡ o.phase → list_any (is_kept_for p o.proto o.phase) ks ≡ true
-any_kept p o [] k h a b c = absurd h
-any_kept p o (x ∷ ks) k (inl e) a b c =
-    ap (λ z. z || list_any (is_kept_for p o.proto o.phase) ks) (subst (λ (y : KeptBallot). is_kept_for p o.proto o.phase y ≡ true) e test)
+any_kept p o ks k h a b c = has_any (is_kept_for p o.proto o.phase) ks k h ((λ i. same_provider (a i) p && same_proto (b i) o.proto && c i == o.phase) ∙ same p o.proto o.phase)
   where
     same : (q : ProviderId) (r : ProtoId) (m : ℕ) → (same_provider q q && same_proto r r && m == m) ≡ true
     same q r m = grind (arith, nat_tests)
-
-    test : is_kept_for p o.proto o.phase k ≡ true
-    test = (λ i. same_provider (a i) p && same_proto (b i) o.proto && c i == o.phase) ∙ same p o.proto o.phase
-any_kept p o (x ∷ ks) k (inr h) a b c = by (is_kept_for p o.proto o.phase x) (any_kept p o ks k h a b c)
-  where
-    by : (t : Bool) → list_any (is_kept_for p o.proto o.phase) ks ≡ true → (t || list_any (is_kept_for p o.proto o.phase) ks) ≡ true
-    by true e = refl
-    by false e = e
 
 module _ (n : ℕ) (before : History) where
   -- ---- what is neither heard nor cast
@@ -137,18 +113,15 @@ module _ (n : ℕ) (before : History) where
       record {
         law = k.law;
         others = k.others;
-        ready = λ p x o q z. ⊎_elim (λ (a : find (is_provider p) t.providers ≡ Some x). ⊎_elim (λ (b : ballot_due p (earlier now before) ≡ true). inl b) (λ (b : Keeps t p o). inr (record { ballot = b.ballot; there = b.there; of = b.of; proto = b.proto; phase = b.phase })) (k.ready p x o a z)) (λ (a : (x ≡ y) × (p ≡ y.p)). absurd (let b : None ≡ Some o = ap (λ (m : Provider). m.opened) (sym a.0) ∙ z in cc)) (found p t.providers x q);
-        taking = λ p x o q z. ⊎_elim (λ (a : find (is_provider p) t.providers ≡ Some x). k.taking p x o a z) (λ (a : (x ≡ y) × (p ≡ y.p)). absurd (let b : None ≡ Some o = ap (λ (m : Provider). m.opened) (sym a.0) ∙ z in cc)) (found p t.providers x q);
-        group = λ b x there q. ⊎_elim (λ (a : find (is_provider b.p) t.providers ≡ Some x). k.group b x there a) (λ (a : (x ≡ y) × (b.p ≡ y.p)). absurd (let le = k.numbered b there in let z : b.p.join ≡ t.last_request + 1 = ap (λ (z : ProviderId). z.join) a.1 in omega arith)) (found b.p t.providers x q);
+        ready = λ p x o q z. ⊎_elim (λ (a : find (is_provider p) t.providers ≡ Some x). ⊎_elim (λ (b : ballot_due p (earlier now before) ≡ true). inl b) (λ (b : Keeps t p o). inr (record { ballot = b.ballot; there = b.there; of = b.of; proto = b.proto; phase = b.phase })) (k.ready p x o a z)) (λ (a : (x ≡ y) × (p ≡ y.p)). absurd (let b : None ≡ Some o = ap (λ (m : Provider). m.opened) (sym a.0) ∙ z in cc)) (found_joined y p t.providers x q);
+        taking = λ p x o q z. ⊎_elim (λ (a : find (is_provider p) t.providers ≡ Some x). k.taking p x o a z) (λ (a : (x ≡ y) × (p ≡ y.p)). absurd (let b : None ≡ Some o = ap (λ (m : Provider). m.opened) (sym a.0) ∙ z in cc)) (found_joined y p t.providers x q);
+        group = λ b x there q. ⊎_elim (λ (a : find (is_provider b.p) t.providers ≡ Some x). k.group b x there a) (λ (a : (x ≡ y) × (b.p ≡ y.p)). absurd (let le = k.numbered b there in let z : b.p.join ≡ t.last_request + 1 = ap (λ (z : ProviderId). z.join) a.1 in omega arith)) (found_joined y b.p t.providers x q);
         numbered = λ b there. let le = k.numbered b there in omega arith;
         cast = k.cast;
       }
     where
       y : Provider
       y = record { p = new_provider t instance; client = c; group = h; takes_part = false; opened = None }
-
-      found : (p : ProviderId) (xs : List Provider) (x : Provider) → find (is_provider p) (xs ++ y ∷ []) ≡ Some x → (find (is_provider p) xs ≡ Some x) ⊎ ((x ≡ y) × (p ≡ y.p))
-      found p xs x e = joined_found p y xs x e
 
   -- a vote by a call: whatever is not kept was due
   pub casting_votes : (t : SessionState) (x : Provider) (o : OpenPhase) (f : Filled) (now : List Happened) → provider_of t x.p ≡ Some x → x.opened ≡ Some o → list_any (is_kept_for x.p o.proto o.phase) t.kept ≡ false → x.p.node ≡ n → x.p.join ≤ t.last_request → Casting n before t now → Casting n before (keeps t x o f) (happened.Cast x.p o.proto o.phase f.vote f.value f.message ∷ now)
@@ -213,7 +186,7 @@ has_later : (r : Happened) (rs now : List Happened) (before : History) → Has r
 has_later r [] now before h = h
 has_later r (x ∷ rs) now before h = has_later r rs (x ∷ now) before (inr h)
 
-has_pushed : (r : Happened) (rs now : List Happened) (before : History) → Has r rs → Has r (earlier (pushed rs now) before)
+pub has_pushed : (r : Happened) (rs now : List Happened) (before : History) → Has r rs → Has r (earlier (pushed rs now) before)
 has_pushed r [] now before h = absurd h
 has_pushed r (x ∷ rs) now before (inl e) = has_later r rs (x ∷ now) before (inl e)
 has_pushed r (x ∷ rs) now before (inr h) = has_pushed r rs (x ∷ now) before h

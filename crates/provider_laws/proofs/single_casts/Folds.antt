@@ -31,40 +31,22 @@ use Rattle.run_safety.specs.Bases.{Bases, base_state, state_of_list}
 use Rattle.node_state.proofs.NameOrder.{cases_text, text_self, text_other, row_here, row_there}
 use Rattle.row_laws.specs.hearing.Changes.{Inner, Same, handing, entering, Does, Stays, Then, Records, Hands, Loses, Joins, Votes, Enters}
 use Rattle.row_laws.proofs.hearing.Attending.{pushed, pushed_reverse, heard_at}
-use Rattle.provider_laws.proofs.attending.Parts.{fold_push}
-use Rattle.provider_laws.proofs.single_casts.Adding.{Voiced, all_voiced, sides_keep, does_me, between, no_entering}
+use Rattle.provider_laws.proofs.attending.Sides.{sides_keep}
+use Rattle.provider_laws.proofs.single_casts.Adding.{Voiced, all_voiced, does_me, between, no_entering}
+use Rattle.view_state.proofs.ViewOrder.{same_view_is}
+use Rattle.std.proofs.lemmas.Bool.{eq-eqb}
+use Rattle.step_refinement.proofs.Puts.{fold_pushed}
 
 -- ---- puts
 
 inner_puts : (n : ℕ) (v : ViewId) (g : List ℕ) (r : Happened) → Inner r → (old : List Entry) → puts_after n v g r old ≡ old
-inner_puts n v g (happened.Up m j) a old = refl
-inner_puts n v g (happened.Down m) a old = refl
-inner_puts n v g (happened.Ring m k i ms o) a old = refl
-inner_puts n v g (happened.In m u ms) a old = refl
-inner_puts n v g (happened.Base m u h w len s) a old = refl
 inner_puts n v g (happened.Put m u h i e) a old = absurd a
-inner_puts n v g (happened.Heard p u h i e ms value) a old = refl
-inner_puts n v g (happened.Cast p proto phase vote value message) a old = refl
-inner_puts n v g (happened.Asked p r h x) a old = refl
-inner_puts n v g (happened.Told p r why) a old = refl
-inner_puts n v g (happened.Noted m c u i told) a old = refl
-inner_puts n v g (happened.Refused m c fault) a old = refl
-inner_puts n v g (happened.Shown m line) a old = refl
+inner_puts n v g _ a old = refl
 
 voiced_puts : (n : ℕ) (v : ViewId) (g : List ℕ) (r : Happened) → Voiced r → (old : List Entry) → puts_after n v g r old ≡ old
-voiced_puts n v g (happened.Up m j) a old = absurd a
-voiced_puts n v g (happened.Down m) a old = absurd a
-voiced_puts n v g (happened.Ring m k i ms o) a old = absurd a
-voiced_puts n v g (happened.In m u ms) a old = absurd a
-voiced_puts n v g (happened.Base m u h w len s) a old = absurd a
-voiced_puts n v g (happened.Put m u h i e) a old = absurd a
 voiced_puts n v g (happened.Heard p u h i e ms value) a old = refl
 voiced_puts n v g (happened.Cast p proto phase vote value message) a old = refl
-voiced_puts n v g (happened.Asked p r h x) a old = absurd a
-voiced_puts n v g (happened.Told p r why) a old = absurd a
-voiced_puts n v g (happened.Noted m c u i told) a old = absurd a
-voiced_puts n v g (happened.Refused m c fault) a old = absurd a
-voiced_puts n v g (happened.Shown m line) a old = absurd a
+voiced_puts n v g _ a old = absurd a
 
 pushed_puts : (n : ℕ) (v : ViewId) (g : List ℕ) (before : History) (rs now : List Happened) → ((r : Happened) → Has r rs → Voiced r) → puts_of n v g (earlier (pushed rs now) before) ≡ puts_of n v g (earlier now before)
 pushed_puts n v g before [] now k = refl
@@ -99,10 +81,7 @@ others_puts n u g before _ _ (Hands s c h e bs o same) q ne =
     hands_puts n u g before s c h e bs same ∙ by (s.views.me == n) (same_view s.views.view u) (bytes_eq h g) refl
   where
     by : (a b d : Bool) → same_view s.views.view u ≡ b → (if a && (b && d) then puts_at n u g before s ++ e ∷ [] else puts_at n u g before s) ≡ puts_at n u g before s
-    by a true d z = absurd (ne (view_is s.views.view u z))
-      where
-        view_is : (a b : ViewId) → same_view a b ≡ true → a ≡ b
-        view_is a b z = grind (arith, nat_tests)
+    by a true d z = absurd (ne (same_view_is s.views.view u z))
     by true false d z = refl
     by false false d z = refl
 others_puts n u g before _ _ (Loses s t f) q ne = refl
@@ -154,11 +133,8 @@ handing_states s c h e bs same g = (same.states g, same.lens g)
 
 module _ (bases : Bases) (n : ℕ) (before : History) (g : List ℕ) where
   own_list : (v : ViewId) (h : List ℕ) → (h ≡ g) → is_list n v g n v h ≡ true
-  own_list v h same = subst (λ z. is_list n v g n v z ≡ true) (sym same) (λ k. number n k && (view v k && text_self g k))
+  own_list v h same = subst (λ z. is_list n v g n v z ≡ true) (sym same) (λ k. eq-eqb n n refl k && (view v k && text_self g k))
     where
-      number : (n : ℕ) → (n == n) ≡ true
-      number n = grind (arith, nat_tests)
-
       view : (a : ViewId) → same_view a a ≡ true
       view a = grind (arith, nat_tests)
 
@@ -212,7 +188,7 @@ module _ (bases : Bases) (n : ℕ) (before : History) (g : List ℕ) where
           let p = (put_state s h e o).0 in
           let here : state_of (put s h e) g ≡ after (state_of s g) v (len_of s g) e = subst (λ z. state_of (put s h e) z ≡ after (state_of s z) v (len_of s z) e) q p.0 in
           let longer : len_of (put s h e) g ≡ len_of s g + 1 = subst (λ z. len_of (put s h e) z ≡ len_of s z + 1) q p.1 in
-          with (old ++ e ∷ []) (now true (own_list v h q)) (states ∙ here ∙ (λ i. after (k.state i) v (k.len i) e) ∙ ap (λ m. after (state_of_list bases v old) v m e) (from_zero (length old)) ∙ sym (fold_push v (base_state (bases v)) 0 old e)) (lens ∙ longer ∙ ap (λ m. m + 1) k.len ∙ sym (length-append old (e ∷ [])))
+          with (old ++ e ∷ []) (now true (own_list v h q)) (states ∙ here ∙ (λ i. after (k.state i) v (k.len i) e) ∙ ap (λ m. after (state_of_list bases v old) v m e) (from_zero (length old)) ∙ sym (fold_pushed v old (base_state (bases v)) 0 e)) (lens ∙ longer ∙ ap (λ m. m + 1) k.len ∙ sym (length-append old (e ∷ [])))
 
   -- within a view
   pub folded_does : (s t : Core) → Does s t → t.views.view ≡ s.views.view → s.views.me ≡ n → Folded bases n before g s → Folded bases n before g t

@@ -8,7 +8,7 @@ use Rattle.rsct_packet.specs.Providers.{same_provider}
 use Rattle.rsct_packet.specs.Search.{Has, edit_where}
 use Rattle.rsct_packet.proofs.HasLaws.{has_filter, filter_has, has_append, append_has_left, append_has_right}
 use Rattle.proposal_core.specs.declared.proposal.Proposal.{Proposal}
-use Rattle.proposal_core.specs.declared.proposal.Proposal.TheVariants.{Join, Leave, Fail, Expel, State, Message, Attributes, Reflect}
+use Rattle.proposal_core.specs.declared.proposal.Proposal.TheVariants.{Join}
 use Rattle.proposal_core.specs.declared.entry.Entry.{Entry}
 use Rattle.proposal_core.specs.declared.entry.Entry.TheVariants.{Once, Begin, Phase, Approve, Reject, Late}
 use Rattle.proposal_core.specs.declared.group_state.GroupState.{GroupState}
@@ -110,22 +110,13 @@ all_ended (p ∷ ps) u = all_ended ps (end_request u p p.join)
 begun_same : (u : SessionState) (x : Proposal) → Requested u (proposal_begun u x)
 unfolding proposal_begun end_request
 begun_same u (Join ps attrs n) = all_ended ps u
-begun_same u (Leave p r) = (refl, refl)
-begun_same u (Fail out) = (refl, refl)
-begun_same u (Expel p r out) = (refl, refl)
-begun_same u (State p r value) = (refl, refl)
-begun_same u (Message p r bytes) = (refl, refl)
-begun_same u (Attributes p r attrs) = (refl, refl)
-begun_same u (Reflect view place value) = (refl, refl)
+begun_same u _ = (refl, refl)
 
 requests_same : (u : SessionState) (e : Entry) → Requested u (requests_after u e)
 unfolding requests_after
 requests_same u (Once x) = begun_same u x
 requests_same u (Begin x) = begun_same u x
-requests_same u (Phase c) = (refl, refl)
-requests_same u (Approve c) = (refl, refl)
-requests_same u (Reject c) = (refl, refl)
-requests_same u (Late proto phase ps) = (refl, refl)
+requests_same u _ = (refl, refl)
 
 after_providers : (u : SessionState) (h : List ℕ) (e : Entry) → (kept_after u h e).providers ≡ u.providers
 unfolding kept_after kept_ended
@@ -144,15 +135,13 @@ ended_stays u h proto phase k i ne =
 
 after_stays : (u : SessionState) (h : List ℕ) (e : Entry) (k : KeptBallot) → Has k u.kept → (k.group ≡ h → ⊥) ⊎ (is_late e ≡ true) → Has k (kept_after u h e).kept
 unfolding kept_after
-after_stays u h (Once x) k i how = i
-after_stays u h (Begin x) k i how = i
 after_stays u h (Phase c) k i (inl ne) = ended_stays u h c.proto c.phase k i ne
 after_stays u h (Approve c) k i (inl ne) = ended_stays u h c.proto c.phase k i ne
 after_stays u h (Reject c) k i (inl ne) = ended_stays u h c.proto c.phase k i ne
 after_stays u h (Phase c) k i (inr late) = absurd (cc)
 after_stays u h (Approve c) k i (inr late) = absurd (cc)
 after_stays u h (Reject c) k i (inr late) = absurd (cc)
-after_stays u h (Late proto phase ps) k i how = i
+after_stays u h _ k i how = i
 
 ended_back : (u : SessionState) (h : List ℕ) (proto : ProtoId) (phase : ℕ) (k : KeptBallot) → Has k (kept_ended u h proto phase).kept → Has k u.kept
 unfolding kept_ended
@@ -160,21 +149,17 @@ ended_back u h proto phase k i = (has_filter (λ k. not (is_kept_in h proto phas
 
 after_back : (u : SessionState) (h : List ℕ) (e : Entry) (k : KeptBallot) → Has k (kept_after u h e).kept → Has k u.kept
 unfolding kept_after
-after_back u h (Once x) k i = i
-after_back u h (Begin x) k i = i
 after_back u h (Phase c) k i = ended_back u h c.proto c.phase k i
 after_back u h (Approve c) k i = ended_back u h c.proto c.phase k i
 after_back u h (Reject c) k i = ended_back u h c.proto c.phase k i
-after_back u h (Late proto phase ps) k i = i
+after_back u h _ k i = i
 
 after_apart : ((f : KeptBallot → Bool) (ks : List KeptBallot) → Apart ks → Apart (filter f ks)) → (u : SessionState) (h : List ℕ) (e : Entry) → Apart u.kept → Apart (kept_after u h e).kept
 unfolding kept_after kept_ended
-after_apart of_filter u h (Once x) k = k
-after_apart of_filter u h (Begin x) k = k
 after_apart of_filter u h (Phase c) k = of_filter _ u.kept k
 after_apart of_filter u h (Approve c) k = of_filter _ u.kept k
 after_apart of_filter u h (Reject c) k = of_filter _ u.kept k
-after_apart of_filter u h (Late proto phase ps) k = k
+after_apart of_filter u h _ k = k
 
 -- ---- the whole
 

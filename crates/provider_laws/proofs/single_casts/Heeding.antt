@@ -11,7 +11,7 @@ use Rattle.rsct_packet.specs.Search.{Has}
 use Rattle.rsct_packet.proofs.HasLaws.{has_filter}
 use Rattle.group_attr.specs.declared.attrs.Attrs.{Attrs}
 use Rattle.proposal_core.specs.declared.entry.Entry.{Entry}
-use Rattle.proposal_core.specs.declared.entry.Entry.TheVariants.{Once, Begin, Phase, Approve, Reject, Late}
+use Rattle.proposal_core.specs.declared.entry.Entry.TheVariants.{Begin, Phase}
 use Rattle.proposal_core.specs.declared.group_state.GroupState.{GroupState}
 use Rattle.proposal_core.specs.Fold.{fits, after}
 use Rattle.client_callbacks.specs.declared.ballot.Filled.{Filled}
@@ -26,20 +26,21 @@ use Rattle.session_state.specs.Calls.{new_provider, join_asked, keeps}
 use Rattle.session_state.specs.HandOn.{hears, hearers_in, brought_by, opens_phase, running_phase, beginners, hearers, casts_out, casts_of, handed_on}
 use Rattle.node_state.specs.declared.happened.Happened.{Happened}
 use Rattle.node_state.specs.declared.happened.Happened.TheVariants as happened
-use Rattle.node_state.specs.HandOn.{cast_record, cast_records}
+use Rattle.node_state.specs.HandOn.{cast_records}
 use Rattle.run_safety.specs.Past.{History, Within, earlier, records_of}
 use Rattle.node_state.proofs.NameOrder.{cases_text}
 use Rattle.step_refinement.proofs.SessionLaws.{Later, handed_later, cast_has}
 use Rattle.row_laws.specs.hearing.Hearing.{last_heard}
 use Rattle.row_laws.specs.hearing.Changes.{Fewer}
-use Rattle.row_laws.proofs.hearing.Handing.{Kept, handed_kept, handed_begun, hearer_found, new_hears}
+use Rattle.row_laws.proofs.hearing.Handing.{Kept, handed_kept, handed_begun, hearer_found, new_hears, some_is}
 use Rattle.row_laws.proofs.hearing.Attending.{Attending, pushed, pushed_append, heard_at, heard_own}
 use Rattle.provider_laws.specs.single_casts.Ballots.{opens}
 use Rattle.provider_laws.specs.single_casts.Single.{HeardOpened, NotReopened}
 use Rattle.provider_laws.proofs.single_casts.Asking.{Silent}
 use Rattle.provider_laws.proofs.single_casts.Opening.{opens_running}
-use Rattle.provider_laws.proofs.single_casts.Casting.{joined_found, some_is}
 use Rattle.provider_laws.proofs.single_casts.Phases.{Placed, placed_more, RunsPlaced, Beyond, after_changes, runs_on, beyond_on, opens_new, opens_placed, joins_idle}
+use Rattle.provider_laws.proofs.attending.Staying.{found_joined}
+use Rattle.provider_laws.proofs.attending.Turns.{casts_keep}
 
 -- ---- what one record lets a provider hear opened
 
@@ -55,19 +56,9 @@ opened_back r rs p o k = by k.there
     by (inr h) = inl (record { view = k.view; group = k.group; place = k.place; entry = k.entry; members = k.members; value = k.value; there = h; opened = k.opened })
 
 silent_by : (r : Happened) (p : ProviderId) (o : OpenPhase) → Silent r → HeardBy r p o → ⊥
-silent_by (happened.Up n j) p o a h = h
-silent_by (happened.Down n) p o a h = h
-silent_by (happened.Ring n k i ms m) p o a h = h
-silent_by (happened.In n v ms) p o a h = h
-silent_by (happened.Base n v g u len s) p o a h = h
-silent_by (happened.Put n v g i e) p o a h = h
 silent_by (happened.Heard q v g i e ms value) p o a h = a
 silent_by (happened.Cast q proto phase vote value message) p o a h = a
-silent_by (happened.Asked q r g x) p o a h = h
-silent_by (happened.Told q r why) p o a h = h
-silent_by (happened.Noted n c v i told) p o a h = h
-silent_by (happened.Refused n c fault) p o a h = h
-silent_by (happened.Shown n line) p o a h = h
+silent_by _ p o a h = h
 
 pub silent_opened : (r : Happened) (rs : List Happened) (p : ProviderId) (o : OpenPhase) → Silent r → HeardOpened (r ∷ rs) p o → HeardOpened rs p o
 silent_opened r rs p o a k = ⊎_elim (λ (z : HeardOpened rs p o). z) (λ (z : HeardBy r p o). absurd (silent_by r p o a z)) (opened_back r rs p o k)
@@ -79,19 +70,8 @@ abbrev pub Anew : List Happened → History → Happened → Type 0
 Anew now before r = NotReopened (earlier now before) r
 
 pub silent_anew : (now : List Happened) (before : History) (r : Happened) → Silent r → Anew now before r
-silent_anew now before (happened.Up n j) a = tt
-silent_anew now before (happened.Down n) a = tt
-silent_anew now before (happened.Ring n k i ms m) a = tt
-silent_anew now before (happened.In n v ms) a = tt
-silent_anew now before (happened.Base n v g u len s) a = tt
-silent_anew now before (happened.Put n v g i e) a = tt
 silent_anew now before (happened.Heard p v g i e ms value) a = absurd a
-silent_anew now before (happened.Cast p proto phase vote value message) a = tt
-silent_anew now before (happened.Asked p r g x) a = tt
-silent_anew now before (happened.Told p r why) a = tt
-silent_anew now before (happened.Noted n c v i told) a = tt
-silent_anew now before (happened.Refused n c fault) a = tt
-silent_anew now before (happened.Shown n line) a = tt
+silent_anew now before _ a = tt
 
 -- ---- a node
 
@@ -142,10 +122,10 @@ module _ (n inc : ℕ) (before : History) (v : ViewId) (lens : List ℕ → ℕ)
       record {
         law = k.law;
         others = k.others;
-        unheard = λ p x o q z there. ⊎_elim (λ (a : find (is_provider p) t.providers ≡ Some x). k.unheard p x o a z there) (λ (a : (x ≡ y) × (p ≡ y.p)). new p o a.1 there) (joined_found p y t.providers x q);
+        unheard = λ p x o q z there. ⊎_elim (λ (a : find (is_provider p) t.providers ≡ Some x). k.unheard p x o a z there) (λ (a : (x ≡ y) × (p ≡ y.p)). new p o a.1 there) (found_joined y p t.providers x q);
         numbered = λ p o m there. ⊎_elim (λ (a : p.inc < inc). inl a) (λ (a : p.join ≤ t.last_request). inr (omega (arith, a))) (k.numbered p o m there);
-        runs = λ p x q z. ⊎_elim (λ (a : find (is_provider p) t.providers ≡ Some x). k.runs p x a z) (λ (a : (x ≡ y) × (p ≡ y.p)). absurd (let b : false ≡ true = ap (λ (m : Provider). m.takes_part) (sym a.0) ∙ z in cc)) (joined_found p y t.providers x q);
-        opened = λ p x o q z there. ⊎_elim (λ (a : find (is_provider p) t.providers ≡ Some x). k.opened p x o a z there) (λ (a : (x ≡ y) × (p ≡ y.p)). absurd (let b : false ≡ true = ap (λ (m : Provider). m.takes_part) (sym a.0) ∙ z in cc)) (joined_found p y t.providers x q);
+        runs = λ p x q z. ⊎_elim (λ (a : find (is_provider p) t.providers ≡ Some x). k.runs p x a z) (λ (a : (x ≡ y) × (p ≡ y.p)). absurd (let b : false ≡ true = ap (λ (m : Provider). m.takes_part) (sym a.0) ∙ z in cc)) (found_joined y p t.providers x q);
+        opened = λ p x o q z there. ⊎_elim (λ (a : find (is_provider p) t.providers ≡ Some x). k.opened p x o a z there) (λ (a : (x ≡ y) × (p ≡ y.p)). absurd (let b : false ≡ true = ap (λ (m : Provider). m.takes_part) (sym a.0) ∙ z in cc)) (found_joined y p t.providers x q);
       }
     where
       y : Provider
@@ -180,12 +160,9 @@ within_tail [] now before k = k
 within_tail (r ∷ rs) now before k = (within_tail rs (r ∷ now) before k).1
 
 opens_some : (e : Entry) (v : ViewId) (i : ℕ) (o : OpenPhase) → opens e v i ≡ Some o → opens_phase e ≡ true
-opens_some (Once x) v i o q = absurd (cc)
 opens_some (Begin x) v i o q = refl
 opens_some (Phase c) v i o q = refl
-opens_some (Approve c) v i o q = absurd (cc)
-opens_some (Reject c) v i o q = absurd (cc)
-opens_some (Late proto phase ps) v i o q = absurd (cc)
+opens_some _ v i o q = absurd (cc)
 
 -- who begins is named by the entry's join
 joiner : (t : SessionState) (h : List ℕ) (e : Entry) (p : ProviderId) → Has p (beginners t h e) → Has p (brought_by e)
@@ -243,13 +220,7 @@ module _ (n inc : ℕ) (before : History) (v : ViewId) (t : SessionState) (now :
           by false = z
 
   run_casts : (now' : List Happened) (q : ProviderId) (o : Option (ProtoId × ℕ × BallotView)) → Run now' → Run (pushed (cast_records q o) now')
-  unfolding cast_records cast_record
-  run_casts now' q None r = r
-  run_casts now' q (Some y) r = by (y.2).filled
-    where
-      by : (b : Option Filled) → Run (pushed (cast_record q y.0 y.1 b) now')
-      by None = r
-      by (Some f) = record { law = (tt, r.law); from = λ p o there. r.from p o (cast_opened q y.0 y.1 f (earlier now' before) p o there) }
+  run_casts now' q o r = casts_keep Run (λ w proto phase f z x. record { law = (tt, x.law); from = λ p b there. x.from p b (cast_opened w proto phase f (earlier z before) p b there) }) q o now' r
 
   run_all : (cs : List Cast) (now' : List Happened) → ((c : Cast) → Has c cs → Has c.p ps) → Within PlaceAnew (pushed (flat_map (heard_at v h i e st) cs) now') before → Run now' → Run (pushed (flat_map (heard_at v h i e st) cs) now')
   run_all [] now' hears anew r = r

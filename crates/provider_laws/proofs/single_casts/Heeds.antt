@@ -1,39 +1,33 @@
 -- What a node does leaves the phases that its providers heard opened past or running: change by change, and over a step.
-use Rattle.std.proofs.Common.{◌≡◌, ℕ, ◌+◌, List, [], ◌∷◌, ◌++◌, Option, Some, None, true, refl, sym, ap, ◌∙◌, subst, inl, inr, arith}
-use Rattle.std.specs.Prelude.{reverse, flat_map, map}
+use Rattle.std.proofs.Common.{◌≡◌, ℕ, ◌+◌, List, [], ◌∷◌, ◌++◌, Option, Some, None, true, refl, sym, ◌∙◌, subst}
+use Rattle.std.specs.Prelude.{reverse}
 use Rattle.std.proofs.lemmas.Bool.{and_parts}
-use Rattle.std.proofs.lemmas.Bool.Decides.{nat_tests}
 use Rattle.std.proofs.lemmas.List.{reverse-append}
 use Rattle.rsct_packet.specs.declared.ids.ViewId.{ViewId}
 use Rattle.rsct_packet.specs.declared.ids.ProviderId.{ProviderId}
 use Rattle.rsct_packet.specs.Ids.{same_view}
 use Rattle.rsct_packet.specs.Providers.{among}
 use Rattle.rsct_packet.specs.Search.{Has}
-use Rattle.rsct_packet.proofs.HasLaws.{has_map}
 use Rattle.proposal_core.specs.declared.entry.Entry.{Entry}
 use Rattle.proposal_core.specs.declared.group_state.GroupState.{GroupState}
 use Rattle.proposal_core.specs.Fold.{present, fits, after}
 use Rattle.proposal_core.specs.Lists.{state_in}
 use Rattle.client_callbacks.specs.declared.ballot.Filled.{Filled}
-use Rattle.client_callbacks.specs.declared.told.Why.TheVariants.{Dissolved}
 use Rattle.session_state.specs.declared.state.Provider.{Provider}
 use Rattle.session_state.specs.declared.state.SessionState.{SessionState}
 use Rattle.session_state.specs.State.{provider_of}
 use Rattle.session_state.specs.Calls.{keeps}
-use Rattle.session_state.specs.HandOn.{casts_out, handed_on, take_telling}
 use Rattle.view_state.specs.declared.install.Install.{Install}
 use Rattle.view_state.specs.declared.install.Base.{Base}
 use Rattle.view_state.specs.Bases.{bases_of, base_named}
-use Rattle.view_state.specs.Views.{views_entered}
 use Rattle.node_state.specs.declared.config.Config.{Config}
 use Rattle.node_state.specs.declared.group.GroupRow.{GroupRow}
 use Rattle.node_state.specs.declared.happened.Happened.{Happened}
 use Rattle.node_state.specs.declared.happened.Happened.TheVariants as happened
 use Rattle.node_state.specs.declared.state.Core.{Core}
-use Rattle.node_state.specs.State.{row_of, list_of, state_of, len_of, with_row, held_rows, recorded, recorded_all, with_sessions}
-use Rattle.node_state.specs.HandOn.{heard}
+use Rattle.node_state.specs.State.{row_of, list_of, state_of, len_of, held_rows, recorded, with_sessions}
 use Rattle.node_state.specs.Leading.{put}
-use Rattle.node_state.specs.Applying.{level_set, base_row, base_leader, base_record, view_entered, is_in_base, dissolved}
+use Rattle.node_state.specs.Applying.{view_entered, is_in_base}
 use Rattle.node_state.specs.Step.{at_work}
 use Rattle.run_safety.specs.ViewOrder.{Lt}
 use Rattle.run_safety.specs.Past.{History, Within, records_of}
@@ -41,26 +35,19 @@ use Rattle.run_safety.specs.Bases.{Bases}
 use Rattle.step_refinement.specs.Tied.{Scene}
 use Rattle.step_refinement.specs.Runs.{Reached}
 use Rattle.row_laws.specs.hearing.Changes.{Same, handing, entering, Does, Stays, Then, Records, Hands, Loses, Joins, Votes, Enters}
-use Rattle.row_laws.proofs.hearing.Sessions.{fewer_same, fewer_told}
-use Rattle.row_laws.proofs.hearing.Attending.{pushed, pushed_reverse, heard_at}
 use Rattle.row_laws.proofs.hearing.Viewing.{Once, Stayed, Entered}
 use Rattle.row_laws.proofs.hearing.Doing.{Hearing, hearing_does, present_row, rows_stay}
-use Rattle.provider_laws.proofs.single_casts.Asking.{Silent, inner_silent}
-use Rattle.provider_laws.proofs.single_casts.Adding.{sides_keep, between, no_entering, entering_view}
+use Rattle.provider_laws.proofs.single_casts.Asking.{inner_silent}
+use Rattle.provider_laws.proofs.single_casts.Adding.{between, no_entering, entering_view}
 use Rattle.provider_laws.proofs.single_casts.Folds.{Folded, folded_does, put_state}
-use Rattle.provider_laws.proofs.single_casts.Going.{Fitted, Below, below_does, does_more, put_fits, put_there}
+use Rattle.provider_laws.proofs.single_casts.Going.{Fitted, Below, below_does, put_fits, put_there, within_does}
 use Rattle.provider_laws.proofs.single_casts.Phases.{placed_later}
 use Rattle.provider_laws.proofs.single_casts.Heeding.{PlaceAnew, Heeding, heeding_silent, heeding_fewer, heeding_joined, heeding_votes, heeding_handed}
 use Rattle.provider_laws.proofs.single_casts.Stepping.{bases, fitted, begins_folded, enters_folded, runs_same}
-
-within_front : (xs ys : List Happened) (before : History) → Within PlaceAnew (xs ++ ys) before → Within PlaceAnew ys before
-within_front [] ys before k = k
-within_front (x ∷ xs) ys before k = within_front xs ys before k.1
-
-anew_does : (before : History) (s t : Core) → Does s t → Within PlaceAnew (reverse t.records) before → Within PlaceAnew (reverse s.records) before
-anew_does before s t d k =
-    let m = does_more s t d in
-    within_front (reverse m.more) (reverse s.records) before (subst (λ z. Within PlaceAnew z before) (ap reverse m.is ∙ reverse-append s.records m.more) k)
+use Rattle.view_state.proofs.ViewOrder.{same_view_is}
+use Rattle.provider_laws.proofs.attending.Entering.{entering_back}
+use Rattle.provider_laws.proofs.attending.Hands.{hands_keep, handing_said}
+use Rattle.provider_laws.proofs.single_casts.Entering.{enters_keep}
 
 -- ---- within a view
 
@@ -74,34 +61,8 @@ module _ (n inc : ℕ) (before : History) (bs : List ℕ → Bases) (rs : List H
     pub heeds : Heeds c
 
   heeds_hands : (s c : Core) (h : List ℕ) (e : Entry) (xs : List (Option Filled)) → Same (put s h e) c → ((len_of (put s h e) h ≡ len_of s h + 1) × ((g : List ℕ) → (h ≡ g → ⊥) → (len_of (put s h e) g ≡ len_of s g) × (state_of (put s h e) g ≡ state_of s g))) → fits (state_of s h) e ≡ true → state_of (put s h e) h ≡ after (state_of s h) s.views.view (len_of s h) e → Within PlaceAnew (reverse (handing c h (len_of s h) (state_of s h) (state_of (put s h e) h) e xs).records) before → Minding s → Heeds (handing c h (len_of s h) (state_of s h) (state_of (put s h e) h) e xs)
-  unfolding put recorded recorded_all with_sessions heard with_row len_of state_of list_of row_of
   heeds_hands s c h e xs same lens fit is anew k =
-      subst Q (λ i. (sym same.view i, sym same.sessions i, sym same.records i, (λ g. sym (same.lens g) i), (λ g. sym (same.states g) i))) first
-    where
-      st : GroupState
-      st = state_of (put s h e) h
-
-      Said : (ViewId × SessionState × List Happened) → List Happened
-      Said z = reverse (z.2 ++ flat_map (heard_at z.0 h (len_of s h) e st) (casts_out z.1 h (state_of s h) st e xs))
-
-      Q : (ViewId × SessionState × List Happened × (List ℕ → ℕ) × (List ℕ → GroupState)) → Type 0
-      Q z = Heeding n inc before z.0 (handed_on z.1 h (state_of s h) st e xs) (Said (z.0, z.1, z.2)) z.3 z.4
-
-      ys : List Happened
-      ys = flat_map (heard_at s.views.view h (len_of s h) e st) (casts_out s.sessions h (state_of s h) st e xs)
-
-      turned : reverse ((put s h e).records ++ ys) ≡ pushed ys (happened.Put n s.views.view h (len_of s h) e ∷ reverse s.records)
-      turned =
-          pushed_reverse ys (put s h e).records ∙ ap (pushed ys) (reverse-append s.records (happened.Put s.views.me s.views.view h (len_of s h) e ∷ [])) ∙ ap (λ m. pushed ys (happened.Put m s.views.view h (len_of s h) e ∷ reverse s.records)) k.hearing.me
-
-      said : Within PlaceAnew (pushed ys (happened.Put n s.views.view h (len_of s h) e ∷ reverse s.records)) before
-      said = subst (λ l. Within PlaceAnew l before) turned (subst (λ (z : ViewId × SessionState × List Happened). Within PlaceAnew (Said z) before) (λ i. (same.view i, same.sessions i, same.records i)) anew)
-
-      handed : Heeding n inc before s.views.view (handed_on s.sessions h (state_of s h) st e xs) (pushed ys (happened.Put n s.views.view h (len_of s h) e ∷ reverse s.records)) (len_of (put s h e)) (state_of (put s h e))
-      handed = heeding_handed n inc before s.views.view s.sessions (reverse s.records) (len_of s) (len_of (put s h e)) (state_of s) (state_of (put s h e)) k.hearing.at k.heeds h e xs lens.0 lens.1 fit is said
-
-      first : Q (s.views.view, s.sessions, (put s h e).records, len_of (put s h e), state_of (put s h e))
-      first = subst (λ l. Heeding n inc before s.views.view (handed_on s.sessions h (state_of s h) st e xs) l (len_of (put s h e)) (state_of (put s h e))) (sym turned) handed
+      hands_keep n s c h e xs same k.hearing.me (λ v t now ls states. Heeding n inc before v t now ls states) (heeding_handed n inc before s.views.view s.sessions (reverse s.records) (len_of s) (len_of (put s h e)) (state_of s) (state_of (put s h e)) k.hearing.at k.heeds h e xs lens.0 lens.1 fit is (subst (λ l. Within PlaceAnew l before) (handing_said n s c h e xs same k.hearing.me) anew))
 
   heeds_does : (s t : Core) → Does s t → t.views.view ≡ s.views.view → Below rs before t → Within PlaceAnew (reverse t.records) before → Minding s → Heeds t
   unfolding recorded with_sessions len_of state_of list_of row_of
@@ -110,7 +71,7 @@ module _ (n inc : ℕ) (before : History) (bs : List ℕ → Bases) (rs : List H
   heeds_does _ _ (Then s t u a b) q below anew k =
       let m : t.views.view ≡ s.views.view = between s t u a b q in
       let low : Below rs before t = below_does rs before t u b below in
-      let early : Within PlaceAnew (reverse t.records) before = anew_does before t u b anew in
+      let early : Within PlaceAnew (reverse t.records) before = within_does PlaceAnew before t u b anew in
       heeds_does t u b (q ∙ sym m) below anew (record { hearing = hearing_does n inc before s t a k.hearing; folded = λ g. folded_does (bs g) n before g s t a m k.hearing.me (k.folded g); heeds = heeds_does s t a m low early k })
   heeds_does _ _ (Records s r a) q below anew k =
       subst (λ l. Heeding n inc before s.views.view s.sessions l (len_of s) (state_of s)) (sym (reverse-append s.records (r ∷ []))) (heeding_silent n inc before s.views.view (len_of s) (state_of s) s.sessions (reverse s.records) r (inner_silent r a) k.heeds)
@@ -128,20 +89,11 @@ module _ (n inc : ℕ) (before : History) (bs : List ℕ → Bases) (rs : List H
 
 -- ---- a view is entered
 
--- who is there was there
-entering_back : (s : Core) (i : Install) (p : ProviderId) (x : Provider) → provider_of (entering s i).sessions p ≡ Some x → provider_of s.sessions p ≡ Some x
-unfolding view_entered recorded_all level_set dissolved recorded with_sessions
-entering_back s i p x =
-    sides_keep (λ c. provider_of c.sessions p ≡ Some x → provider_of s.sessions p ≡ Some x) (λ c q r old z. old ((fewer_told c.sessions q r Dissolved).providers p x z)) (held_rows s) s.views.view (bases_of i) (view_entered s i (bases_of i)) (λ z. (fewer_same s.sessions (level_set s i.members) refl refl (omega arith) refl refl).providers p x z)
-
 -- who takes part lives in the base of its group, which comes from the view that the node leaves
 lives_on : (n inc : ℕ) (before : History) (s : Core) (i : Install) → Hearing n inc before s → (p : ProviderId) (x : Provider) → provider_of (entering s i).sessions p ≡ Some x → x.takes_part ≡ true → (b : Base) × (base_named (bases_of i) x.group ≡ Some b) × (b.from ≡ s.views.view)
 unfolding is_in_base
 lives_on n inc before s i k p x q part = by (base_named (bases_of i) x.group) refl in_base
   where
-    view_is : (a b : ViewId) → same_view a b ≡ true → a ≡ b
-    view_is a b z = grind (arith, nat_tests)
-
     r : (row : GroupRow) × Has row (held_rows s) × (row.name ≡ x.group) × Has p (present (state_in row.list))
     r = present_row s x.group p (k.at.here p x (entering_back s i p x q) part)
 
@@ -151,10 +103,9 @@ lives_on n inc before s i k p x q part = by (base_named (bases_of i) x.group) re
 
     by : (o : Option Base) → base_named (bases_of i) x.group ≡ o → is_in_base s.views.view p o ≡ true → (b : Base) × (base_named (bases_of i) x.group ≡ Some b) × (b.from ≡ s.views.view)
     by None e z = absurd (cc)
-    by (Some b) e z = (b, e, view_is b.from s.views.view (and_parts (same_view b.from s.views.view) (among (present b.state) p) z).0)
+    by (Some b) e z = (b, e, same_view_is b.from s.views.view (and_parts (same_view b.from s.views.view) (among (present b.state) p) z).0)
 
 heeds_enters : (n inc : ℕ) (before : History) (s : Core) (i : Install) → Lt s.views.view i.view → ((p : ProviderId) (x : Provider) → provider_of (entering s i).sessions p ≡ Some x → x.takes_part ≡ true → (state_of (entering s i) x.group).running ≡ (state_of s x.group).running) → Heeding n inc before s.views.view s.sessions (reverse s.records) (len_of s) (state_of s) → Heeding n inc before (entering s i).views.view (entering s i).sessions (reverse (entering s i).records) (len_of (entering s i)) (state_of (entering s i))
-unfolding view_entered recorded_all base_record level_set dissolved recorded with_sessions
 heeds_enters n inc before s i lt same k =
     subst (λ v. Heeding n inc before v (entering s i).sessions (reverse (entering s i).records) (len_of (entering s i)) (state_of (entering s i))) (sym (entering_view s i)) (record {
       law = all.law;
@@ -165,17 +116,8 @@ heeds_enters n inc before s i lt same k =
       opened = λ p x o q part h. let a = all.opened p x o q part h in (a.0, λ run z. a.1 run (sym (same p x q part) ∙ z));
     })
   where
-    bs : List Base
-    bs = bases_of i
-
     lens : List ℕ → ℕ
     lens = len_of (entering s i)
-
-    t : Core
-    t = record s { views = views_entered s.views i; sessions = level_set s i.members; groups = map base_row bs; names = map base_leader bs }
-
-    P : Core → Type 0
-    P c = Heeding n inc before i.view c.sessions (reverse c.records) lens (state_of s)
 
     left : Heeding n inc before i.view s.sessions (reverse s.records) lens (state_of s)
     left =
@@ -188,27 +130,8 @@ heeds_enters n inc before s i lt same k =
           opened = λ p x o q part h. let a = k.opened p x o q part h in (placed_later o.proto s.views.view (len_of s x.group) i.view (lens x.group) lt a.0, a.1);
         }
 
-    tells : (c : Core) (p : ProviderId) (r : ℕ) → P c → P (dissolved c p r)
-    tells c p r a =
-        subst (λ l. Heeding n inc before i.view (take_telling c.sessions p r Dissolved) l lens (state_of s)) (sym (reverse-append c.records (happened.Told p r Dissolved ∷ []))) (heeding_silent n inc before i.view lens (state_of s) (take_telling c.sessions p r Dissolved) (reverse c.records) (happened.Told p r Dissolved) tt (heeding_fewer n inc before i.view lens (state_of s) c.sessions (take_telling c.sessions p r Dissolved) (reverse c.records) (fewer_told c.sessions p r Dissolved) a))
-
-    silent : (r : Happened) → Has r (happened.In t.views.me i.view i.members ∷ map (base_record t) bs) → Silent r
-    silent r (inl q) = subst Silent (sym q) tt
-    silent r (inr h) = let q = has_map (base_record t) r bs h in subst Silent (sym q.2) tt
-
-    levelled : Heeding n inc before i.view t.sessions (reverse s.records) lens (state_of s)
-    levelled = heeding_fewer n inc before i.view lens (state_of s) s.sessions (level_set s i.members) (reverse s.records) (fewer_same s.sessions (level_set s i.members) refl refl (omega arith) refl refl) left
-
-    pushes : (xs now : List Happened) → ((r : Happened) → Has r xs → Silent r) → Heeding n inc before i.view t.sessions now lens (state_of s) → Heeding n inc before i.view t.sessions (pushed xs now) lens (state_of s)
-    pushes [] now each a = a
-    pushes (r ∷ xs) now each a = pushes xs (r ∷ now) (λ q j. each q (inr j)) (heeding_silent n inc before i.view lens (state_of s) t.sessions now r (each r (inl refl)) a)
-
-    entered : P (view_entered s i bs)
-    entered =
-        subst (λ l. Heeding n inc before i.view t.sessions l lens (state_of s)) (sym (pushed_reverse (happened.In t.views.me i.view i.members ∷ map (base_record t) bs) s.records)) (pushes (happened.In t.views.me i.view i.members ∷ map (base_record t) bs) (reverse s.records) silent levelled)
-
-    all : P (entering s i)
-    all = sides_keep P tells (held_rows s) s.views.view bs (view_entered s i bs) entered
+    all : Heeding n inc before i.view (entering s i).sessions (reverse (entering s i).records) lens (state_of s)
+    all = enters_keep (λ t now. Heeding n inc before i.view t now lens (state_of s)) (heeding_silent n inc before i.view lens (state_of s)) (heeding_fewer n inc before i.view lens (state_of s)) s i left
 
 -- ---- a whole step
 
@@ -229,8 +152,8 @@ module _ (c : Config) (w w' : Scene) (k : Reached c w) (k' : Reached c w') (n : 
       let top : Below rs w.before t = record { later = []; is = is } in
       let low : Below rs w.before (entering a i) = below_does rs w.before (entering a i) t d' top in
       let begun : (g : List ℕ) → Folded (those g) n w.before g (at_work s) = begins_folded c w w' k k' n s t up up' is same_inc once in
-      let early : Within PlaceAnew (reverse (entering a i).records) w.before = anew_does w.before (entering a i) t d' anew in
-      let first : Heeding n j w.before a.views.view a.sessions (reverse a.records) (len_of a) (state_of a) = heeds_does n j w.before those rs all_fit (at_work s) a d e (below_does rs w.before a (entering a i) (Enters a i lt none) low) (anew_does w.before a (entering a i) (Enters a i lt none) early) (record { hearing = hear; folded = begun; heeds = old }) in
+      let early : Within PlaceAnew (reverse (entering a i).records) w.before = within_does PlaceAnew w.before (entering a i) t d' anew in
+      let first : Heeding n j w.before a.views.view a.sessions (reverse a.records) (len_of a) (state_of a) = heeds_does n j w.before those rs all_fit (at_work s) a d e (below_does rs w.before a (entering a i) (Enters a i lt none) low) (within_does PlaceAnew w.before a (entering a i) (Enters a i lt none) early) (record { hearing = hear; folded = begun; heeds = old }) in
       let heard : Hearing n j w.before a = hearing_does n j w.before (at_work s) a d hear in
       let folds : (g : List ℕ) → Folded (those g) n w.before g a = λ g. folded_does (those g) n w.before g (at_work s) a d e hear.me (begun g) in
       let goes : (p : ProviderId) (x : Provider) → provider_of (entering a i).sessions p ≡ Some x → x.takes_part ≡ true → (state_of (entering a i) x.group).running ≡ (state_of a x.group).running = λ p x q part. let b = lives_on n j w.before a i heard p x q part in runs_same c w w' k k' n s t up up' is same_inc a i d e lt d' e' x.group b.0 b.1 (b.2 ∙ e) (folds x.group) in

@@ -2,7 +2,6 @@
 use Rattle.std.proofs.Common.{◌≡◌, ℕ, ◌+◌, List, [], ◌∷◌, ◌++◌, Option, Some, None, Bool, true, false, refl, sym, ap, ◌∙◌, subst, inl, inr, ⊎_elim}
 use Rattle.std.specs.Prelude.{reverse, filter, flat_map, if◌then◌else◌}
 use Rattle.std.specs.List.{list_any}
-use Rattle.std.proofs.lemmas.List.{reverse-append}
 use Rattle.rsct_packet.specs.declared.ids.ViewId.{ViewId}
 use Rattle.rsct_packet.specs.declared.ids.ProviderId.{ProviderId}
 use Rattle.rsct_packet.specs.declared.ids.ProtoId.{ProtoId}
@@ -42,19 +41,20 @@ use Rattle.run_induction.proofs.Ran.{anyhow, ran_reached, reached_ran}
 use Rattle.run_induction.proofs.Laws.{UpClaim, UpLaw, up_holds}
 use Rattle.row_laws.specs.hearing.Changes.{Fewer, Same, handing, entering, Does, Stays, Then, Records, Hands, Loses, Joins, Votes, Enters}
 use Rattle.row_laws.proofs.hearing.Sessions.{fewer_told}
-use Rattle.row_laws.proofs.hearing.Attending.{pushed, pushed_append, pushed_reverse, heard_at}
+use Rattle.row_laws.proofs.hearing.Attending.{pushed, pushed_append, heard_at}
 use Rattle.row_laws.proofs.hearing.Viewing.{Makes, once_does, step_comes}
 use Rattle.row_laws.proofs.hearing.Doing.{Hearing, hearing_does}
 use Rattle.row_laws.proofs.hearing.Listening.{Rested, reached_attends}
 use Rattle.provider_laws.specs.single_casts.Single.{NotCastBefore, SameBallot, Apart, OneBallotKept}
 use Rattle.provider_laws.proofs.single_casts.Handed.{handed_apart}
 use Rattle.provider_laws.proofs.single_casts.Asking.{filled_with}
-use Rattle.provider_laws.proofs.single_casts.Casting.{any_kept, flat_has, has_flat}
-use Rattle.provider_laws.proofs.single_casts.Adding.{sides_keep}
-use Rattle.provider_laws.proofs.single_casts.Going.{does_more}
+use Rattle.provider_laws.proofs.single_casts.Casting.{any_kept, flat_has, has_flat, has_pushed}
+use Rattle.provider_laws.proofs.attending.Sides.{sides_keep}
+use Rattle.provider_laws.proofs.single_casts.Going.{within_does}
 use Rattle.provider_laws.proofs.single_casts.Doing.{Held, casting_does}
 use Rattle.provider_laws.proofs.single_casts.Law.{Bare, start_bare, node_casts}
 use Rattle.provider_laws.proofs.single_casts.Once.{cast_once}
+use Rattle.provider_laws.proofs.attending.Hands.{handing_said}
 
 abbrev OnceCast : List Happened → History → Happened → Type 0
 OnceCast now before r = NotCastBefore (earlier now before) r
@@ -110,20 +110,11 @@ module _ (v : ViewId) (h : List ℕ) (i : ℕ) (e : Entry) (st : GroupState) (be
       let rest : Within OnceCast (pushed (all cs) (pushed (heard_at v h i e st c) now)) before = subst (λ l. Within OnceCast l before) (pushed_append (heard_at v h i e st c) (all cs) now) k in
       with c.cast refl (come_apart cs (pushed (heard_at v h i e st c) now) (λ d z. filled d (inr z)) rest) rest
     where
-      has_pushed : (r : Happened) (rs now : List Happened) → Has r rs → Has r (earlier (pushed rs now) before)
-      has_pushed r [] now z = absurd z
-      has_pushed r (x ∷ rs) now (inl q) = later r rs (x ∷ now) (inl q)
-        where
-          later : (r : Happened) (rs now : List Happened) → Has r (earlier now before) → Has r (earlier (pushed rs now) before)
-          later r [] now z = z
-          later r (x ∷ rs) now z = later r rs (x ∷ now) (inr z)
-      has_pushed r (x ∷ rs) now (inr z) = has_pushed r rs (x ∷ now) z
-
       apart : (b d : KeptBallot) → Has b (kept_by h c.p c.cast) → Within OnceCast (pushed (all cs) (pushed (heard_at v h i e st c) now)) before → Has d (come cs) → SameBallot b d → ⊥
       apart b d mine rest there same =
           let x = one_said c.p c.cast b (filled c (inl refl)) mine in
           let y = all_said cs d (λ g z. filled g (inr z)) there in
-          cast_new (all cs) (pushed (heard_at v h i e st c) now) before d.p d.proto d.phase y.0 x.0 rest y.1 (subst (λ (z : ProviderId × ProtoId × ℕ). Has (happened.Cast z.0 z.1 z.2 (x.0).vote (x.0).value (x.0).message) (earlier (pushed (heard_at v h i e st c) now) before)) (λ k. (same.0 k, same.1 k, same.2 k)) (has_pushed (Said b x.0) (heard_at v h i e st c) now x.1))
+          cast_new (all cs) (pushed (heard_at v h i e st c) now) before d.p d.proto d.phase y.0 x.0 rest y.1 (subst (λ (z : ProviderId × ProtoId × ℕ). Has (happened.Cast z.0 z.1 z.2 (x.0).vote (x.0).value (x.0).message) (earlier (pushed (heard_at v h i e st c) now) before)) (λ k. (same.0 k, same.1 k, same.2 k)) (has_pushed (Said b x.0) (heard_at v h i e st c) now before x.1))
 
       with : (o : Option (ProtoId × ℕ × BallotView)) → c.cast ≡ o → Apart (come cs) → Within OnceCast (pushed (all cs) (pushed (heard_at v h i e st c) now)) before → Apart (kept_by h c.p o ++ come cs)
       with None q old rest = old
@@ -150,15 +141,6 @@ apart_append (x ∷ xs) ys a b cross =
 
 -- ---- changes
 
-within_front : (xs ys : List Happened) (before : History) → Within OnceCast (xs ++ ys) before → Within OnceCast ys before
-within_front [] ys before k = k
-within_front (x ∷ xs) ys before k = within_front xs ys before k.1
-
-early_casts : (before : History) (s t : Core) → Does s t → Within OnceCast (reverse t.records) before → Within OnceCast (reverse s.records) before
-early_casts before s t d k =
-    let m = does_more s t d in
-    within_front (reverse m.more) (reverse s.records) before (subst (λ z. Within OnceCast z before) (ap reverse m.is ∙ reverse-append s.records m.more) k)
-
 entering_apart : (s : Core) (i : Install) → Apart s.sessions.kept → Apart (entering s i).sessions.kept
 unfolding view_entered recorded_all level_set dissolved recorded with_sessions
 entering_apart s i k = sides_keep (λ c. Apart c.sessions.kept) (λ c p r a. apart_fewer c.sessions _ (fewer_told c.sessions p r Dissolved) a) (held_rows s) s.views.view (bases_of i) (view_entered s i (bases_of i)) k
@@ -181,12 +163,8 @@ module _ (n inc : ℕ) (before : History) where
       filled : Filled_in s.views.view h (len_of s h) e st before cs
       filled x z y q = filled_with e st s.sessions.level (hearers s.sessions h (state_of s h) e) bs x z y q
 
-      Told : (ViewId × SessionState × List Happened) → List Happened
-      Told z = reverse (z.2 ++ flat_map (heard_at z.0 h (len_of s h) e st) (casts_out z.1 h (state_of s h) st e bs))
-
       said : Within OnceCast (pushed (flat_map (heard_at s.views.view h (len_of s h) e st) cs) first) before
-      said =
-          subst (λ l. Within OnceCast l before) (pushed_reverse (flat_map (heard_at s.views.view h (len_of s h) e st) cs) (put s h e).records ∙ ap (pushed (flat_map (heard_at s.views.view h (len_of s h) e st) cs)) (reverse-append s.records (happened.Put s.views.me s.views.view h (len_of s h) e ∷ []))) (subst (λ (z : ViewId × SessionState × List Happened). Within OnceCast (Told z) before) (λ i. (same.view i, same.sessions i, same.records i)) casts)
+      said = subst (λ l. Within OnceCast l before) (handing_said s.views.me s c h e bs same refl) casts
 
       cross : (a b : KeptBallot) → Has a s.sessions.kept → Has b (flat_map (λ (x : Cast). kept_by h x.p x.cast) cs) → SameBallot a b → ⊥
       cross a b i j q =
@@ -209,7 +187,7 @@ module _ (n inc : ℕ) (before : History) where
   unfolding recorded with_sessions join_asked
   apart_does _ _ (Stays s t same) casts hear held k = subst (λ (z : SessionState). Apart z.kept) (sym same.sessions) k
   apart_does _ _ (Then s t u a b) casts hear held k =
-      let early = early_casts before t u b casts in
+      let early = within_does OnceCast before t u b casts in
       apart_does t u b casts (hearing_does n inc before s t a hear) (casting_does n inc before s t a hear held) (apart_does s t a early hear held k)
   apart_does _ _ (Records s r a) casts hear held k = k
   apart_does _ _ (Hands s c h e bs o same) casts hear held k = apart_hands s c h e bs same casts held k

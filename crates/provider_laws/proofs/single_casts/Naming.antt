@@ -28,7 +28,7 @@ use Rattle.provider_laws.specs.single_casts.Ballots.{opens, open_phase}
 use Rattle.provider_laws.proofs.single_casts.Handed.{Opening, handed_open}
 use Rattle.provider_laws.proofs.single_casts.Asking.{Silent, InPhase, in_phase, asks_opens}
 use Rattle.provider_laws.proofs.single_casts.Opening.{Phased, silent_phased, silent_open, opens_running, opens_other, opens_late, opens_own, opens_law}
-use Rattle.provider_laws.proofs.single_casts.Casting.{joined_found}
+use Rattle.provider_laws.proofs.attending.Staying.{found_joined}
 
 pub record Naming (n : ℕ) (before : History) (t : SessionState) (now : List Happened) : Type 0 where
   pub law : Within Phased now before
@@ -53,7 +53,7 @@ module _ (n : ℕ) (before : History) where
       record {
         law = k.law;
         others = k.others;
-        named = λ p x o q z. ⊎_elim (λ (a : find (is_provider p) t.providers ≡ Some x). k.named p x o a z) (λ (a : (x ≡ y) × (p ≡ y.p)). absurd (let b : None ≡ Some o = ap (λ (m : Provider). m.opened) (sym a.0) ∙ z in cc)) (joined_found p y t.providers x q);
+        named = λ p x o q z. ⊎_elim (λ (a : find (is_provider p) t.providers ≡ Some x). k.named p x o a z) (λ (a : (x ≡ y) × (p ≡ y.p)). absurd (let b : None ≡ Some o = ap (λ (m : Provider). m.opened) (sym a.0) ∙ z in cc)) (found_joined y p t.providers x q);
       }
     where
       y : Provider

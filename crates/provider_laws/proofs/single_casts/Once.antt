@@ -24,18 +24,7 @@ none_again p e (Some j) i k q = let same : j ≡ i = cc in omega (arith, k, same
 
 place_anew : (now : List Happened) (before : History) (r : Happened) → NextHeard now before r → PlaceAnew now before r
 place_anew now before (happened.Heard p v g i e ms value) k = none_again p e (last_heard p v g (earlier now before)) i k.0
-place_anew now before (happened.Up n j) k = tt
-place_anew now before (happened.Down n) k = tt
-place_anew now before (happened.Ring n m i ms o) k = tt
-place_anew now before (happened.In n v ms) k = tt
-place_anew now before (happened.Base n v g u len s) k = tt
-place_anew now before (happened.Put n v g i e) k = tt
-place_anew now before (happened.Cast p proto phase vote value message) k = tt
-place_anew now before (happened.Asked p q g x) k = tt
-place_anew now before (happened.Told p q why) k = tt
-place_anew now before (happened.Noted n c v i told) k = tt
-place_anew now before (happened.Refused n c fault) k = tt
-place_anew now before (happened.Shown n line) k = tt
+place_anew now before _ k = tt
 
 now_anew : (now : List Happened) (before : History) → Within NextHeard now before → Within PlaceAnew now before
 now_anew [] before k = tt

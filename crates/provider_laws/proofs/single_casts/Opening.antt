@@ -12,7 +12,7 @@ use Rattle.rsct_packet.specs.Providers.{same_provider}
 use Rattle.rsct_packet.specs.Search.{Has}
 use Rattle.proposal_core.specs.declared.entry.Entry.{Entry}
 use Rattle.proposal_core.specs.declared.entry.Closed.{Closed}
-use Rattle.proposal_core.specs.declared.entry.Entry.TheVariants.{Once, Begin, Phase, Approve, Reject, Late}
+use Rattle.proposal_core.specs.declared.entry.Entry.TheVariants.{Begin, Phase, Late}
 use Rattle.proposal_core.specs.declared.group_state.GroupState.{GroupState}
 use Rattle.proposal_core.specs.declared.group_state.Running.{Running}
 use Rattle.proposal_core.specs.Fold.{runs, fits, begun, next_phase, advance, apply, after_if, after}
@@ -29,6 +29,7 @@ use Rattle.step_refinement.proofs.SessionLaws.{provider_same, provider_self}
 use Rattle.row_laws.proofs.hearing.Attending.{pushed, pushed_append, heard_at}
 use Rattle.provider_laws.specs.single_casts.Ballots.{opens, open_by, open_phase, CastInPhase}
 use Rattle.provider_laws.proofs.single_casts.Asking.{Silent, another}
+use Rattle.provider_laws.proofs.attending.Turns.{casts_keep}
 
 -- ---- the phase that an entry that fits opens is the one that runs after it
 
@@ -54,10 +55,7 @@ pub opens_running : (s : GroupState) (v : ViewId) (i : ℕ) (e : Entry) → fits
 unfolding fits apply begun
 opens_running s v i (Begin x) f k = ap running_phase (running_now s v i (Begin x) f)
 opens_running s v i (Phase c) f k = ap running_phase (running_now s v i (Phase c) f) ∙ phase_runs s c s.running (and_parts (runs c.proto c.phase s.running) _ f).0
-opens_running s v i (Once x) f k = absurd (cc)
-opens_running s v i (Approve c) f k = absurd (cc)
-opens_running s v i (Reject c) f k = absurd (cc)
-opens_running s v i (Late proto phase ps) f k = absurd (cc)
+opens_running s v i _ f k = absurd (cc)
 
 -- ---- records
 
@@ -65,50 +63,21 @@ abbrev pub Phased : List Happened → History → Happened → Type 0
 Phased now before r = CastInPhase (earlier now before) r
 
 pub silent_phased : (now : List Happened) (before : History) (r : Happened) → Silent r → Phased now before r
-silent_phased now before (happened.Up n j) a = tt
-silent_phased now before (happened.Down n) a = tt
-silent_phased now before (happened.Ring n k i ms m) a = tt
-silent_phased now before (happened.In n v ms) a = tt
-silent_phased now before (happened.Base n v g u len s) a = tt
-silent_phased now before (happened.Put n v g i e) a = tt
-silent_phased now before (happened.Heard p v g i e ms value) a = tt
 silent_phased now before (happened.Cast p proto phase vote value message) a = absurd a
-silent_phased now before (happened.Asked p r g x) a = tt
-silent_phased now before (happened.Told p r why) a = tt
-silent_phased now before (happened.Noted n c v i told) a = tt
-silent_phased now before (happened.Refused n c fault) a = tt
-silent_phased now before (happened.Shown n line) a = tt
+silent_phased now before _ a = tt
 
 pub silent_open : (p : ProviderId) (r : Happened) → Silent r → (rs : List Happened) → open_phase p (r ∷ rs) ≡ open_phase p rs
-silent_open p (happened.Up n j) a rs = refl
-silent_open p (happened.Down n) a rs = refl
-silent_open p (happened.Ring n k i ms m) a rs = refl
-silent_open p (happened.In n v ms) a rs = refl
-silent_open p (happened.Base n v h w len s) a rs = refl
-silent_open p (happened.Put n v h i e) a rs = refl
 silent_open p (happened.Heard q v h i e ms value) a rs = absurd a
-silent_open p (happened.Cast q proto phase vote value message) a rs = refl
-silent_open p (happened.Asked q r h x) a rs = refl
-silent_open p (happened.Told q r why) a rs = refl
-silent_open p (happened.Noted n c v i told) a rs = refl
-silent_open p (happened.Refused n c fault) a rs = refl
-silent_open p (happened.Shown n line) a rs = refl
+silent_open p _ a rs = refl
 
 late_open : (e : Entry) (v : ViewId) (i : ℕ) (old : Option OpenPhase) → is_late e ≡ true → open_by e v i old ≡ old
-late_open (Once x) v i old late = absurd (cc)
-late_open (Begin x) v i old late = absurd (cc)
-late_open (Phase c) v i old late = absurd (cc)
-late_open (Approve c) v i old late = absurd (cc)
-late_open (Reject c) v i old late = absurd (cc)
 late_open (Late proto phase ps) v i old late = refl
+late_open _ v i old late = absurd (cc)
 
 opened_by : (e : Entry) (v : ViewId) (i : ℕ) (old : Option OpenPhase) → opens_phase e ≡ true → open_by e v i old ≡ opens e v i
-opened_by (Once x) v i old k = absurd (cc)
 opened_by (Begin x) v i old k = refl
 opened_by (Phase c) v i old k = refl
-opened_by (Approve c) v i old k = absurd (cc)
-opened_by (Reject c) v i old k = absurd (cc)
-opened_by (Late proto phase ps) v i old k = absurd (cc)
+opened_by _ v i old k = absurd (cc)
 
 module _ (v : ViewId) (h : List ℕ) (i : ℕ) (e : Entry) (st : GroupState) (before : History) where
   abbrev notice : ProviderId → Happened
@@ -119,13 +88,7 @@ module _ (v : ViewId) (h : List ℕ) (i : ℕ) (e : Entry) (st : GroupState) (be
 
   -- what is cast changes nothing
   after_cast : (p q : ProviderId) (o : Option (ProtoId × ℕ × BallotView)) (now : List Happened) → phase_of p (pushed (cast_records q o) now) ≡ phase_of p now
-  unfolding cast_records cast_record
-  after_cast p q None now = refl
-  after_cast p q (Some y) now = by (y.2).filled
-    where
-      by : (b : Option Filled) → phase_of p (pushed (cast_record q y.0 y.1 b) now) ≡ phase_of p now
-      by None = refl
-      by (Some f) = refl
+  after_cast p q o now = casts_keep (λ z. phase_of p z ≡ phase_of p now) (λ w proto phase b z k. k) q o now refl
 
   abbrev all : List Cast → List Happened
   all cs = flat_map (heard_at v h i e st) cs

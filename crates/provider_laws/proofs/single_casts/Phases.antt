@@ -128,10 +128,7 @@ opens_new s v i (Phase c) o fit q placed k =
     let le : o.phase ≤ (r.0).phase = k r.0 r.1 (r.2 ∙ sym a) in
     let n = r.3 in
     omega (arith, le, b, n)
-opens_new s v i (Once x) o fit q placed k = absurd (cc)
-opens_new s v i (Approve c) o fit q placed k = absurd (cc)
-opens_new s v i (Reject c) o fit q placed k = absurd (cc)
-opens_new s v i (Late proto phase ps) o fit q placed k = absurd (cc)
+opens_new s v i _ o fit q placed k = absurd (cc)
 
 -- and it is placed, and no phase after it runs
 pub opens_placed : (s : GroupState) (v : ViewId) (i : ℕ) (e : Entry) (o : OpenPhase) → fits s e ≡ true → opens e v i ≡ Some o → RunsPlaced s.running v i → Placed o.proto v (i + 1)
@@ -141,10 +138,7 @@ opens_placed s v i (Phase c) o fit q placed =
     let r = phase_fits c s.running (and_parts (runs c.proto c.phase s.running) _ fit).0 in
     let a : o.proto ≡ c.proto = ap (λ (z : OpenPhase). z.proto) (sym (opens_is q)) in
     subst (λ z. Placed z v (i + 1)) (r.2 ∙ sym a) (placed_more (r.0).proto v i (placed r.0 r.1))
-opens_placed s v i (Once x) o fit q placed = absurd (cc)
-opens_placed s v i (Approve c) o fit q placed = absurd (cc)
-opens_placed s v i (Reject c) o fit q placed = absurd (cc)
-opens_placed s v i (Late proto phase ps) o fit q placed = absurd (cc)
+opens_placed s v i _ o fit q placed = absurd (cc)
 
 -- a join that is put comes where nothing runs
 pub joins_idle : (s : GroupState) (e : Entry) (p : ProviderId) → fits s e ≡ true → Has p (brought_by e) → s.running ≡ None
@@ -159,7 +153,4 @@ joins_idle s (Begin x) p fit h = idle s.running (and_parts (is_none s.running) _
     idle : (o : Option Running) → is_none o ≡ true → o ≡ None
     idle None k = refl
     idle (Some run) k = absurd (cc)
-joins_idle s (Phase c) p fit h = absurd h
-joins_idle s (Approve c) p fit h = absurd h
-joins_idle s (Reject c) p fit h = absurd h
-joins_idle s (Late proto phase ps) p fit h = absurd h
+joins_idle s _ p fit h = absurd h

@@ -66,34 +66,12 @@ open_heard p o (r ∷ rs) q = by r q (open_heard p o rs)
         at : (b : Bool) → same_provider u p ≡ b → (if b then open_by e v i (open_phase p rs) else open_phase p rs) ≡ Some o → HeardOpened (happened.Heard u v g i e ms value ∷ rs) p o
         at true k z = of_entry u v g i e ms value (provider_same u p k) z old
         at false k z = more_opened _ rs p o (old z)
-    by (happened.Up n j) z old = more_opened _ rs p o (old z)
-    by (happened.Down n) z old = more_opened _ rs p o (old z)
-    by (happened.Ring n k i ms m) z old = more_opened _ rs p o (old z)
-    by (happened.In n v ms) z old = more_opened _ rs p o (old z)
-    by (happened.Base n v g u len s) z old = more_opened _ rs p o (old z)
-    by (happened.Put n v g i e) z old = more_opened _ rs p o (old z)
-    by (happened.Cast u proto phase vote value message) z old = more_opened _ rs p o (old z)
-    by (happened.Asked u q g x) z old = more_opened _ rs p o (old z)
-    by (happened.Told u q why) z old = more_opened _ rs p o (old z)
-    by (happened.Noted n c v i told) z old = more_opened _ rs p o (old z)
-    by (happened.Refused n c fault) z old = more_opened _ rs p o (old z)
-    by (happened.Shown n line) z old = more_opened _ rs p o (old z)
+    by _ z old = more_opened _ rs p o (old z)
 
 -- what was cast was cast after its notice
 notice_of : (rs : List Happened) (r : Happened) → CastInPhase rs r → CastAfterNotice rs r
 notice_of rs (happened.Cast p proto phase vote value message) k = open_heard p (record { proto = proto; phase = phase }) rs k
-notice_of rs (happened.Up n j) k = tt
-notice_of rs (happened.Down n) k = tt
-notice_of rs (happened.Ring n m i ms o) k = tt
-notice_of rs (happened.In n v ms) k = tt
-notice_of rs (happened.Base n v g u len s) k = tt
-notice_of rs (happened.Put n v g i e) k = tt
-notice_of rs (happened.Heard p v g i e ms value) k = tt
-notice_of rs (happened.Asked p q g x) k = tt
-notice_of rs (happened.Told p q why) k = tt
-notice_of rs (happened.Noted n c v i told) k = tt
-notice_of rs (happened.Refused n c fault) k = tt
-notice_of rs (happened.Shown n line) k = tt
+notice_of rs _ k = tt
 
 all_noticed : (rs : List Happened) → Along CastInPhase rs → Along CastAfterNotice rs
 all_noticed [] k = tt
@@ -120,11 +98,9 @@ module _ (p : ProviderId) (o : OpenPhase) where
 
       of_entry : (e : Entry) → (opens e v i ≡ Some o → ⊥) → due_by e (ballot_due p rs) ≡ true → open_by e v i (open_phase p rs) ≡ Some o → ⊥
       of_entry (Late proto phase ps) no_more a b = k.1 a b
-      of_entry (Once x) no_more a b = absurd (cc)
       of_entry (Begin x) no_more a b = no_more b
       of_entry (Phase c) no_more a b = no_more b
-      of_entry (Approve c) no_more a b = absurd (cc)
-      of_entry (Reject c) no_more a b = absurd (cc)
+      of_entry _ no_more a b = absurd (cc)
 
       at : (b : Bool) → same_provider u p ≡ b → (if b then due_by e (ballot_due p rs) else ballot_due p rs) ≡ true → (if b then open_by e v i (open_phase p rs) else open_phase p rs) ≡ Some o → ⊥
       at true q a c = of_entry e (reopened (provider_same u p q)) a c
@@ -134,17 +110,7 @@ module _ (p : ProviderId) (o : OpenPhase) where
       at : (b : Bool) → (if b then false else ballot_due p rs) ≡ true → open_phase p rs ≡ Some o → ⊥
       at true a c = absurd (cc)
       at false a c = k.1 a c
-  shut_on rs (happened.Up n j) law k = (more_opened _ rs p o k.0, k.1)
-  shut_on rs (happened.Down n) law k = (more_opened _ rs p o k.0, k.1)
-  shut_on rs (happened.Ring n m i ms x) law k = (more_opened _ rs p o k.0, k.1)
-  shut_on rs (happened.In n v ms) law k = (more_opened _ rs p o k.0, k.1)
-  shut_on rs (happened.Base n v g u len s) law k = (more_opened _ rs p o k.0, k.1)
-  shut_on rs (happened.Put n v g i e) law k = (more_opened _ rs p o k.0, k.1)
-  shut_on rs (happened.Asked u q g x) law k = (more_opened _ rs p o k.0, k.1)
-  shut_on rs (happened.Told u q why) law k = (more_opened _ rs p o k.0, k.1)
-  shut_on rs (happened.Noted n c v i told) law k = (more_opened _ rs p o k.0, k.1)
-  shut_on rs (happened.Refused n c fault) law k = (more_opened _ rs p o k.0, k.1)
-  shut_on rs (happened.Shown n line) law k = (more_opened _ rs p o k.0, k.1)
+  shut_on rs _ law k = (more_opened _ rs p o k.0, k.1)
 
   -- what was cast is past
   cast_past : (rs : List Happened) (vote : Vote) (x y : Option (List ℕ)) → Along CastInPhase rs → Along NotReopened rs → Has (happened.Cast p o.proto o.phase vote x y) rs → Past rs
@@ -159,18 +125,7 @@ module _ (p : ProviderId) (o : OpenPhase) where
 not_before : (rs : List Happened) (r : Happened) → CastWhenDue rs r → CastInPhase rs r → Along CastInPhase rs → Along NotReopened rs → NotCastBefore rs r
 not_before rs (happened.Cast p proto phase vote value message) due phase_is phased opened =
     λ v x y h. (cast_past p (record { proto = proto; phase = phase }) rs v x y phased opened h).1 due phase_is
-not_before rs (happened.Up n j) due phase_is phased opened = tt
-not_before rs (happened.Down n) due phase_is phased opened = tt
-not_before rs (happened.Ring n m i ms o) due phase_is phased opened = tt
-not_before rs (happened.In n v ms) due phase_is phased opened = tt
-not_before rs (happened.Base n v g u len s) due phase_is phased opened = tt
-not_before rs (happened.Put n v g i e) due phase_is phased opened = tt
-not_before rs (happened.Heard p v g i e ms value) due phase_is phased opened = tt
-not_before rs (happened.Asked p q g x) due phase_is phased opened = tt
-not_before rs (happened.Told p q why) due phase_is phased opened = tt
-not_before rs (happened.Noted n c v i told) due phase_is phased opened = tt
-not_before rs (happened.Refused n c fault) due phase_is phased opened = tt
-not_before rs (happened.Shown n line) due phase_is phased opened = tt
+not_before rs _ due phase_is phased opened = tt
 
 all_once : (rs : List Happened) → Along CastWhenDue rs → Along CastInPhase rs → Along NotReopened rs → Along NotCastBefore rs
 all_once [] due phased opened = tt

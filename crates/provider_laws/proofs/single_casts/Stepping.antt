@@ -3,7 +3,6 @@ use Rattle.std.proofs.Common.{◌≡◌, ◌<◌, ℕ, List, [], ◌∷◌, ◌+
 use Rattle.std.specs.Prelude.{◌&&◌, ◌==◌, reverse, find, is_none, if◌then◌else◌}
 use Rattle.std.specs.Option.{option_map}
 use Rattle.std.specs.Str.{bytes_eq}
-use Rattle.std.proofs.lemmas.Bool.Decides.{nat_tests}
 use Rattle.rsct_packet.specs.declared.ids.ViewId.{ViewId}
 use Rattle.rsct_packet.specs.declared.ids.Member.{Member}
 use Rattle.rsct_packet.specs.Ids.{same_view}
@@ -41,10 +40,13 @@ use Rattle.row_laws.proofs.hearing.Viewing.{Once, Stayed, Entered, sides_stand}
 use Rattle.row_laws.proofs.hearing.Doing.{Hearing, hearing_does}
 use Rattle.row_laws.proofs.hearing.Added.{does_grow}
 use Rattle.provider_laws.proofs.single_casts.Lines.{ghost_of, in_line, line_read, runs_on, bases_in, noted_is, based_is, base_entered, put_entered, fitted_is, Seat, seat_of, single_is, entered_is}
-use Rattle.provider_laws.proofs.single_casts.Adding.{Own, entering_view, does_me, quiet_adds, entering_adds, entered_records}
+use Rattle.provider_laws.proofs.single_casts.Adding.{Own, entering_view, does_me, quiet_adds, entering_adds}
 use Rattle.provider_laws.proofs.single_casts.Folds.{Folded, puts_at, others_puts, entering_puts}
 use Rattle.provider_laws.proofs.single_casts.Naming.{Naming}
 use Rattle.provider_laws.proofs.single_casts.Going.{Fitted, Below, below_does, Going, going_does, naming_enters}
+use Rattle.view_state.proofs.ViewOrder.{same_view_is}
+use Rattle.std.proofs.lemmas.Bool.{eqb-true}
+use Rattle.provider_laws.proofs.attending.Entering.{entered_records}
 
 -- ---- what a group begins with in a view
 
@@ -75,14 +77,8 @@ puts_nothing n v g (r ∷ rs) none = by r (λ i e q. none i e (inl q)) ∙ puts_
     by : (r : Happened) → ((i : ℕ) (e : Entry) → happened.Put n v g i e ≡ r → ⊥) → puts_after n v g r (puts_of n v g rs) ≡ puts_of n v g rs
     by (happened.Put m u h i e) ne = at (m == n) (same_view u v) (bytes_eq h g) refl refl refl
       where
-        number : (a b : ℕ) → (a == b) ≡ true → a ≡ b
-        number a b z = grind (arith, nat_tests)
-
-        view : (a b : ViewId) → same_view a b ≡ true → a ≡ b
-        view a b z = grind (arith, nat_tests)
-
         at : (a b c : Bool) → (m == n) ≡ a → same_view u v ≡ b → bytes_eq h g ≡ c → (if a && (b && c) then puts_of n v g rs ++ e ∷ [] else puts_of n v g rs) ≡ puts_of n v g rs
-        at true true true x y z = absurd (ne i e (λ k. happened.Put (sym (number m n x) k) (sym (view u v y) k) (sym (text_same h g z) k) i e))
+        at true true true x y z = absurd (ne i e (λ k. happened.Put (sym (eqb-true m n x) k) (sym (same_view_is u v y) k) (sym (text_same h g z) k) i e))
         at true true false x y z = refl
         at true false c x y z = refl
         at false b c x y z = refl

@@ -1,14 +1,12 @@
 -- Records of a view that is entered, and of its bases.
-use Rattle.std.proofs.Common.{◌≡◌, ℕ, List, [], ◌∷◌, ◌++◌, Option, Some, None, Bool, true, false, refl, sym, ap, ◌∙◌, subst, inl, inr, append_assoc, append-nil}
-use Rattle.std.specs.Prelude.{map, find, reverse, cond, ◌&&◌, if◌then◌else◌}
+use Rattle.std.proofs.Common.{◌≡◌, ℕ, List, [], ◌∷◌, ◌++◌, Option, Some, None, Bool, true, false, refl, sym, ap, ◌∙◌, subst, append_assoc, append-nil}
+use Rattle.std.specs.Prelude.{map, find, reverse, ◌&&◌, if◌then◌else◌}
 use Rattle.std.specs.Str.{bytes_eq}
 use Rattle.std.specs.Option.{option_map}
 use Rattle.std.proofs.lemmas.Bool.{eq-eqb}
 use Rattle.std.proofs.lemmas.List.{reverse-append}
 use Rattle.rsct_packet.specs.declared.ids.ViewId.{ViewId}
 use Rattle.rsct_packet.specs.declared.ids.Member.{Member}
-use Rattle.rsct_packet.specs.Text.{name_lt}
-use Rattle.rsct_packet.specs.Search.{Has}
 use Rattle.proposal_core.specs.Fold.{empty_state}
 use Rattle.proposal_core.specs.declared.group_state.GroupState.{GroupState}
 use Rattle.proposal_core.specs.Lists.{len_in, state_in}
@@ -21,8 +19,8 @@ use Rattle.node_state.specs.State.{AllAfter, InNameOrder, row_found, has_name}
 use Rattle.node_state.specs.Applying.{base_row}
 use Rattle.run_safety.specs.Past.{History}
 use Rattle.run_safety.specs.Stays.{Stay, stays, with_base}
-use Rattle.node_state.proofs.NameOrder.{none_after, text_same, text_self, lt_self}
-use Rattle.step_refinement.proofs.BaseOrder.{row_of_base, base_noted}
+use Rattle.node_state.proofs.NameOrder.{text_same}
+use Rattle.step_refinement.proofs.BaseOrder.{row_of_base, base_noted, none_named}
 use Rattle.row_laws.specs.failed_rows.Failures.{EachPut}
 use Rattle.row_laws.proofs.failed_rows.Facts.{Track}
 
@@ -36,14 +34,6 @@ bases_put h n v (b ∷ bs) acc k =
 abbrev pub from_base : Option Base → List Stay → List Stay
 from_base None xs = xs
 from_base (Some b) xs = with_base b.state xs
-
-none_named : (g : List ℕ) (bs : List Base) → AllAfter g (map base_row bs) → base_named bs g ≡ None
-unfolding base_row
-none_named g bs a = by (base_named bs g) refl
-  where
-    by : (o : Option Base) → base_named bs g ≡ o → o ≡ None
-    by None e = refl
-    by (Some b) e = let k = none_after g (map base_row bs) a in let q = row_of_base g bs in let z = ap (option_map base_row) e in absurd (cc)
 
 pub bases_stay : (n : ℕ) (v : ViewId) (g : List ℕ) (bs : List Base) (acc rest : List Happened) → InNameOrder (map base_row bs) → stays n g (reverse (acc ++ map (base_noted n v) bs) ++ rest) ≡ from_base (base_named bs g) (stays n g (reverse acc ++ rest))
 unfolding base_named base_row
@@ -93,4 +83,3 @@ bases_track n v ms g bs acc rest o =
     by : (b : Option Base) → Track (from_base b (fresh ∷ older)) v (len_in (row_found g (option_map base_row b)).list) (state_in (row_found g (option_map base_row b)).list)
     by None = record { stay = fresh; older = older; is = refl; view = refl; len_is = refl; state = refl }
     by (Some b) = record { stay = record { view = v; base = b.state; entries = [] }; older = older; is = refl; view = refl; len_is = refl; state = refl }
-

@@ -54,19 +54,9 @@ own_on e h t p (inr (inr (inl k))) = inr (inr (inl (told_on e.records (records_o
 own_on e h t p (inr (inr (inr k))) = inr (inr (inr (off_on e.records (records_of h) p k)))
 
 pub body_gone_on : (e : Happening) (h : History) (b : Body) → BodyGone h b → BodyGone (e ∷ h) b
-body_gone_on e h (body.Ring x) k = tt
-body_gone_on e h (body.Report rows) k = tt
-body_gone_on e h (body.View y) k = tt
-body_gone_on e h (body.Lookup v g) k = tt
-body_gone_on e h (body.Name v g n) k = tt
-body_gone_on e h (body.Request v g q r phases x) k = tt
 body_gone_on e h (body.Tell v g q r y) k = k
-body_gone_on e h (body.Entry v g place stable x) k = tt
-body_gone_on e h (body.Ack v g n) k = tt
-body_gone_on e h (body.Vote v g proto phase p vote value message) k = tt
 body_gone_on e h (body.Gone v g p) k = gone_on e h v g p k
-body_gone_on e h (body.Query question what) k = tt
-body_gone_on e h (body.Reply question text) k = tt
+body_gone_on e h _ k = tt
 
 module _ (gone now : ProviderId → Type 0) (on : (p : ProviderId) → gone p → now p) where
   row_on : (st : GroupState) (p : ProviderId) (v : RowVote) → RowFails gone st p v → RowFails now st p v

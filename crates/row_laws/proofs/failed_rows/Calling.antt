@@ -38,16 +38,7 @@ IsTaken (Err f) = ⊥
 -- a goodbye that is taken; of other calls it is not said
 abbrev pub Taken : SessionState → CallLine → Type 0
 Taken s (call.Goodbye client) = IsTaken (goodbye_taken s (client_token s client))
-Taken s (call.Init node name votes) = ⊥
-Taken s (call.Join client g instance attrs) = ⊥
-Taken s (call.Leave client g phases) = ⊥
-Taken s (call.Expel client g phases out) = ⊥
-Taken s (call.ChangeState client g phases value) = ⊥
-Taken s (call.SendMessage client g phases bytes) = ⊥
-Taken s (call.ChangeAttributes client g phases attrs) = ⊥
-Taken s (call.Vote client g v value) = ⊥
-Taken s (call.Subscribe client g) = ⊥
-Taken s (call.Unsubscribe client g) = ⊥
+Taken s _ = ⊥
 
 -- whose providers a goodbye ends
 abbrev pub Ended : SessionState → CallLine → List Provider

@@ -1,7 +1,8 @@
 -- Who is cast out stands on a node without a member of the source.
 use Rattle.std.proofs.Common.{◌≡◌, ℕ, List, [], ◌∷◌, Option, Some, None, Bool, true, false, refl, sym, ◌∙◌, subst}
-use Rattle.std.specs.Prelude.{not, filter, if◌then◌else◌}
+use Rattle.std.specs.Prelude.{filter, if◌then◌else◌}
 use Rattle.std.specs.Option.{option_map}
+use Rattle.std.proofs.lemmas.Bool.{not-true}
 use Rattle.rsct_packet.specs.declared.ids.ProviderId.{ProviderId}
 use Rattle.rsct_packet.specs.declared.ids.ProtoId.{ProtoId}
 use Rattle.rsct_packet.specs.Ids.{place_lt}
@@ -31,10 +32,6 @@ known_allows s k n = by (found s k).list
     by None = refl
     by (Some l) = refl
 
-not_true : (b : Bool) → not b ≡ true → b ≡ false
-not_true true e = absurd (cc)
-not_true false e = refl
-
 reflects_not : (st : GroupState) (source : Option GroupState) (ms : List ProviderId) (out : List Failure) → reflection_due st source ms ≡ Some (due.CastOut out) → ⊥
 unfolding reflection_due
 reflects_not st source [] out q = absurd (cc)
@@ -62,4 +59,4 @@ unfolding cast_outs
 due_casts gone s st k out e d x i =
     let j = has_map cast_out x (filter (lacks_source (known_state s k)) st.members) (subst (Has x) (sym (casts_are st (known_state s k) out d)) i) in
     let l = has_filter (lacks_source (known_state s k)) j.0 st.members j.1 in
-    subst (λ (z : Failure). (among st.members z.p ≡ true) × CauseHolds gone (λ k. state_in (found s k).list) st z.p z.cause) (sym j.2) (has_among st.members j.0 l.0, record { group = k; named = e; lacks = known_allows s k (j.0).node ∙ not_true (allowed (known_state s k) (j.0).node) l.1 })
+    subst (λ (z : Failure). (among st.members z.p ≡ true) × CauseHolds gone (λ k. state_in (found s k).list) st z.p z.cause) (sym j.2) (has_among st.members j.0 l.0, record { group = k; named = e; lacks = known_allows s k (j.0).node ∙ not-true (allowed (known_state s k) (j.0).node) l.1 })

@@ -1,6 +1,6 @@
 -- What a leader decides, and what begins at the end of a step.
-use Rattle.std.proofs.Common.{◌≡◌, ℕ, zero, suc, ◌≤◌, List, [], ◌∷◌, length, Option, Some, None, Bool, true, false, refl, sym, ap, ◌∙◌, subst, inl, inr, arith}
-use Rattle.std.specs.Prelude.{not, ◌&&◌, ◌++◌, length, nat_le, is_none, fold, filter}
+use Rattle.std.proofs.Common.{◌≡◌, ℕ, zero, suc, ◌≤◌, List, [], ◌∷◌, length, Option, Some, None, Bool, true, false, refl, sym, ap, ◌∙◌, subst, inl, inr, ⊎_elim, ◌⊎◌, arith}
+use Rattle.std.specs.Prelude.{not, length, fold, filter}
 use Rattle.rsct_packet.specs.declared.ids.ProviderId.{ProviderId}
 use Rattle.rsct_packet.specs.Lists.{is_empty}
 use Rattle.rsct_packet.specs.Providers.{among, same_provider}
@@ -9,23 +9,20 @@ use Rattle.rsct_packet.proofs.HasLaws.{has_filter}
 use Rattle.group_attr.specs.declared.attrs.Attrs.{Attrs}
 use Rattle.group_attr.specs.declared.attrs.Batch.{Batch}
 use Rattle.group_attr.specs.declared.attrs.Phases.{Phases}
-use Rattle.group_attr.specs.Agree.{agree}
 use Rattle.proposal_core.specs.declared.proposal.Cause.{Cause}
 use Rattle.proposal_core.specs.declared.proposal.Cause.TheVariants.{Died, Gone, Cast}
 use Rattle.proposal_core.specs.declared.proposal.Failure.{Failure}
 use Rattle.proposal_core.specs.declared.proposal.Proposal.{Proposal}
-use Rattle.proposal_core.specs.declared.proposal.Proposal.TheVariants.{Join, Leave, Fail, Expel, State, Message, Attributes, Reflect}
+use Rattle.proposal_core.specs.declared.proposal.Proposal.TheVariants.{Join, Fail, Reflect}
 use Rattle.proposal_core.specs.declared.group_state.GroupState.{GroupState}
-use Rattle.proposal_core.specs.declared.group_state.Running.{Running}
-use Rattle.proposal_core.specs.Fold.{max_providers, joins_of, present}
-use Rattle.proposal_core.specs.Lists.{list_or_new, state_in, is_at_limit}
-use Rattle.batch_rules.specs.Waiting.{WaitingView, batches_failures, chosen_of, next_failures, failures_left, next_joins, joins_left, waits_join, has_instance}
+use Rattle.proposal_core.specs.Fold.{joins_of}
+use Rattle.proposal_core.specs.Lists.{list_or_new, state_in}
+use Rattle.batch_rules.specs.Waiting.{WaitingView, batches_failures, chosen_of, next_failures, failures_left, next_joins, joins_left, waits_join}
 use Rattle.source_target.specs.declared.Due.{Due}
 use Rattle.source_target.specs.declared.Due.TheVariants as due
 use Rattle.source_target.specs.Due as target
 use Rattle.client_callbacks.specs.declared.told.Why.{Why}
 use Rattle.client_callbacks.specs.declared.told.Why.TheVariants.{NoSource}
-use Rattle.client_callbacks.specs.declared.told.Why.TheVariants as why
 use Rattle.session_state.specs.HandOn.{is_dissolved}
 use Rattle.node_state.specs.declared.group.Decision.{Decision}
 use Rattle.node_state.specs.declared.group.GroupRow.{GroupRow}
@@ -35,9 +32,11 @@ use Rattle.node_state.specs.State.{InNameOrder, row_of, with_row, with_led, led_
 use Rattle.node_state.specs.Sending.{sent, send_on}
 use Rattle.node_state.specs.HandOn.{Answering}
 use Rattle.node_state.specs.Leading.{with_waiting, begins}
-use Rattle.node_state.specs.Deciding.{keep_decision, refused, known_state, lacks_source, source_len, is_idle_empty, join_refusal, keep_attrs, wait_join, decide_join, has_other_source, is_no_member, full_refusal, collide_refusal, other_refusal, decide_change, decided, meant_attrs}
+use Rattle.node_state.specs.Deciding.{keep_decision, refused, known_state, lacks_source, source_len, is_idle_empty, join_refusal, keep_attrs, wait_join, decide_join, other_refusal, decide_change, decided}
 use Rattle.node_state.specs.Ending.{Pass, quiet, begun_now, failures_begin, due_begins, source_begins, attrs_for, carried_len, source_refused, joins_begin, or_due, or_joins, may_begin, first_begins, group_begins, one_pass, passes, most_begun, end_step}
 use Rattle.run_safety.specs.Past.{History}
+use Rattle.step_walk.proofs.Changes.{Fairly}
+use Rattle.step_walk.proofs.Packets.{join_fair, other_fair}
 use Rattle.node_state.proofs.NameOrder.{row_here, rows_ordered, led_are_led}
 use Rattle.row_laws.proofs.honest_votes.At.{found, leads_row, leads_is}
 use Rattle.row_laws.proofs.honest_votes.Changes.{Every, NoGroup}
@@ -45,7 +44,7 @@ use Rattle.row_laws.specs.failed_rows.Failures.{GoneCause, CauseHolds, LeavesFai
 use Rattle.row_laws.proofs.failed_rows.Queues.{stays_failed}
 use Rattle.row_laws.proofs.failed_rows.Waiting.{chosen_has, left_has, left_fewer, none_left}
 use Rattle.row_laws.proofs.failed_rows.Casts.{due_casts}
-use Rattle.row_laws.proofs.failed_rows.Facts.{NotDissolved, Waits, BasesFit}
+use Rattle.row_laws.proofs.failed_rows.Facts.{Waits, BasesFit}
 use Rattle.row_laws.proofs.failed_rows.Origin.{Origin}
 use Rattle.row_laws.proofs.failed_rows.At.{At, at_for, at_fold, at_sent}
 use Rattle.row_laws.proofs.failed_rows.Leading.{at_led, at_waiting, queue_all, Begins, at_begins}
@@ -105,88 +104,50 @@ due_none f g p none q = by p.began refl q
     by true e q = none q
     by false e q = ap (λ c. waiting_of c g) (source_idle f p.core g (state_of p.core g) (state_of p.core g).attrs.source q) ∙ none e
 
--- no refusal of a request says that the group was dissolved
-join_fine : (s : Core) (g : List ℕ) (p : ProviderId) (a : Attrs) → NotDissolved (join_refusal s g p a)
-unfolding join_refusal
-join_fine s g p a =
-    by (not (is_idle_empty (state_of s g)) && not (agree a (state_of s g).attrs)) (has_instance here p) (lacks_source s source p.node) (nat_le max_providers (length here)) (is_none (state_of s g).running && is_at_limit (list_of s g))
-  where
-    here : List ProviderId
-    here = present (state_of s g) ++ (led_of s g).waiting.joins
-
-    source : Option (List ℕ)
-    source = (meant_attrs (state_of s g) a (is_idle_empty (state_of s g))).source
-
-    by : (b c d e k : Bool) → NotDissolved (elim b as (λ _. Option Why) [ true ↦ Some why.BadAttributes | false ↦ elim c as (λ _. Option Why) [ true ↦ Some why.DuplicateInstance | false ↦ elim d as (λ _. Option Why) [ true ↦ Some (why.NoSource (source_len s source)) | false ↦ elim e as (λ _. Option Why) [ true ↦ Some (why.GroupFull 64) | false ↦ elim k as (λ _. Option Why) [ true ↦ Some (why.ListFull (list_of s g).len (list_of s g).bytes) | false ↦ None ] ] ] ] ])
-    by true c d e k = refl
-    by false true d e k = refl
-    by false false true e k = refl
-    by false false false true k = refl
-    by false false false false true = refl
-    by false false false false false = tt
-
-other_fine : (s : Core) (g : List ℕ) (p : ProviderId) (x : Proposal) → NotDissolved (other_refusal s g p x)
-unfolding other_refusal collide_refusal full_refusal
-other_fine s g p x = by (is_no_member (state_of s g) (led_of s g).gone p x) (has_other_source (state_of s g).attrs x)
-  where
-    full : (b : Bool) → NotDissolved (elim b as (λ _. Option Why) [ true ↦ Some (why.ListFull (list_of s g).len (list_of s g).bytes) | false ↦ None ])
-    full true = refl
-    full false = tt
-
-    collides : (o : Option Running) → NotDissolved (collide_refusal s g o)
-    collides (Some run) = refl
-    collides None = full (is_at_limit (list_of s g))
-
-    by : (b c : Bool) → NotDissolved (elim b as (λ _. Option Why) [ true ↦ Some why.NotAMember | false ↦ elim c as (λ _. Option Why) [ true ↦ Some why.BadAttributes | false ↦ collide_refusal s g (state_of s g).running ] ])
-    by true c = refl
-    by false true = refl
-    by false false = collides (state_of s g).running
-
-decided_whys : (e : Decision) (ds : List Decision) → NotDissolved e.why → ((d : Decision) → Has d ds → NotDissolved d.why) → (d : Decision) → Has d (decisions_with e ds) → NotDissolved d.why
+-- what a leader keeps with one answer more: that one, or it was kept
+pub with_has : (d : Decision) (xs : List Decision) (z : Decision) → Has z (decisions_with d xs) → (z ≡ d) ⊎ Has z xs
 unfolding decisions_with
-decided_whys e [] fine k d (inl q) = subst (λ (z : Decision). NotDissolved z.why) (sym q) fine
-decided_whys e [] fine k d (inr z) = absurd z
-decided_whys e (x ∷ xs) fine k d i = by (same_provider x.p e.p) i (decided_whys e xs fine (λ z j. k z (inr j)) d)
+with_has d [] z (inl e) = inl e
+with_has d [] z (inr a) = absurd a
+with_has d (x ∷ xs) z h = by (same_provider x.p d.p) h (with_has d xs z)
   where
-    by : (b : Bool) → Has d (elim b as (λ _. List Decision) [ true ↦ e ∷ xs | false ↦ x ∷ decisions_with e xs ]) → (Has d (decisions_with e xs) → NotDissolved d.why) → NotDissolved d.why
-    by true (inl q) rest = subst (λ (z : Decision). NotDissolved z.why) (sym q) fine
-    by true (inr j) rest = k d (inr j)
-    by false (inl q) rest = k d (inl q)
-    by false (inr j) rest = rest j
+    by : (b : Bool) → Has z (elim b as (λ _. List Decision) [ true ↦ d ∷ xs | false ↦ x ∷ decisions_with d xs ]) → (Has z (decisions_with d xs) → (z ≡ d) ⊎ Has z xs) → (z ≡ d) ⊎ Has z (x ∷ xs)
+    by true (inl e) rest = inl e
+    by true (inr j) rest = inr (inr j)
+    by false (inl e) rest = inr (inl e)
+    by false (inr j) rest = ⊎_elim (λ (e : z ≡ d). inl e) (λ (i : Has z xs). inr (inr i)) (rest j)
 
 module _ (h : History) (said : ProviderId → Type 0) (origin : Origin) (P L M : Type 0) (live : L) where
   module _ (T G Q : List ℕ → Type 0) where
     -- ---- deciding
 
-    pub at_decision : (s : Core) (g : List ℕ) (p : ProviderId) (r : ℕ) (y : Option Why) → NotDissolved y → At h said origin P L M T G Q s → At h said origin P L M T G Q (keep_decision s g p r y)
+    pub at_decision : (s : Core) (g : List ℕ) (p : ProviderId) (r : ℕ) (y : Option Why) → Fairly y → At h said origin P L M T G Q s → At h said origin P L M T G Q (keep_decision s g p r y)
     unfolding keep_decision
-    at_decision s g p r y fine a = at_led h said origin P L M T G Q s g (λ l. record l { decided = decisions_with (record { p = p; r = r; why = y }) l.decided }) (λ l. refl) (λ l. refl) (λ l. refl) (λ l k. decided_whys (record { p = p; r = r; why = y }) l.decided fine k) a
+    at_decision s g p r y fine a = at_led h said origin P L M T G Q s g (λ l. record l { decided = decisions_with it l.decided }) (λ l. refl) (λ l. refl) (λ l. refl) (λ l k d i. ⊎_elim (λ (e : d ≡ it). subst (λ (z : Decision). Fairly z.why) (sym e) fine) (k d) (with_has it l.decided d i)) a
+      where
+        it : Decision
+        it = record { p = p; r = r; why = y }
 
     pub at_refused : (s : Core) (g : List ℕ) (p : ProviderId) (r : ℕ) (y : Why) → is_dissolved y ≡ false → At h said origin P L M T G Q s → At h said origin P L M T G Q (refused s g p r y)
     unfolding refused
     at_refused s g p r y fine a = at_sent h said origin P L M T G Q (keep_decision s g p r (Some y)) p.node (body.Tell s.views.view g p r y) fine (at_decision s g p r (Some y) fine a)
 
-    at_decided_join : (s : Core) (g : List ℕ) (p : ProviderId) (r : ℕ) (attrs : Attrs) (o : Option Why) → NotDissolved o → At h said origin P L M T G Q s → At h said origin P L M T G Q (decide_join s g p r attrs o)
+    at_decided_join : (s : Core) (g : List ℕ) (p : ProviderId) (r : ℕ) (attrs : Attrs) (o : Option Why) → Fairly o → At h said origin P L M T G Q s → At h said origin P L M T G Q (decide_join s g p r attrs o)
     unfolding decide_join wait_join
     at_decided_join s g p r attrs None fine a =
         at_led h said origin P L M T G Q (keep_decision s g p r None) g (λ l. record l { waiting = waits_join p l.waiting; join_attrs = keep_attrs l.join_attrs p attrs (is_idle_empty (state_of s g)) }) (λ l. refl) (λ l. refl) (λ l. refl) (λ l z. z) (at_decision s g p r None tt a)
     at_decided_join s g p r attrs (Some y) fine a = at_refused s g p r y fine a
 
-    at_decided_other : (f : Answering) (s : Core) (g : List ℕ) (p : ProviderId) (r : ℕ) (phases : Phases) (x : Proposal) (o : Option Why) → NotDissolved o → T g → G g → ((c : Core) → Begins h said origin P L M T G Q c g x) → joins_of x ≡ [] → At h said origin P L M T G Q s → At h said origin P L M T G Q (decide_change f s g p r phases x o)
+    at_decided_other : (f : Answering) (s : Core) (g : List ℕ) (p : ProviderId) (r : ℕ) (phases : Phases) (x : Proposal) (o : Option Why) → Fairly o → T g → G g → ((c : Core) → Begins h said origin P L M T G Q c g x) → joins_of x ≡ [] → At h said origin P L M T G Q s → At h said origin P L M T G Q (decide_change f s g p r phases x o)
     unfolding decide_change
     at_decided_other f s g p r phases x None fine t led ok none a = at_begins h said origin P L M T G Q f (keep_decision s g p r None) g x phases live t led (ok (keep_decision s g p r None)) (inl none) (at_decision s g p r None tt a)
     at_decided_other f s g p r phases x (Some y) fine t led ok none a = at_refused s g p r y fine a
 
     pub at_decided : (f : Answering) (s : Core) (g : List ℕ) (p : ProviderId) (r : ℕ) (phases : Phases) (x : Proposal) → NoFailure x → T g → G g → At h said origin P L M T G Q s → At h said origin P L M T G Q (decided f s g p r phases x)
     unfolding decided
-    at_decided f s g p r phases (Join ps attrs n) asks t led a = at_decided_join s g p r attrs (join_refusal s g p attrs) (join_fine s g p attrs) a
-    at_decided f s g p r phases (Leave q k) asks t led a = at_decided_other f s g p r phases (Leave q k) (other_refusal s g p (Leave q k)) (other_fine s g p (Leave q k)) t led (λ c fit. tt) refl a
+    at_decided f s g p r phases (Join ps attrs n) asks t led a = at_decided_join s g p r attrs (join_refusal s g p attrs) (join_fair s g p attrs) a
     at_decided f s g p r phases (Fail out) asks t led a = absurd asks
-    at_decided f s g p r phases (Expel q k out) asks t led a = at_decided_other f s g p r phases (Expel q k out) (other_refusal s g p (Expel q k out)) (other_fine s g p (Expel q k out)) t led (λ c fit. tt) refl a
-    at_decided f s g p r phases (State q k value) asks t led a = at_decided_other f s g p r phases (State q k value) (other_refusal s g p (State q k value)) (other_fine s g p (State q k value)) t led (λ c fit. tt) refl a
-    at_decided f s g p r phases (Message q k bytes) asks t led a = at_decided_other f s g p r phases (Message q k bytes) (other_refusal s g p (Message q k bytes)) (other_fine s g p (Message q k bytes)) t led (λ c fit. tt) refl a
-    at_decided f s g p r phases (Attributes q k attrs) asks t led a = at_decided_other f s g p r phases (Attributes q k attrs) (other_refusal s g p (Attributes q k attrs)) (other_fine s g p (Attributes q k attrs)) t led (λ c fit. tt) refl a
-    at_decided f s g p r phases (Reflect v i value) asks t led a = at_decided_other f s g p r phases (Reflect v i value) (other_refusal s g p (Reflect v i value)) (other_fine s g p (Reflect v i value)) t led (λ c fit. tt) refl a
+    at_decided f s g p r phases x asks t led a = at_decided_other f s g p r phases x (other_refusal s g p x) (other_fair s g p x) t led (λ c fit. tt) refl a
 
     -- ---- what begins in a group that the node leads, where failures wait
 

@@ -13,7 +13,7 @@ use Rattle.rsct_packet.proofs.HasLaws.{has_append, append_has_right, has_map, ha
 use Rattle.group_attr.specs.Attrs.{host_membership}
 use Rattle.proposal_core.specs.declared.proposal.Cause.TheVariants.{Died}
 use Rattle.proposal_core.specs.declared.proposal.Proposal.{Proposal}
-use Rattle.proposal_core.specs.declared.proposal.Proposal.TheVariants.{Join, Leave, Fail, Expel, State, Message, Attributes, Reflect}
+use Rattle.proposal_core.specs.declared.proposal.Proposal.TheVariants.{Join}
 use Rattle.proposal_core.specs.declared.entry.Entry.{Entry}
 use Rattle.proposal_core.specs.declared.group_state.GroupState.{GroupState}
 use Rattle.proposal_core.specs.declared.group_state.Running.{Running}
@@ -75,13 +75,7 @@ no_joiner st p fit m = by st.running fit
         at true e =
             let out : not (among st.members p) ≡ true = all_has (λ q. not (among st.members q)) ps p (and_parts (none_among st.members ps) _ k).0 (among_is ps p e) in
             let z : not true ≡ true = ap not (sym m) ∙ out in absurd (cc)
-    of (Leave q r) k = refl
-    of (Fail out) k = refl
-    of (Expel q r out) k = refl
-    of (State q r value) k = refl
-    of (Message q r bytes) k = refl
-    of (Attributes q r attrs) k = refl
-    of (Reflect v i value) k = refl
+    of _ k = refl
 
     by : (run : Option Running) → joiners_fit_at st run ≡ true → among (joiners_in run) p ≡ false
     by None k = refl

@@ -18,7 +18,6 @@ use Rattle.proposal_core.specs.declared.group_state.Running.{Running}
 use Rattle.proposal_core.specs.Fold.{joiners_fit, present}
 use Rattle.vote_phases.specs.declared.voter.Voter.{Voter}
 use Rattle.vote_phases.specs.Tally.{TallyView}
-use Rattle.client_callbacks.specs.declared.told.Why.{Why}
 use Rattle.session_state.specs.declared.state.Provider.{Provider}
 use Rattle.session_state.specs.declared.state.SessionState.{SessionState}
 use Rattle.session_state.specs.State.{provider_of}
@@ -31,6 +30,7 @@ use Rattle.node_state.specs.declared.packet.Body.{Body}
 use Rattle.node_state.specs.declared.packet.Body.TheVariants as body
 use Rattle.node_state.specs.declared.state.Core.{Core}
 use Rattle.run_safety.specs.Past.{History, records_of, inc_after, inc_now}
+use Rattle.step_walk.proofs.Changes.{Fairly}
 use Rattle.run_safety.specs.Stays.{Stay, stays, stays_after, is_join_of, asks_join, is_refused}
 use Rattle.run_induction.proofs.Idle.{Elsewhere}
 use Rattle.row_laws.specs.failed_rows.Failures.{state_of_stay, state_held, WasTold, TakenOff, StoodThere, RowFails, EachPut}
@@ -105,47 +105,29 @@ Quiet _ = Unit {0}
 pub quiet_stays : (n : ℕ) (g : List ℕ) (r : Happened) → Quiet r → (xs : List Stay) → stays_after n g r xs ≡ xs
 quiet_stays n g (happened.Up m j) q xs = absurd q
 quiet_stays n g (happened.Down m) q xs = absurd q
-quiet_stays n g (happened.Ring m k i ms b) q xs = refl
 quiet_stays n g (happened.In m v ms) q xs = absurd q
 quiet_stays n g (happened.Base m v h u len st) q xs = absurd q
 quiet_stays n g (happened.Put m v h i e) q xs = absurd q
-quiet_stays n g (happened.Heard p v h i e ms value) q xs = refl
-quiet_stays n g (happened.Cast p proto phase vote value message) q xs = refl
-quiet_stays n g (happened.Asked p r h x) q xs = refl
-quiet_stays n g (happened.Told p r why) q xs = refl
-quiet_stays n g (happened.Noted m c v i told) q xs = refl
 quiet_stays n g (happened.Refused m c fault) q xs = absurd q
-quiet_stays n g (happened.Shown m line) q xs = refl
+quiet_stays n g _ q xs = refl
 
 pub quiet_puts : (r : Happened) → Quiet r → (now : List Happened) (h : History) → EachPut now h → EachPut (r ∷ now) h
 quiet_puts (happened.Up m j) q now h k = absurd q
 quiet_puts (happened.Down m) q now h k = absurd q
-quiet_puts (happened.Ring m j i ms b) q now h k = (tt, k)
 quiet_puts (happened.In m v ms) q now h k = absurd q
 quiet_puts (happened.Base m v g u len st) q now h k = absurd q
 quiet_puts (happened.Put m v g i e) q now h k = absurd q
-quiet_puts (happened.Heard p v g i e ms value) q now h k = (tt, k)
-quiet_puts (happened.Cast p proto phase vote value message) q now h k = (tt, k)
-quiet_puts (happened.Asked p r g x) q now h k = (tt, k)
-quiet_puts (happened.Told p r why) q now h k = (tt, k)
-quiet_puts (happened.Noted m c v i told) q now h k = (tt, k)
 quiet_puts (happened.Refused m c fault) q now h k = absurd q
-quiet_puts (happened.Shown m line) q now h k = (tt, k)
+quiet_puts _ q now h k = (tt, k)
 
 pub quiet_accepted : (r : Happened) → Quiet r → is_refused r ≡ false
 quiet_accepted (happened.Up m j) q = absurd q
 quiet_accepted (happened.Down m) q = absurd q
-quiet_accepted (happened.Ring m j i ms b) q = refl
 quiet_accepted (happened.In m v ms) q = absurd q
 quiet_accepted (happened.Base m v g u len st) q = absurd q
 quiet_accepted (happened.Put m v g i e) q = absurd q
-quiet_accepted (happened.Heard p v g i e ms value) q = refl
-quiet_accepted (happened.Cast p proto phase vote value message) q = refl
-quiet_accepted (happened.Asked p r g x) q = refl
-quiet_accepted (happened.Told p r why) q = refl
-quiet_accepted (happened.Noted m c v i told) q = refl
 quiet_accepted (happened.Refused m c fault) q = absurd q
-quiet_accepted (happened.Shown m line) q = refl
+quiet_accepted _ q = refl
 
 -- a record of this node, where it is of a view or a list
 abbrev pub Stepped : ℕ → Happened → Type 0
@@ -169,48 +151,26 @@ stepped_elsewhere n m _ ne o = tt
 -- so the incarnations stay
 stepped_inc : (n m : ℕ) (r : Happened) → Stepped n r → (old : ℕ) → inc_after m r old ≡ old
 stepped_inc n m (happened.Up o j) k old = absurd k
-stepped_inc n m (happened.Down o) k old = refl
-stepped_inc n m (happened.Ring o j i ms b) k old = refl
-stepped_inc n m (happened.In o v ms) k old = refl
-stepped_inc n m (happened.Base o v g u len st) k old = refl
-stepped_inc n m (happened.Put o v g i e) k old = refl
-stepped_inc n m (happened.Heard p v g i e ms value) k old = refl
-stepped_inc n m (happened.Cast p proto phase vote value message) k old = refl
-stepped_inc n m (happened.Asked p r g x) k old = refl
-stepped_inc n m (happened.Told p r why) k old = refl
-stepped_inc n m (happened.Noted o c v i told) k old = refl
-stepped_inc n m (happened.Refused o c fault) k old = refl
-stepped_inc n m (happened.Shown o line) k old = refl
+stepped_inc n m _ k old = refl
 
 pub stepped_incs : (n m : ℕ) (rs xs : List Happened) → ((r : Happened) → Has r rs → Stepped n r) → inc_now m (rs ++ xs) ≡ inc_now m xs
 stepped_incs n m [] xs all = refl
 stepped_incs n m (r ∷ rs) xs all = stepped_inc n m r (all r (inl refl)) (inc_now m (rs ++ xs)) ∙ stepped_incs n m rs xs (λ q i. all q (inr i))
 
 pub quiet_of : (n : ℕ) (r : Happened) → Quiet r → Stepped n r
-quiet_of n (happened.Up m j) q = absurd q
-quiet_of n (happened.Down m) q = absurd q
 quiet_of n (happened.Ring m j i ms b) q = tt
-quiet_of n (happened.In m v ms) q = absurd q
-quiet_of n (happened.Base m v g u len st) q = absurd q
-quiet_of n (happened.Put m v g i e) q = absurd q
 quiet_of n (happened.Heard p v g i e ms value) q = tt
 quiet_of n (happened.Cast p proto phase vote value message) q = tt
-quiet_of n (happened.Asked p r g x) q = absurd q
 quiet_of n (happened.Told p r why) q = tt
 quiet_of n (happened.Noted m c v i told) q = tt
-quiet_of n (happened.Refused m c fault) q = absurd q
 quiet_of n (happened.Shown m line) q = tt
+quiet_of n _ q = absurd q
 
 -- ---- what is sent
 
--- no refusal says that a group was dissolved
-abbrev pub NotDissolved : Option Why → Type 0
-NotDissolved None = Unit {0}
-NotDissolved (Some y) = is_dissolved y ≡ false
-
--- nor does one that a leader keeps
+-- no refusal that a leader keeps says that a group was dissolved
 abbrev pub Whys : Led → Type 0
-Whys l = (d : Decision) → Has d l.decided → NotDissolved d.why
+Whys l = (d : Decision) → Has d l.decided → Fairly d.why
 
 -- GONE has its cause: a goodbye of this event, or the node held the provider; and TELL does not say that a group was dissolved
 abbrev pub BodyFails : (ProviderId → Type 0) → List Happened → Body → Type 0
@@ -256,49 +216,26 @@ Unasked (happened.Asked p r g x) = ⊥
 Unasked _ = Unit {0}
 
 pub unasked_join : (r : Happened) → Unasked r → (p : ProviderId) → asks_join p r ≡ false
-unasked_join (happened.Up m j) k p = refl
-unasked_join (happened.Down m) k p = refl
-unasked_join (happened.Ring m j i ms b) k p = refl
-unasked_join (happened.In m v ms) k p = refl
-unasked_join (happened.Base m v g u len st) k p = refl
-unasked_join (happened.Put m v g i e) k p = refl
-unasked_join (happened.Heard o v g i e ms value) k p = refl
-unasked_join (happened.Cast o proto phase vote value message) k p = refl
 unasked_join (happened.Asked o r g x) k p = absurd k
-unasked_join (happened.Told o r why) k p = refl
-unasked_join (happened.Noted m c v i told) k p = refl
-unasked_join (happened.Refused m c fault) k p = refl
-unasked_join (happened.Shown m line) k p = refl
+unasked_join _ k p = refl
 
 pub quiet_asks : (r : Happened) → Quiet r → Unasked r
-quiet_asks (happened.Up m j) q = absurd q
-quiet_asks (happened.Down m) q = absurd q
 quiet_asks (happened.Ring m j i ms b) q = tt
-quiet_asks (happened.In m v ms) q = absurd q
-quiet_asks (happened.Base m v g u len st) q = absurd q
-quiet_asks (happened.Put m v g i e) q = absurd q
 quiet_asks (happened.Heard o v g i e ms value) q = tt
 quiet_asks (happened.Cast o proto phase vote value message) q = tt
-quiet_asks (happened.Asked o r g x) q = absurd q
 quiet_asks (happened.Told o r why) q = tt
 quiet_asks (happened.Noted m c v i told) q = tt
-quiet_asks (happened.Refused m c fault) q = absurd q
 quiet_asks (happened.Shown m line) q = tt
+quiet_asks _ q = absurd q
 
 pub quiet_unasked : (r : Happened) → Quiet r → (p : ProviderId) → asks_join p r ≡ false
-quiet_unasked (happened.Up m j) q p = absurd q
-quiet_unasked (happened.Down m) q p = absurd q
 quiet_unasked (happened.Ring m j i ms b) q p = refl
-quiet_unasked (happened.In m v ms) q p = absurd q
-quiet_unasked (happened.Base m v g u len st) q p = absurd q
-quiet_unasked (happened.Put m v g i e) q p = absurd q
 quiet_unasked (happened.Heard o v g i e ms value) q p = refl
 quiet_unasked (happened.Cast o proto phase vote value message) q p = refl
-quiet_unasked (happened.Asked o r g x) q p = absurd q
 quiet_unasked (happened.Told o r why) q p = refl
 quiet_unasked (happened.Noted m c v i told) q p = refl
-quiet_unasked (happened.Refused m c fault) q p = absurd q
 quiet_unasked (happened.Shown m line) q p = refl
+quiet_unasked _ q p = absurd q
 
 pub told_on : (newer rs : List Happened) (p : ProviderId) → WasTold rs p → WasTold (newer ++ rs) p
 told_on newer rs p k =

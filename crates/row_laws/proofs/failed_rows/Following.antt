@@ -45,6 +45,7 @@ use Rattle.node_state.specs.Leading.{put, put_and_hand, with_waiting, with_tally
 use Rattle.node_state.specs.Deciding.{decided}
 use Rattle.node_state.specs.Following.{take_lookup, told_if, take_tell, requests_of, named, is_name_used, take_name, tell_again, decide_new, request_after, request_at, is_group_refused, take_request, entry_next, entry_elsewhere, take_entry, acked, take_ack, vote_cast, take_vote, tally_failed, wait_gone, marked, gone_present, gone_of, take_gone}
 use Rattle.run_safety.specs.Past.{History, records_of}
+use Rattle.step_walk.proofs.Changes.{Fairly}
 use Rattle.run_safety.specs.Stays.{stays, is_join_of}
 use Rattle.node_state.proofs.NameOrder.{cases_text, row_here, row_there, rows_ordered}
 use Rattle.step_refinement.proofs.SessionLaws.{provider_same}
@@ -54,7 +55,7 @@ use Rattle.row_laws.proofs.honest_votes.At.{found, leads_row, leads_is}
 use Rattle.step_walk.proofs.Asides.{handed_longer}
 use Rattle.row_laws.proofs.honest_votes.Changes.{Every, NoGroup}
 use Rattle.row_laws.specs.failed_rows.Failures.{IsRefused, GoneCause}
-use Rattle.row_laws.proofs.failed_rows.Facts.{NotDissolved, Whys, TallyFails, TallyIs, QueueIs, BasesFit, Track}
+use Rattle.row_laws.proofs.failed_rows.Facts.{Whys, TallyFails, TallyIs, QueueIs, BasesFit, Track}
 use Rattle.row_laws.proofs.failed_rows.Origin.{Origin}
 use Rattle.row_laws.proofs.failed_rows.At.{At, at_for, at_fold, at_sent, at_row_for, at_told}
 use Rattle.row_laws.proofs.failed_rows.Tallies.{failed_fails, voted_fails}
@@ -269,7 +270,7 @@ module _ (h : History) (said : ProviderId → Type 0) (origin : Origin) (P L M :
 
   -- ---- REQUEST
 
-  at_told_again : (s : Core) (g : List ℕ) (p : ProviderId) (r : ℕ) (o : Option Why) → NotDissolved o → Full s → Full (tell_again s g p r o)
+  at_told_again : (s : Core) (g : List ℕ) (p : ProviderId) (r : ℕ) (o : Option Why) → Fairly o → Full s → Full (tell_again s g p r o)
   unfolding tell_again
   at_told_again s g p r None fine a = a
   at_told_again s g p r (Some y) fine a = at_sent h said origin P L M Every NoGroup Every s p.node (body.Tell s.views.view g p r y) fine a
@@ -297,13 +298,13 @@ module _ (h : History) (said : ProviderId → Type 0) (origin : Origin) (P L M :
         let t : Core = set_leader s g s.views.me in
         all_again (decided f t g p r phases x) g (at_decided h said origin P L M live Every (Only g) Every f t g p r phases x asks tt refl (only_led t g leads_it (at_noted a)))
 
-    at_request_after : (p : ProviderId) (r : ℕ) (phases : Phases) (x : Proposal) (d : Decision) (b c : Bool) → NotDissolved d.why → NoFailure x → Full s → Full (request_after f s g p r phases x d b c)
+    at_request_after : (p : ProviderId) (r : ℕ) (phases : Phases) (x : Proposal) (d : Decision) (b c : Bool) → Fairly d.why → NoFailure x → Full s → Full (request_after f s g p r phases x d b c)
     unfolding request_after
     at_request_after p r phases x d true c fine asks a = a
     at_request_after p r phases x d false true fine asks a = at_told_again s g p r d.why fine a
     at_request_after p r phases x d false false fine asks a = at_request_new p r phases x asks a
 
-    at_request_at : (p : ProviderId) (r : ℕ) (phases : Phases) (x : Proposal) (o : Option Decision) → ((d : Decision) → o ≡ Some d → NotDissolved d.why) → NoFailure x → Full s → Full (request_at f s g p r phases x o)
+    at_request_at : (p : ProviderId) (r : ℕ) (phases : Phases) (x : Proposal) (o : Option Decision) → ((d : Decision) → o ≡ Some d → Fairly d.why) → NoFailure x → Full s → Full (request_at f s g p r phases x o)
     unfolding request_at
     at_request_at p r phases x None fine asks a = at_request_new p r phases x asks a
     at_request_at p r phases x (Some d) fine asks a = at_request_after p r phases x d (nat_lt r d.r) (r == d.r) (fine d refl) asks a

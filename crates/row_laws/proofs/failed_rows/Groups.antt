@@ -33,7 +33,7 @@ use Rattle.run_induction.proofs.Laws.{PastLaw, past_holds}
 use Rattle.row_laws.proofs.failed_rows.Law.{playing, played_ran, rests_in, fails_hold, asked_by_call, asked_here}
 
 -- each request in one group
-abbrev OneGroup : List Happened → Type 0
+abbrev pub OneGroup : List Happened → Type 0
 OneGroup rs = (p : ProviderId) (r : ℕ) (g h : List ℕ) (x y : Proposal) → Has (happened.Asked p r g x) rs → Has (happened.Asked p r h y) rs → g ≡ h
 
 quiet_group : (rs old : List Happened) → ((r : Happened) → Has r rs → Unasked r) → OneGroup old → OneGroup (rs ++ old)

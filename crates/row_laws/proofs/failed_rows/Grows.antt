@@ -9,7 +9,7 @@ use Rattle.rsct_packet.specs.Search.{Has}
 use Rattle.rsct_packet.proofs.HasLaws.{has_filter, has_append, append_has_left}
 use Rattle.group_attr.specs.declared.attrs.Attrs.{Attrs}
 use Rattle.proposal_core.specs.declared.proposal.Proposal.{Proposal}
-use Rattle.proposal_core.specs.declared.proposal.Proposal.TheVariants.{Join, Leave, Fail, Expel, State, Message, Attributes, Reflect}
+use Rattle.proposal_core.specs.declared.proposal.Proposal.TheVariants.{Join, Leave, Fail, Expel}
 use Rattle.proposal_core.specs.declared.entry.Entry.{Entry}
 use Rattle.proposal_core.specs.declared.entry.Entry.TheVariants.{Once, Begin, Phase, Approve, Reject, Late}
 use Rattle.proposal_core.specs.declared.group_state.GroupState.{GroupState}
@@ -33,23 +33,15 @@ effect_has s (Join ps attrs n) p h = ⊎_elim (λ (i : Has p (s.members ++ ps)).
 effect_has s (Leave q r) p h = left_has (λ z. not (among (q ∷ []) z)) s.members [] p h
 effect_has s (Fail out) p h = left_has (λ z. not (among (fallen_of out) z)) s.members [] p h
 effect_has s (Expel q r out) p h = left_has (λ z. not (among out z)) s.members [] p h
-effect_has s (State q r value) p h = h
-effect_has s (Message q r bytes) p h = h
-effect_has s (Attributes q r attrs) p h = h
-effect_has s (Reflect view place value) p h = h
+effect_has s _ p h = h
 
 rejected_has : (s : GroupState) (x : Proposal) (p : ProviderId) → Has p (present (take_rejection (record s { running = None }) x)) → Has p (s.members ++ joins_of x)
 unfolding take_rejection without
 rejected_has s (Join ps attrs n) p h = same_has s.members ps p h
-rejected_has s (Leave q r) p h = h
 rejected_has s (Fail out) p h = left_has (λ z. not (among (fallen_of out) z)) s.members [] p h
-rejected_has s (Expel q r out) p h = h
-rejected_has s (State q r value) p h = h
-rejected_has s (Message q r bytes) p h = h
-rejected_has s (Attributes q r attrs) p h = h
-rejected_has s (Reflect view place value) p h = h
+rejected_has s _ p h = h
 
-valued_present : (s : GroupState) (v : ViewId) (i : ℕ) (o : Option (List ℕ)) → present (take_value s v i o) ≡ present s
+pub valued_present : (s : GroupState) (v : ViewId) (i : ℕ) (o : Option (List ℕ)) → present (take_value s v i o) ≡ present s
 unfolding take_value
 valued_present s v i None = refl
 valued_present s v i (Some value) = refl
@@ -59,7 +51,7 @@ unfolding approve
 approved_has s v i value run p h =
     effect_has s run.proposal p (subst (Has p) (valued_present (effect (record s { running = None }) run.proposal) v i (replace_proposed value run.proposed)) h)
 
-attrs_members : (s : GroupState) (o : Option Attrs) → (take_attrs s o).members ≡ s.members
+pub attrs_members : (s : GroupState) (o : Option Attrs) → (take_attrs s o).members ≡ s.members
 unfolding take_attrs
 attrs_members s None = refl
 attrs_members s (Some attrs) = refl

@@ -9,7 +9,7 @@ use Rattle.rsct_packet.specs.declared.ids.ViewId.{ViewId}
 use Rattle.rsct_packet.specs.Search.{Has}
 use Rattle.rsct_packet.proofs.HasLaws.{has_append, has_filter, append_has_left, append_has_right}
 use Rattle.proposal_core.specs.declared.entry.Entry.{Entry}
-use Rattle.proposal_core.specs.declared.entry.Entry.TheVariants.{Once, Begin, Phase, Approve, Reject, Late}
+use Rattle.proposal_core.specs.declared.entry.Entry.TheVariants.{Once, Begin}
 use Rattle.proposal_core.specs.Fold.{joins_of}
 use Rattle.session_state.specs.declared.state.Provider.{Provider}
 use Rattle.session_state.specs.State.{provider_of}
@@ -95,10 +95,7 @@ begins_in t g e p x q h =
     named : (e : Entry) → Has p (brought_by e) → is_join_of p e ≡ true
     named (Once y) j = has_among (joins_of y) p j
     named (Begin y) j = has_among (joins_of y) p j
-    named (Phase c) j = absurd j
-    named (Approve c) j = absurd j
-    named (Reject c) j = absurd j
-    named (Late proto phase ps) j = absurd j
+    named _ j = absurd j
 
 notes_quiet : (s : Core) (g : List ℕ) (place : Option ℕ) (st : GroupState) (us : List Subscription) → AllQuiet (map (note_of s g place st) us)
 unfolding note_of

@@ -1,6 +1,6 @@
 -- What a call makes of who owns which provider: a join is its caller's, and no other call lets a provider come in.
 use Rattle.std.proofs.Common.{◌≡◌, ◌⊎◌, ◌≤◌, ℕ, ◌+◌, List, [], ◌∷◌, ◌++◌, Option, Some, None, Bool, true, false, refl, sym, ap, ◌∙◌, subst, inl, inr, arith}
-use Rattle.std.specs.Prelude.{◌==◌, ◌&&◌, ◌||◌, find, filter, fold, reverse, if◌then◌else◌, Result, Ok, Err}
+use Rattle.std.specs.Prelude.{◌==◌, ◌&&◌, ◌||◌, find, filter, reverse, if◌then◌else◌, Result, Ok, Err}
 use Rattle.std.specs.List.{list_any, last_or}
 use Rattle.std.proofs.lemmas.Bool.{eqb-true, eq-eqb}
 use Rattle.rsct_packet.specs.declared.ids.ProviderId.{ProviderId}
@@ -28,12 +28,13 @@ use Rattle.node_state.specs.declared.call.CallLine.TheVariants as call
 use Rattle.node_state.specs.declared.happened.Happened.{Happened}
 use Rattle.node_state.specs.declared.happened.Happened.TheVariants as happened
 use Rattle.node_state.specs.declared.state.Core.{Core}
-use Rattle.node_state.specs.State.{frozen, leader_of, holds, recorded, with_sessions}
-use Rattle.node_state.specs.Sending.{send_request_to, send_request, send_kept_to, send_kept}
-use Rattle.node_state.specs.Calls.{caller, subscriber, refuse_call, changed, ask_last, proposed, record_ballot, ballot_sent_if, cast_last, give_ballot, send_gone, send_all_gone, goodbye_said, take_call}
+use Rattle.node_state.specs.State.{frozen, holds, recorded, with_sessions}
+use Rattle.node_state.specs.Sending.{send_request, send_kept}
+use Rattle.node_state.specs.Calls.{caller, subscriber, refuse_call, changed, ask_last, proposed, record_ballot, ballot_sent_if, cast_last, give_ballot, send_all_gone, goodbye_said, take_call}
 use Rattle.run_safety.specs.Stays.{asks_join, is_join_call}
 use Rattle.step_refinement.proofs.SessionLaws.{provider_self}
-use Rattle.row_laws.proofs.hearing.Changes.{Sends, sends_nothing, sends_one, sends_known, sends_fold}
+use Rattle.row_laws.proofs.hearing.Changes.{Sends}
+use Rattle.row_laws.proofs.hearing.Rules.{request_sends, kept_sends, gone_sends}
 use Rattle.row_laws.proofs.hearing.Sessions.{Casts, casts_voted, unless_is}
 use Rattle.row_laws.proofs.failed_rows.Living.{slim_same, last_is, NewAsks, left_lives, expelled_lives, state_lives, message_lives, attributes_lives}
 use Rattle.row_laws.proofs.failed_rows.Owners.{Owned, owned_slim, known_session, owned_added, owned_ended}
@@ -42,47 +43,17 @@ use Rattle.row_laws.proofs.failed_rows.Owners.{Owned, owned_slim, known_session,
 abbrev pub client_now : (ProviderId → Option (List ℕ)) → CallLine → List Happened → ProviderId → Option (List ℕ)
 client_now of c rs p = if list_any (asks_join p) (reverse rs) then is_join_call c else of p
 
-unless_none : (o : Option GsFault) (t u : SessionState) → unless_fault o t ≡ Ok u → o ≡ None
+pub unless_none : (o : Option GsFault) (t u : SessionState) → unless_fault o t ≡ Ok u → o ≡ None
 unless_none None t u e = refl
 unless_none (Some f) t u e = absurd (cc)
 
 -- the first record
-first_asks : (p : ProviderId) (rs : List Happened) (r : Happened) (b : Bool) → rs ≡ [] → asks_join p r ≡ b → list_any (asks_join p) (reverse (rs ++ r ∷ [])) ≡ b
+pub first_asks : (p : ProviderId) (rs : List Happened) (r : Happened) (b : Bool) → rs ≡ [] → asks_join p r ≡ b → list_any (asks_join p) (reverse (rs ++ r ∷ [])) ≡ b
 first_asks p rs r b none e = ap (λ z. list_any (asks_join p) (reverse (z ++ r ∷ []))) none ∙ ap (λ z. z || false) e ∙ or_false b
   where
     or_false : (b : Bool) → (b || false) ≡ b
     or_false true = refl
     or_false false = refl
-
--- ---- what is sent
-
-request_sends : (c : Core) (q : Request) → Sends c (send_request c q)
-unfolding send_request send_request_to
-request_sends c q = by (frozen c)
-  where
-    to : (o : Option ℕ) → Sends c (send_request_to c q o)
-    to None = sends_one c _ _
-    to (Some n) = sends_one c _ _
-
-    by : (b : Bool) → Sends c (elim b as (λ _. Core) [ true ↦ c | false ↦ send_request_to c q (leader_of c q.group) ])
-    by true = sends_nothing c
-    by false = to (leader_of c q.group)
-
-kept_sends : (c : Core) (k : KeptBallot) → Sends c (send_kept c k)
-unfolding send_kept send_kept_to
-kept_sends c k = by k.ballot.filled
-  where
-    by : (o : Option Filled) → Sends c (send_kept_to c k (leader_of c k.group) o)
-    by None = sends_nothing c
-    by (Some b) = sends_known c _ _
-
-gone_sends : (c : Core) (xs : List Provider) → Sends c (send_all_gone c xs)
-unfolding send_all_gone send_gone
-gone_sends c xs = by (frozen c)
-  where
-    by : (b : Bool) → Sends c (elim b as (λ _. Core) [ true ↦ c | false ↦ fold send_gone c xs ])
-    by true = sends_nothing c
-    by false = sends_fold send_gone (λ t x. sends_known t _ _) xs c
 
 -- ---- requests of those who are there
 
@@ -95,30 +66,30 @@ pub record Asks (s u : SessionState) : Type 0 where
   pub sessions : u.sessions ≡ s.sessions
   pub clients : u.last_client ≡ s.last_client
 
-asked_asks : (s : SessionState) (x : Provider) (phases : Phases) (make : ℕ → Proposal) (o : Option GsFault) (u : SessionState) → unless_fault o (asked s x phases make) ≡ Ok u → Asks s u
+pub asked_asks : (s : SessionState) (x : Provider) (phases : Phases) (make : ℕ → Proposal) (o : Option GsFault) (u : SessionState) → unless_fault o (asked s x phases make) ≡ Ok u → Asks s u
 unfolding asked
 asked_asks s x phases make o u e = subst (Asks s) (sym (unless_is o (asked s x phases make) u e)) (record { request = q; last = last_is s.requests q None; number = refl; providers = refl; sessions = refl; clients = refl })
   where
     q : Request
     q = record { p = x.p; r = s.last_request + 1; group = x.group; phases = phases; proposal = make (s.last_request + 1) }
 
-if_asks : (s : SessionState) (b : Bool) (r : Result SessionState GsFault) (u : SessionState) → (r ≡ Ok u → Asks s u) → if_session b r ≡ Ok u → Asks s u
+pub if_asks : (s : SessionState) (b : Bool) (r : Result SessionState GsFault) (u : SessionState) → (r ≡ Ok u → Asks s u) → if_session b r ≡ Ok u → Asks s u
 if_asks s true r u k e = absurd (cc)
 if_asks s false r u k e = k e
 
-member_made : (s : SessionState) (o : Option Provider) (phases : Phases) (f : Option GsFault) (make : Provider → ℕ → Proposal) (u : SessionState) → member_asks s o phases f make ≡ Ok u → Asks s u
+pub member_made : (s : SessionState) (o : Option Provider) (phases : Phases) (f : Option GsFault) (make : Provider → ℕ → Proposal) (u : SessionState) → member_asks s o phases f make ≡ Ok u → Asks s u
 member_made s None phases f make u e = absurd (cc)
 member_made s (Some x) phases f make u e = asked_asks s x phases (make x) (ask_fault s x f) u e
 
-member_changed : (s : SessionState) (o : Option Provider) (phases : Phases) (attrs : Attrs) (u : SessionState) → member_changes s o phases attrs ≡ Ok u → Asks s u
+pub member_changed : (s : SessionState) (o : Option Provider) (phases : Phases) (attrs : Attrs) (u : SessionState) → member_changes s o phases attrs ≡ Ok u → Asks s u
 member_changed s None phases attrs u e = absurd (cc)
 member_changed s (Some x) phases attrs u e = asked_asks s x phases (λ r. Attributes x.p r attrs) _ u e
 
-made_asks : (s : SessionState) (m : MemberToken) (phases : Phases) (f : Option GsFault) (make : Provider → ℕ → Proposal) (u : SessionState) → request_made s m phases f make ≡ Ok u → Asks s u
+pub made_asks : (s : SessionState) (m : MemberToken) (phases : Phases) (f : Option GsFault) (make : Provider → ℕ → Proposal) (u : SessionState) → request_made s m phases f make ≡ Ok u → Asks s u
 unfolding request_made
 made_asks s m phases f make u = if_asks s (is_empty s.sessions) _ u (member_made s (find (is_member_of m) s.providers) phases f make u)
 
-changes_asks : (s : SessionState) (m : MemberToken) (phases : Phases) (attrs : Attrs) (u : SessionState) → attributes_changed s m phases attrs ≡ Ok u → Asks s u
+pub changes_asks : (s : SessionState) (m : MemberToken) (phases : Phases) (attrs : Attrs) (u : SessionState) → attributes_changed s m phases attrs ≡ Ok u → Asks s u
 unfolding attributes_changed
 changes_asks s m phases attrs u = if_asks s (is_empty s.sessions) _ u (member_changed s (find (is_member_of m) s.providers) phases attrs u)
 
@@ -384,19 +355,19 @@ module _ (s : Core) (none : s.records ≡ []) (own : (x : Provider) → Has x s.
       one : OneOf (s.records ++ a ∷ [])
       one = subst (λ z. OneOf (z ++ a ∷ [])) (sym none) at
 
-left_asks : (s : SessionState) (m : MemberToken) (phases : Phases) (u : SessionState) → left s m phases ≡ Ok u → Asks s u
+pub left_asks : (s : SessionState) (m : MemberToken) (phases : Phases) (u : SessionState) → left s m phases ≡ Ok u → Asks s u
 unfolding left
 left_asks s m phases = made_asks s m phases _ _
 
-expelled_asks : (s : SessionState) (m : MemberToken) (phases : Phases) (out : List ProviderId) (u : SessionState) → expelled s m phases out ≡ Ok u → Asks s u
+pub expelled_asks : (s : SessionState) (m : MemberToken) (phases : Phases) (out : List ProviderId) (u : SessionState) → expelled s m phases out ≡ Ok u → Asks s u
 unfolding expelled
 expelled_asks s m phases out = made_asks s m phases _ _
 
-state_asks : (s : SessionState) (m : MemberToken) (phases : Phases) (value : List ℕ) (u : SessionState) → state_changed s m phases value ≡ Ok u → Asks s u
+pub state_asks : (s : SessionState) (m : MemberToken) (phases : Phases) (value : List ℕ) (u : SessionState) → state_changed s m phases value ≡ Ok u → Asks s u
 unfolding state_changed
 state_asks s m phases value = made_asks s m phases _ _
 
-message_asks : (s : SessionState) (m : MemberToken) (phases : Phases) (bytes : List ℕ) (u : SessionState) → message_sent s m phases bytes ≡ Ok u → Asks s u
+pub message_asks : (s : SessionState) (m : MemberToken) (phases : Phases) (bytes : List ℕ) (u : SessionState) → message_sent s m phases bytes ≡ Ok u → Asks s u
 unfolding message_sent
 message_asks s m phases bytes = made_asks s m phases _ _
 

@@ -75,7 +75,7 @@ none_refused [] all = refl
 none_refused (r ∷ rs) all = ap (λ b. b || list_any is_refused rs) (all r (inl refl)) ∙ none_refused rs (λ q i. all q (inr i))
 
 module _ (w : Scene) (n : ℕ) (f : Answering) (s : Core) (e : NodeEvent) (v : Event) (up : w.cores n ≡ Some s) (rests : (g : List ℕ) → Rests g w) (after : (g : List ℕ) → Rests g (ended w n v (stepped f s e))) (arises : Arises w e) (says : Names n e v) (counts : inc_now n (records_of w.before) ≡ w.incs n) (k : Holds (if_up fails) w) where
-  abbrev t : Core
+  abbrev pub t : Core
   t = stepped f s e
 
   -- a goodbye of this event is taken
@@ -85,13 +85,13 @@ module _ (w : Scene) (n : ℕ) (f : Answering) (s : Core) (e : NodeEvent) (v : E
   abbrev Said : ProviderId → Type 0
   Said p = ((l : Leaves) × (p.node ≡ n) × (is_named l.0 (client_of p w.before) ≡ true)) ⊎ SaidGoodbye w.before p
 
-  were : CoreFails w.before s
+  pub were : CoreFails w.before s
   were = subst (IfUp (CoreFails w.before)) up (k.nodes n)
 
-  is_node : NodeIsIf w.config (rests []).ghost [] n (w.incs n) (Some s)
+  pub is_node : NodeIsIf w.config (rests []).ghost [] n (w.incs n) (Some s)
   is_node = subst (NodeIsIf w.config (rests []).ghost [] n (w.incs n)) up ((rests []).nodes n)
 
-  counted : inc_now s.views.me (records_of w.before) ≡ s.views.inc
+  pub counted : inc_now s.views.me (records_of w.before) ≡ s.views.inc
   counted = ap (λ m. inc_now m (records_of w.before)) ((is_node.0).stands.me) ∙ counts ∙ sym is_node.2
 
   begin : CoreFails w.before s → At w.before Said (origin_of s None) (Unit {0}) (Unit {0}) Leaves Every NoGroup Every (at_work s)
@@ -149,7 +149,7 @@ module _ (w : Scene) (n : ℕ) (f : Answering) (s : Core) (e : NodeEvent) (v : E
       goodbye (call.Subscribe client g) q m x i = absurd m
       goodbye (call.Unsubscribe client g) q m x i = absurd m
 
-  at : At w.before Said (origin_of s (Some (root_of (at_work s) e))) (Unit {0}) (Unit {0}) Leaves Every NoGroup Every t
+  pub at : At w.before Said (origin_of s (Some (root_of (at_work s) e))) (Unit {0}) (Unit {0}) Leaves Every NoGroup Every t
   at = at_stepped w n f s Said Leaves e k.sent (λ h. begin_tied h w n s up (rests h)) arises at_begin calls
 
   -- whoever asks in this event asks by the call
@@ -160,10 +160,10 @@ module _ (w : Scene) (n : ℕ) (f : Answering) (s : Core) (e : NodeEvent) (v : E
   pub asked_here : (p : ProviderId) (r : ℕ) (g : List ℕ) (x : Proposal) → Has (happened.Asked p r g x) t.records → p.node ≡ t.views.me
   asked_here p r g x i = at.whose (happened.Asked p r g x) i
 
-  fit : BasesFit t.records
+  pub fit : BasesFit t.records
   fit r i = noted_fit (ended w n v t) after r (has_turned r t.records (records_of w.before) (append_has_left r t.records (records_of w.before) i))
 
-  me : t.views.me ≡ n
+  pub me : t.views.me ≡ n
   me = who_is (ended w n v t) (after []) n t (set_here w.cores n (Some t))
 
   -- a goodbye of this event, or of an earlier one
@@ -202,10 +202,10 @@ module _ (w : Scene) (n : ℕ) (f : Answering) (s : Core) (e : NodeEvent) (v : E
   sent_gone (body.Reply question text) c = tt
 
   -- after a call each provider is of the client whose call joined it
-  abbrev root : Core
+  abbrev pub root : Core
   root = root_of (at_work s) e
 
-  rooted : (e : NodeEvent) → Names n e v → Owned (λ p. if list_any (asks_join p) (reverse (root_of (at_work s) e).records) then joining_client (Some v) else client_of p w.before) (root_of (at_work s) e).sessions
+  pub rooted : (e : NodeEvent) → Names n e v → Owned (λ p. if list_any (asks_join p) (reverse (root_of (at_work s) e).records) then joining_client (Some v) else client_of p w.before) (root_of (at_work s) e).sessions
   rooted Ticks says = were.owners
   rooted (Asks mask) says = were.owners
   rooted (Given p) says = were.owners

@@ -1,14 +1,13 @@
 -- What the leader of a group does.
-use Rattle.std.proofs.Common.{◌≡◌, ◌⊎◌, ℕ, zero, suc, ◌-◌, max, List, [], ◌∷◌, drop, Option, Some, None, Bool, true, false, refl, sym, ap, ◌∙◌, subst, inl, inr}
-use Rattle.std.specs.Prelude.{not, filter, find, fold, nat_le, if◌then◌else◌, reverse, ◌++◌}
-use Rattle.std.proofs.lemmas.Bool.{and_parts}
+use Rattle.std.proofs.Common.{◌≡◌, ◌⊎◌, ℕ, zero, suc, List, [], ◌∷◌, Option, Some, None, Bool, true, false, refl, sym, ap, ◌∙◌, subst, inl, inr}
+use Rattle.std.specs.Prelude.{not, filter, find, fold, nat_le, reverse, ◌++◌}
+use Rattle.std.proofs.lemmas.Bool.{and_parts, not-true}
 use Rattle.rsct_packet.specs.declared.ids.ViewId.{ViewId}
 use Rattle.rsct_packet.specs.declared.ids.ProtoId.{ProtoId}
 use Rattle.rsct_packet.specs.declared.ids.ProviderId.{ProviderId}
 use Rattle.rsct_packet.specs.Providers.{among}
 use Rattle.rsct_packet.specs.Search.{Has}
 use Rattle.rsct_packet.proofs.HasLaws.{has_filter}
-use Rattle.group_attr.specs.declared.attrs.Attrs.{Attrs}
 use Rattle.group_attr.specs.declared.attrs.Phases.{Phases}
 use Rattle.group_attr.specs.declared.attrs.Phases.TheVariants.{One, Many}
 use Rattle.proposal_core.specs.declared.proposal.Cause.{Cause}
@@ -21,10 +20,9 @@ use Rattle.proposal_core.specs.declared.entry.Entry.{Entry}
 use Rattle.proposal_core.specs.declared.entry.Entry.TheVariants.{Once, Begin, Phase, Approve, Reject, Late}
 use Rattle.proposal_core.specs.declared.group_state.GroupState.{GroupState}
 use Rattle.proposal_core.specs.declared.group_state.Running.{Running}
-use Rattle.proposal_core.specs.Fold.{max_phases, joins_of, joiners_in, fits, take_attrs, first_attrs, begun, next_phase, apply, after_if, after}
+use Rattle.proposal_core.specs.Fold.{max_phases, joins_of, joiners_in, fits, first_attrs, begun, next_phase, apply, after_if, after}
 use Rattle.proposal_core.proofs.FoldLaws.{idle_approved, idle_rejected}
-use Rattle.proposal_core.specs.GroupView.{GroupView}
-use Rattle.proposal_core.specs.Lists.{list_or_new, state_in, len_in, has_room, entry_fits, with_entry, forgotten}
+use Rattle.proposal_core.specs.Lists.{list_or_new, state_in, len_in, has_room, entry_fits, with_entry}
 use Rattle.batch_rules.specs.Waiting.{WaitingView, add_failure}
 use Rattle.vote_phases.specs.Tally.{TallyView, outcome}
 use Rattle.view_state.specs.declared.views.Views.{Views}
@@ -41,9 +39,12 @@ use Rattle.node_state.specs.Leading.{put, forget_least, with_waiting, wait_if, n
 use Rattle.run_safety.specs.Past.{History, records_of}
 use Rattle.node_state.proofs.NameOrder.{row_here}
 use Rattle.step_refinement.proofs.Appending.{handed_rows}
+use Rattle.step_walk.proofs.Asides.{forgotten_len, forgotten_state}
 use Rattle.row_laws.proofs.honest_votes.At.{found, leads_row}
+use Rattle.row_laws.proofs.honest_votes.Changes.{once_idle}
 use Rattle.row_laws.specs.failed_rows.Failures.{GoneCause, EntryFails, LeavesFail}
 use Rattle.row_laws.proofs.failed_rows.Queues.{Stays, BringsNone, stays_after, failed_stays}
+use Rattle.row_laws.proofs.failed_rows.Grows.{attrs_members}
 use Rattle.row_laws.proofs.failed_rows.Waiting.{one_waits}
 use Rattle.row_laws.proofs.hearing.Changes.{Sends, sends_all, same_sends, put_order, put_views, handed_onward}
 use Rattle.row_laws.proofs.hearing.Handing.{has_among}
@@ -57,42 +58,11 @@ use Rattle.row_laws.proofs.failed_rows.Puts.{put_row, held_is, put_holds, taken_
 
 -- ---- lists
 
-forgotten_len : (l : Option GroupView) (n : ℕ) → len_in (list_forgotten n l) ≡ len_in l
-unfolding forgotten
-forgotten_len None n = refl
-forgotten_len (Some l) n = by (nat_le n l.len)
-  where
-    by : (b : Bool) → (if b then record l { start = max l.start n; entries = drop (n - l.start) l.entries } else l).len ≡ l.len
-    by true = refl
-    by false = refl
-
-forgotten_state : (l : Option GroupView) (n : ℕ) → state_in (list_forgotten n l) ≡ state_in l
-unfolding forgotten
-forgotten_state None n = refl
-forgotten_state (Some l) n = by (nat_le n l.len)
-  where
-    by : (b : Bool) → (if b then record l { start = max l.start n; entries = drop (n - l.start) l.entries } else l).state ≡ l.state
-    by true = refl
-    by false = refl
-
 after_is : (st : GroupState) (v : ViewId) (i : ℕ) (e : Entry) → fits st e ≡ true → after st v i e ≡ apply st v i e
 unfolding after after_if
 after_is st v i e f = ap (λ b. after_if st v i e b) f
 
--- an entry that begins and ends at once leaves nothing running
-once_idle : (st : GroupState) (v : ViewId) (i : ℕ) (x : Proposal) → fits st (Once x) ≡ true → (after st v i (Once x)).running ≡ None
-unfolding apply
-once_idle st v i x f = ap (λ (z : GroupState). z.running) (after_is st v i (Once x) f) ∙ idle_approved (begun st v i x) v i None (begun st v i x).running refl
-
 -- ---- who becomes a member
-
-attrs_members : (s : GroupState) (x : Proposal) → (take_attrs s (first_attrs s x)).members ≡ s.members
-unfolding take_attrs
-attrs_members s x = by (first_attrs s x)
-  where
-    by : (o : Option Attrs) → (take_attrs s o).members ≡ s.members
-    by None = refl
-    by (Some a) = refl
 
 phase_members : (s : GroupState) (value : Option (List ℕ)) (run : Option Running) → (next_phase s value run).members ≡ s.members
 unfolding next_phase
@@ -103,7 +73,7 @@ phase_members s value (Some run) = refl
 new_idle : (s : GroupState) (v : ViewId) (i : ℕ) (e : Entry) (p : ProviderId) → among s.members p ≡ false → among (apply s v i e).members p ≡ true → (apply s v i e).running ≡ None
 unfolding apply begun
 new_idle s v i (Once x) p f k = idle_approved (begun s v i x) v i None (begun s v i x).running refl
-new_idle s v i (Begin x) p f k = absurd (let z : among s.members p ≡ true = ap (λ ms. among ms p) (sym (attrs_members s x)) ∙ k in cc)
+new_idle s v i (Begin x) p f k = absurd (let z : among s.members p ≡ true = ap (λ ms. among ms p) (sym (attrs_members s (first_attrs s x))) ∙ k in cc)
 new_idle s v i (Phase c) p f k = absurd (let z : among s.members p ≡ true = ap (λ ms. among ms p) (sym (phase_members s c.value s.running)) ∙ k in cc)
 new_idle s v i (Approve c) p f k = idle_approved s v i c.value s.running refl
 new_idle s v i (Reject c) p f k = idle_rejected s s.running refl
@@ -113,10 +83,6 @@ new_no_joiner : (s : GroupState) (v : ViewId) (i : ℕ) (e : Entry) (p : Provide
 new_no_joiner s v i e p f out in_now =
     let a = after_is s v i e f in
     ap (λ (z : GroupState). among (joiners_in z.running) p) a ∙ ap (λ z. among (joiners_in z) p) (new_idle s v i e p out (ap (λ (z : GroupState). among z.members p) (sym a) ∙ in_now))
-
-not_true : (b : Bool) → not b ≡ true → b ≡ false
-not_true true e = absurd (cc)
-not_true false e = refl
 
 -- ---- where what runs is as it was, so is the tally
 
@@ -172,7 +138,7 @@ module _ (h : History) (said : ProviderId → Type 0) (origin : Origin) (P L M :
     pub at_forgets : (s : Core) (g : List ℕ) (n : ℕ) → At h said origin P L M T G Q s → At h said origin P L M T G Q (forget_below s g n)
     unfolding forget_below
     at_forgets s g n a =
-        at_row_for h said origin P L M T G Q T Q s g (λ row. record row { list = list_forgotten n row.list }) (λ x. refl) (λ x. refl) (λ x. forgotten_len x.list n) (λ x. forgotten_state x.list n) (λ x z. z) (λ y p i. a.marks y g p i) (λ k t ne. t) (λ k t ne. t) (λ t. a.tallies g t) (λ fit q. a.queues fit g q) a
+        at_row_for h said origin P L M T G Q T Q s g (λ row. record row { list = list_forgotten n row.list }) (λ x. refl) (λ x. refl) (λ x. forgotten_len n x.list) (λ x. forgotten_state n x.list) (λ x z. z) (λ y p i. a.marks y g p i) (λ k t ne. t) (λ k t ne. t) (λ t. a.tallies g t) (λ fit q. a.queues fit g q) a
 
     pub at_forgets_least : (s : Core) (g : List ℕ) → At h said origin P L M T G Q s → At h said origin P L M T G Q (forget_least s g)
     unfolding forget_least
@@ -250,7 +216,7 @@ module _ (h : History) (said : ProviderId → Type 0) (origin : Origin) (P L M :
 
         x_state : state_in (found x g).list ≡ st
         x_state =
-            ap (λ (z : GroupRow). state_in z.list) (row_here g (λ row. record row { list = list_forgotten (least_acked w g) row.list }) (λ x. refl) w handed_at.order) ∙ forgotten_state (found w g).list (least_acked w g) ∙ ap (λ rows. state_in (row_found g (find (has_name g) rows)).list) ((handed_rows f u (leader_of u g) g (len_of s g) (state_of s g) st e).0 ∙ sends.groups)
+            ap (λ (z : GroupRow). state_in z.list) (row_here g (λ row. record row { list = list_forgotten (least_acked w g) row.list }) (λ x. refl) w handed_at.order) ∙ forgotten_state (least_acked w g) (found w g).list ∙ ap (λ rows. state_in (row_found g (find (has_name g) rows)).list) ((handed_rows f u (leader_of u g) g (len_of s g) (state_of s g) st e).0 ∙ sends.groups)
 
         st_is : st ≡ after (state_in (found s g).list) s.views.view (list_or_new (found s g).list).len e
         st_is = ap (λ (z : GroupRow). state_in z.list) (row_here g (λ row. put_row s row e) (λ x. refl) s a.order)
@@ -258,7 +224,7 @@ module _ (h : History) (said : ProviderId → Type 0) (origin : Origin) (P L M :
         died : (p : ProviderId) → Has p new → among st.failed p ≡ true → Stays st p ≡ true
         died p i failed =
             let k = has_filter (λ p. not (among (state_of s g).members p)) p st.members i in
-            failed_stays st p failed (ap (λ (z : GroupState). among (joiners_in z.running) p) st_is ∙ new_no_joiner (state_in (found s g).list) s.views.view (list_or_new (found s g).list).len e p fit (not_true (among (state_of s g).members p) k.1) (ap (λ (z : GroupState). among z.members p) (sym st_is) ∙ has_among st.members p k.0))
+            failed_stays st p failed (ap (λ (z : GroupState). among (joiners_in z.running) p) st_is ∙ new_no_joiner (state_in (found s g).list) s.views.view (list_or_new (found s g).list).len e p fit (not-true (among (state_of s g).members p) k.1) (ap (λ (z : GroupState). among z.members p) (sym st_is) ∙ has_among st.members p k.0))
 
   -- ---- the tally of a phase
 

@@ -2,6 +2,7 @@
 use Rattle.std.proofs.Common.{◌≡◌, ◌⊎◌, ℕ, List, [], ◌∷◌, ◌++◌, Option, Some, None, Bool, true, false, refl, sym, ap, ◌∙◌, subst, inl, inr}
 use Rattle.std.specs.Prelude.{◌+◌, not, cond, ◌||◌, find, fold, filter, if◌then◌else◌, Result, Ok, Err}
 use Rattle.std.specs.List.{last_or, list_any}
+use Rattle.std.proofs.lemmas.Bool.{not-true}
 use Rattle.rsct_packet.specs.declared.ids.ProviderId.{ProviderId}
 use Rattle.rsct_packet.specs.Providers.{among, same_provider}
 use Rattle.rsct_packet.specs.Search.{Has, edit_where}
@@ -10,7 +11,7 @@ use Rattle.group_attr.specs.declared.attrs.Attrs.{Attrs}
 use Rattle.group_attr.specs.declared.attrs.Phases.{Phases}
 use Rattle.group_attr.specs.declared.attrs.Phases.TheVariants.{One}
 use Rattle.proposal_core.specs.declared.entry.Entry.{Entry}
-use Rattle.proposal_core.specs.declared.entry.Entry.TheVariants.{Once, Begin, Phase, Approve, Reject, Late}
+use Rattle.proposal_core.specs.declared.entry.Entry.TheVariants.{Once, Begin, Phase, Approve, Reject}
 use Rattle.proposal_core.specs.declared.proposal.Proposal.{Proposal}
 use Rattle.proposal_core.specs.declared.proposal.Proposal.TheVariants.{Join, Leave, Fail, Expel, State, Message, Attributes, Reflect}
 use Rattle.proposal_core.specs.declared.group_state.GroupState.{GroupState}
@@ -42,12 +43,12 @@ use Rattle.row_laws.proofs.hearing.Handing.{among_is, has_among}
 abbrev pub IsLive : SessionState → ProviderId → Type 0
 IsLive t p = (x : Provider) × Has x t.providers × (x.p ≡ p)
 
-live_same : (s t : SessionState) (p : ProviderId) → t.providers ≡ s.providers → IsLive s p → IsLive t p
+pub live_same : (s t : SessionState) (p : ProviderId) → t.providers ≡ s.providers → IsLive s p → IsLive t p
 live_same s t p e k = (k.0, subst (Has k.0) (sym e) k.1, k.2)
 
 -- ---- edits
 
-edited : (q : ProviderId) (f : Provider → Provider) → ((x : Provider) → (f x).p ≡ x.p) → (xs : List Provider) (x : Provider) → Has x xs → (y : Provider) × Has y (edit_where (is_provider q) f xs) × (y.p ≡ x.p)
+pub edited : (q : ProviderId) (f : Provider → Provider) → ((x : Provider) → (f x).p ≡ x.p) → (xs : List Provider) (x : Provider) → Has x xs → (y : Provider) × Has y (edit_where (is_provider q) f xs) × (y.p ≡ x.p)
 edited q f keeps [] x i = absurd i
 edited q f keeps (z ∷ zs) x i = by (is_provider q z) i (edited q f keeps zs x)
   where
@@ -57,11 +58,11 @@ edited q f keeps (z ∷ zs) x i = by (is_provider q z) i (edited q f keeps zs x)
     by false (inl e) rest = (x, inl e, refl)
     by false (inr j) rest = let k = rest j in (k.0, inr k.1, k.2)
 
-live_edit : (s : SessionState) (q : ProviderId) (f : Provider → Provider) → ((x : Provider) → (f x).p ≡ x.p) → (p : ProviderId) → IsLive s p → IsLive (with_provider s q f) p
+pub live_edit : (s : SessionState) (q : ProviderId) (f : Provider → Provider) → ((x : Provider) → (f x).p ≡ x.p) → (p : ProviderId) → IsLive s p → IsLive (with_provider s q f) p
 unfolding with_provider
 live_edit s q f keeps p k = let z = edited q f keeps s.providers k.0 k.1 in (z.0, z.1, z.2 ∙ k.2)
 
-live_edits : (f : Provider → Provider) → ((x : Provider) → (f x).p ≡ x.p) → (p : ProviderId) (qs : List ProviderId) (s : SessionState) → IsLive s p → IsLive (fold (λ t q. with_provider t q f) s qs) p
+pub live_edits : (f : Provider → Provider) → ((x : Provider) → (f x).p ≡ x.p) → (p : ProviderId) (qs : List ProviderId) (s : SessionState) → IsLive s p → IsLive (fold (λ t q. with_provider t q f) s qs) p
 live_edits f keeps p [] s k = k
 live_edits f keeps p (q ∷ qs) s k = live_edits f keeps p qs (with_provider s q f) (live_edit s q f keeps p k)
 
@@ -72,52 +73,31 @@ live_without s out p off k =
 
 -- ---- an entry is handed on
 
-opened_p : (e : Entry) (after : GroupState) (x : Provider) → (opened_after e after x).p ≡ x.p
+pub opened_p : (e : Entry) (after : GroupState) (x : Provider) → (opened_after e after x).p ≡ x.p
 unfolding opened_after
 opened_p (Once x) after y = refl
-opened_p (Begin x) after y = refl
-opened_p (Phase c) after y = refl
-opened_p (Approve c) after y = refl
-opened_p (Reject c) after y = refl
-opened_p (Late proto phase ps) after y = refl
+opened_p _ after y = refl
 
-after_providers : (s : SessionState) (g : List ℕ) (e : Entry) → (kept_after s g e).providers ≡ s.providers
+pub after_providers : (s : SessionState) (g : List ℕ) (e : Entry) → (kept_after s g e).providers ≡ s.providers
 unfolding kept_after kept_ended
 after_providers s g (Once x) = refl
-after_providers s g (Begin x) = refl
-after_providers s g (Phase c) = refl
-after_providers s g (Approve c) = refl
-after_providers s g (Reject c) = refl
-after_providers s g (Late proto phase ps) = refl
+after_providers s g _ = refl
 
-joins_providers : (ps : List ProviderId) (s : SessionState) → (fold (λ t (p : ProviderId). end_request t p p.join) s ps).providers ≡ s.providers
+pub joins_providers : (ps : List ProviderId) (s : SessionState) → (fold (λ t (p : ProviderId). end_request t p p.join) s ps).providers ≡ s.providers
 unfolding end_request
 joins_providers [] s = refl
 joins_providers (p ∷ ps) s = joins_providers ps (end_request s p p.join)
 
-begun_providers : (s : SessionState) (x : Proposal) → (proposal_begun s x).providers ≡ s.providers
+pub begun_providers : (s : SessionState) (x : Proposal) → (proposal_begun s x).providers ≡ s.providers
 unfolding proposal_begun end_request
 begun_providers s (Join ps attrs n) = joins_providers ps s
-begun_providers s (Leave p r) = refl
-begun_providers s (Fail out) = refl
-begun_providers s (Expel p r out) = refl
-begun_providers s (State p r value) = refl
-begun_providers s (Message p r bytes) = refl
-begun_providers s (Attributes p r attrs) = refl
-begun_providers s (Reflect view place value) = refl
+begun_providers s _ = refl
 
-requests_providers : (s : SessionState) (e : Entry) → (requests_after s e).providers ≡ s.providers
+pub requests_providers : (s : SessionState) (e : Entry) → (requests_after s e).providers ≡ s.providers
 unfolding requests_after
 requests_providers s (Once x) = begun_providers s x
 requests_providers s (Begin x) = begun_providers s x
-requests_providers s (Phase c) = refl
-requests_providers s (Approve c) = refl
-requests_providers s (Reject c) = refl
-requests_providers s (Late proto phase ps) = refl
-
-not_false : (b : Bool) → not b ≡ true → b ≡ false
-not_false true e = absurd (cc)
-not_false false e = refl
+requests_providers s _ = refl
 
 pub handed_lives : (s : SessionState) (g : List ℕ) (before after : GroupState) (e : Entry) (bs : List (Option Filled)) (p : ProviderId) → IsLive s p → IsLive (handed_on s g before after e bs) p ⊎ (Has p (hearers s g before e) × (is_present after p ≡ false))
 unfolding handed_on heard part_taken open_phases keep_casts removed_from
@@ -138,7 +118,7 @@ handed_lives s g before after e bs p k = by (among (filter (λ p. not (is_presen
 
     by : (b : Bool) → among (filter (λ p. not (is_present after p)) ps) p ≡ b → IsLive (without_providers (requests_after u e) (filter (λ p. not (is_present after p)) ps)) p ⊎ (Has p ps × (is_present after p ≡ false))
     by false q = inl (live_without (requests_after u e) (filter (λ p. not (is_present after p)) ps) p q live)
-    by true q = let j = has_filter (λ p. not (is_present after p)) p ps (among_is (filter (λ p. not (is_present after p)) ps) p q) in inr (j.0, not_false (is_present after p) j.1)
+    by true q = let j = has_filter (λ p. not (is_present after p)) p ps (among_is (filter (λ p. not (is_present after p)) ps) p q) in inr (j.0, not-true (is_present after p) j.1)
 
 -- ---- a provider is told
 
@@ -284,15 +264,15 @@ abbrev pub SameProviders : SessionState → Result SessionState GsFault → Type
 SameProviders s (Ok t) = t.providers ≡ s.providers
 SameProviders s (Err f) = Unit {0}
 
-unless_same : (s t : SessionState) (o : Option GsFault) → t.providers ≡ s.providers → SameProviders s (unless_fault o t)
+pub unless_same : (s t : SessionState) (o : Option GsFault) → t.providers ≡ s.providers → SameProviders s (unless_fault o t)
 unless_same s t None e = e
 unless_same s t (Some f) e = tt
 
-if_same : (s : SessionState) (b : Bool) (r : Result SessionState GsFault) → SameProviders s r → SameProviders s (if_session b r)
+pub if_same : (s : SessionState) (b : Bool) (r : Result SessionState GsFault) → SameProviders s r → SameProviders s (if_session b r)
 if_same s true r k = tt
 if_same s false r k = k
 
-made_same : (s : SessionState) (m : MemberToken) (phases : Phases) (parameter : Option GsFault) (make : Provider → ℕ → Proposal) → SameProviders s (request_made s m phases parameter make)
+pub made_same : (s : SessionState) (m : MemberToken) (phases : Phases) (parameter : Option GsFault) (make : Provider → ℕ → Proposal) → SameProviders s (request_made s m phases parameter make)
 unfolding request_made asked
 made_same s m phases parameter make =
     if_same s (is_empty s.sessions) (member_asks s (find (is_member_of m) s.providers) phases parameter make) (by (find (is_member_of m) s.providers))
@@ -431,20 +411,14 @@ slim_without s out = record { provs = λ x i. (x, (has_filter (λ (x : Provider)
 opened_client : (e : Entry) (after : GroupState) (x : Provider) → (opened_after e after x).client ≡ x.client
 unfolding opened_after
 opened_client (Once x) after y = refl
-opened_client (Begin x) after y = refl
-opened_client (Phase c) after y = refl
-opened_client (Approve c) after y = refl
-opened_client (Reject c) after y = refl
-opened_client (Late proto phase ps) after y = refl
+opened_client _ after y = refl
 
 slim_after : (s : SessionState) (g : List ℕ) (e : Entry) → Slimmer s (kept_after s g e)
 unfolding kept_after kept_ended
-slim_after s g (Once x) = slim_same s s refl refl refl
-slim_after s g (Begin x) = slim_same s s refl refl refl
 slim_after s g (Phase c) = slim_same s _ refl refl refl
 slim_after s g (Approve c) = slim_same s _ refl refl refl
 slim_after s g (Reject c) = slim_same s _ refl refl refl
-slim_after s g (Late proto phase ps) = slim_same s s refl refl refl
+slim_after s g _ = slim_same s s refl refl refl
 
 slim_joins : (ps : List ProviderId) (s : SessionState) → Slimmer s (fold (λ t (p : ProviderId). end_request t p p.join) s ps)
 unfolding end_request
@@ -454,22 +428,15 @@ slim_joins (p ∷ ps) s = slim_then s (end_request s p p.join) (fold (λ t (p : 
 slim_begun : (s : SessionState) (x : Proposal) → Slimmer s (proposal_begun s x)
 unfolding proposal_begun end_request
 slim_begun s (Join ps attrs n) = slim_joins ps s
-slim_begun s (Leave p r) = slim_same s _ refl refl refl
 slim_begun s (Fail out) = slim_same s s refl refl refl
-slim_begun s (Expel p r out) = slim_same s _ refl refl refl
-slim_begun s (State p r value) = slim_same s _ refl refl refl
-slim_begun s (Message p r bytes) = slim_same s _ refl refl refl
-slim_begun s (Attributes p r attrs) = slim_same s _ refl refl refl
 slim_begun s (Reflect view place value) = slim_same s s refl refl refl
+slim_begun s _ = slim_same s _ refl refl refl
 
 slim_requests : (s : SessionState) (e : Entry) → Slimmer s (requests_after s e)
 unfolding requests_after
 slim_requests s (Once x) = slim_begun s x
 slim_requests s (Begin x) = slim_begun s x
-slim_requests s (Phase c) = slim_same s s refl refl refl
-slim_requests s (Approve c) = slim_same s s refl refl refl
-slim_requests s (Reject c) = slim_same s s refl refl refl
-slim_requests s (Late proto phase ps) = slim_same s s refl refl refl
+slim_requests s _ = slim_same s s refl refl refl
 
 pub handed_slim : (s : SessionState) (g : List ℕ) (before after : GroupState) (e : Entry) (bs : List (Option Filled)) → Slimmer s (handed_on s g before after e bs)
 unfolding handed_on heard part_taken open_phases keep_casts
@@ -514,10 +481,7 @@ hearer_was s g before e p i =
     brought : (e : Entry) → Has p (brought_by e) → is_join_of p e ≡ true
     brought (Once x) j = has_among (joins_of x) p j
     brought (Begin x) j = has_among (joins_of x) p j
-    brought (Phase c) j = absurd j
-    brought (Approve c) j = absurd j
-    brought (Reject c) j = absurd j
-    brought (Late proto phase ps) j = absurd j
+    brought _ j = absurd j
 
     there : Has p (filter (λ q. hears g true (provider_of s q)) before.members) ⊎ Has p (filter (λ q. hears g true (provider_of s q)) (joiners_in before.running)) → among (present before) p ≡ true
     there (inl j) = has_among (present before) p (append_has_left p before.members (joiners_in before.running) (has_filter (λ q. hears g true (provider_of s q)) p before.members j).0)

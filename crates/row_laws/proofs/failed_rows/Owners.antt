@@ -3,7 +3,7 @@ use Rattle.std.proofs.Common.{◌≡◌, ◌⊎◌, ◌≤◌, ℕ, ◌+◌, Lis
 use Rattle.std.specs.Prelude.{◌==◌, ◌||◌, not, find, if◌then◌else◌}
 use Rattle.std.specs.Option.{option_map}
 use Rattle.std.specs.List.{list_any}
-use Rattle.std.proofs.lemmas.Bool.{eqb-true}
+use Rattle.std.proofs.lemmas.Bool.{eqb-true, not-true}
 use Rattle.rsct_packet.specs.declared.ids.ProviderId.{ProviderId}
 use Rattle.rsct_packet.specs.Search.{Has, place_where}
 use Rattle.rsct_packet.proofs.HasLaws.{has_append, append_has_left, has_filter, find_has}
@@ -128,7 +128,7 @@ owned_added of s name k =
 
 -- what stands at the first place of a kind is taken out: the rest stays, and so does all that is not of the kind
 module _ {A : Type 0} (test : A → Bool) where
-  removed_was : (y : A) (xs : List A) → Has y (removed_at (place_where test xs) xs) → Has y xs
+  pub removed_was : (y : A) (xs : List A) → Has y (removed_at (place_where test xs) xs) → Has y xs
   removed_was y [] i = i
   removed_was y (x ∷ xs) i = by (test x) i (removed_was y xs)
     where
@@ -141,7 +141,7 @@ module _ {A : Type 0} (test : A → Bool) where
       by true i rest = inr i
       by false i rest = at (place_where test xs) rest i
 
-  others_stay : (y : A) (xs : List A) → test y ≡ false → Has y xs → Has y (removed_at (place_where test xs) xs)
+  pub others_stay : (y : A) (xs : List A) → test y ≡ false → Has y xs → Has y (removed_at (place_where test xs) xs)
   others_stay y [] other i = i
   others_stay y (x ∷ xs) other i = by (test x) refl i (others_stay y xs other)
     where
@@ -166,11 +166,7 @@ owned_ended of s t k =
       single = λ y z i j e. k.single y z (removed_was (is_session t) y s.sessions i) (removed_was (is_session t) z s.sessions j) e;
     }
   where
-    not_true : (b : Bool) → not b ≡ true → b ≡ false
-    not_true true e = absurd (cc)
-    not_true false e = refl
-
     owner : (x : Provider) → Has x s.providers × (not (is_client_of t x) ≡ true) → (y : Session) × Has y (removed_at (client_place s t) s.sessions) × (y.token.n ≡ x.client.n) × (of x.p ≡ Some y.name)
     owner x i =
         let o = k.owner x i.0 in
-        (o.0, others_stay (is_session t) o.0 s.sessions (ap (λ z. z == t.n) o.2 ∙ not_true (is_client_of t x) i.1) o.1, o.2, o.3)
+        (o.0, others_stay (is_session t) o.0 s.sessions (ap (λ z. z == t.n) o.2 ∙ not-true (is_client_of t x) i.1) o.1, o.2, o.3)

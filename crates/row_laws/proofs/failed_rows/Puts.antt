@@ -21,10 +21,11 @@ use Rattle.node_state.specs.declared.state.Core.{Core}
 use Rattle.node_state.specs.State.{row_of, with_row, len_of, list_of, state_of, recorded}
 use Rattle.node_state.specs.HandOn.{Answering}
 use Rattle.node_state.specs.Leading.{put, put_and_hand}
-use Rattle.run_safety.specs.Past.{History, records_of, fold_from}
+use Rattle.run_safety.specs.Past.{History, records_of}
 use Rattle.run_safety.specs.Stays.{Stay, stays, is_join_of, asks_join, is_refused}
 use Rattle.run_safety.specs.Stays as kept
 use Rattle.node_state.proofs.NameOrder.{cases_text, text_self, text_other, row_here, row_there, rows_ordered}
+use Rattle.step_refinement.proofs.Puts.{fold_pushed}
 use Rattle.row_laws.proofs.honest_votes.At.{found, leads_row}
 use Rattle.row_laws.specs.failed_rows.Failures.{GoneCause, PutHolds, EntryFails, EachPut, state_held, state_of_stay, state_in_stays}
 use Rattle.row_laws.proofs.failed_rows.Facts.{Whys, takers_pushed, TallyIs, QueueIs, Track, BasesFit, Stepped, BodyFails, body_on, Unasked, own_pushed, PutOff}
@@ -33,12 +34,6 @@ use Rattle.row_laws.proofs.failed_rows.At.{At}
 use Rattle.session_state.specs.HandOn.{hearers, is_present}
 use Rattle.row_laws.proofs.failed_rows.Living.{hearer_was}
 use Rattle.row_laws.proofs.failed_rows.Hands.{at_handed}
-
-pub fold_pushed : (v : ViewId) (xs : List Entry) (s : GroupState) (i : ℕ) (e : Entry) → fold_from v s i (xs ++ e ∷ []) ≡ after (fold_from v s i xs) v (i + length xs) e
-fold_pushed v [] s i e = ap (λ k. after s v k e) (omega arith)
-fold_pushed v (x ∷ xs) s i e =
-    let q : (i + 1) + length xs ≡ i + length (x ∷ xs) = omega arith in
-    fold_pushed v xs (after s v i x) (i + 1) e ∙ ap (λ k. after (fold_from v (after s v i x) (i + 1) xs) v k e) q
 
 abbrev pub put_row : Core → GroupRow → Entry → GroupRow
 put_row s row e = record row { list = Some (with_entry (list_or_new row.list) s.views.view e) }

@@ -1,10 +1,10 @@
 -- Who is on the failed list as long as it is a member: what entries make of that, where no join begins.
-use Rattle.std.proofs.Common.{◌≡◌, ℕ, List, [], ◌∷◌, ◌++◌, Option, Some, None, Bool, true, false, refl, sym, ap, ◌∙◌, subst, arith}
-use Rattle.std.specs.Prelude.{not, ◌&&◌, ◌||◌, is_none, cond}
+use Rattle.std.proofs.Common.{◌≡◌, ℕ, List, [], ◌∷◌, Option, Some, None, Bool, true, false, refl, sym, subst}
+use Rattle.std.specs.Prelude.{not, ◌&&◌, ◌||◌, is_none}
 use Rattle.std.proofs.lemmas.Bool.{and_parts}
 use Rattle.rsct_packet.specs.declared.ids.ViewId.{ViewId}
 use Rattle.rsct_packet.specs.declared.ids.ProviderId.{ProviderId}
-use Rattle.rsct_packet.specs.Providers.{among, same_provider, without_all}
+use Rattle.rsct_packet.specs.Providers.{among}
 use Rattle.rsct_packet.proofs.ProviderLaws.{among_without}
 use Rattle.proposal_core.proofs.FoldLaws.{among_both}
 use Rattle.group_attr.specs.declared.attrs.Attrs.{Attrs}

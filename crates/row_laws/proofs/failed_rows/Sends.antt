@@ -74,7 +74,7 @@ module _ (h : History) (said : ProviderId → Type 0) (origin : Origin) (P L M :
   at_ballot_sent s g to p proto phase None a = a
   at_ballot_sent s g to p proto phase (Some b) a = at_sent_if_known s to (vote_of s g proto phase p b) tt a
 
-  at_cast_sent : (s : Core) (g : List ℕ) (to : Option ℕ) (p : ProviderId) (c : Option (ProtoId × ℕ × BallotView)) → At h said origin P L M T G Q s → At h said origin P L M T G Q (cast_sent_of s g to p c)
+  pub at_cast_sent : (s : Core) (g : List ℕ) (to : Option ℕ) (p : ProviderId) (c : Option (ProtoId × ℕ × BallotView)) → At h said origin P L M T G Q s → At h said origin P L M T G Q (cast_sent_of s g to p c)
   unfolding cast_sent_of
   at_cast_sent s g to p None a = a
   at_cast_sent s g to p (Some c) a = at_ballot_sent s g to p c.0 c.1 (c.2).filled a

@@ -65,18 +65,7 @@ new_unasked w rests n down p node inc = by (list_any (asks_join p) (records_of w
             let le : p.inc ≤ w.incs n = subst (λ (a : ProviderId). a.inc ≤ w.incs n) same (early q r g x i (ap (λ (a : ProviderId). a.node) same ∙ node)) in
             omega (arith, le, inc)
         by_provider false z e = cc
-    none (happened.Up k j) i e = cc
-    none (happened.Down k) i e = cc
-    none (happened.Ring k j m ms b) i e = cc
-    none (happened.In k v ms) i e = cc
-    none (happened.Base k v f u len s) i e = cc
-    none (happened.Put k v f m d) i e = cc
-    none (happened.Heard q v f m d ms value) i e = cc
-    none (happened.Cast q proto phase vote value message) i e = cc
-    none (happened.Told q r why) i e = cc
-    none (happened.Noted k c v m told) i e = cc
-    none (happened.Refused k c fault) i e = cc
-    none (happened.Shown k line) i e = cc
+    none _ i e = cc
 
     by : (b : Bool) → list_any (asks_join p) (records_of w.before) ≡ b → b ≡ false
     by false e = refl

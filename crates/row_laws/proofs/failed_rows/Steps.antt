@@ -1,13 +1,12 @@
 -- A whole step.
-use Rattle.std.proofs.Common.{◌≡◌, ℕ, List, [], ◌∷◌, ◌++◌, length, Option, Some, None, Bool, true, false, refl, sym, ap, ◌∙◌, subst, inr}
+use Rattle.std.proofs.Common.{◌≡◌, ℕ, List, [], ◌∷◌, ◌++◌, Option, Some, None, Bool, true, false, refl, sym, ap, ◌∙◌, subst}
 use Rattle.std.specs.Prelude.{◌==◌, slice_get, reverse}
-use Rattle.std.proofs.lemmas.Bool.{eqb-true, eq-eqb}
+use Rattle.std.proofs.lemmas.Bool.{eqb-true}
 use Rattle.rsct_packet.specs.declared.ids.ViewId.{ViewId}
 use Rattle.rsct_packet.specs.declared.ids.ProviderId.{ProviderId}
 use Rattle.rsct_packet.specs.declared.mask.Mask.{Mask}
 use Rattle.rsct_packet.specs.Search.{Has}
 use Rattle.rsct_packet.proofs.HasLaws.{append_has_right, has_map}
-use Rattle.group_attr.specs.declared.attrs.Phases.{Phases}
 use Rattle.proposal_core.specs.declared.entry.Entry.{Entry}
 use Rattle.proposal_core.specs.declared.proposal.Proposal.{Proposal}
 use Rattle.proposal_core.specs.declared.proposal.Proposal.TheVariants.{Join, Leave, Fail, Expel, State, Message, Attributes, Reflect}
@@ -20,46 +19,39 @@ use Rattle.view_state.specs.declared.packet.ViewPacket.TheVariants as view
 use Rattle.view_state.specs.declared.views.ViewWork.{ViewWork}
 use Rattle.view_state.specs.Views.{views_at_work, ask_rule, prepare_rule, answer_rule, refuse_rule, install_rule, taken_rule}
 use Rattle.node_state.specs.declared.call.CallLine.{CallLine}
-use Rattle.node_state.specs.declared.config.Mode.{Mode}
-use Rattle.node_state.specs.declared.config.Mode.TheVariants.{Fixed, Asked, Rings}
-use Rattle.node_state.specs.declared.group.GroupRow.{GroupRow}
 use Rattle.node_state.specs.declared.happened.Happened.TheVariants as happened
 use Rattle.node_state.specs.declared.packet.Body.{Body}
 use Rattle.node_state.specs.declared.packet.Body.TheVariants as body
 use Rattle.node_state.specs.declared.packet.Packet.{Packet}
 use Rattle.node_state.specs.declared.state.Core.{Core}
 use Rattle.node_state.specs.Settings.{is_fixed}
-use Rattle.node_state.specs.State.{row_of, with_row, len_of, list_of, is_this, leader_by, leader_in, leads_in, leads, set_leader}
+use Rattle.node_state.specs.State.{row_of, len_of, list_of}
 use Rattle.node_state.specs.HandOn.{Answering}
 use Rattle.node_state.specs.Following.{take_lookup, take_name, take_request, take_tell, take_entry, take_ack, take_vote, take_gone}
 use Rattle.node_state.specs.Applying.{own_parts, views_taken}
 use Rattle.node_state.specs.Status.{status_text}
-use Rattle.node_state.specs.Ticks.{tick_rings, tick_views, tick_owed, tick_rule}
-use Rattle.node_state.specs.Ending.{end_step}
-use Rattle.node_state.specs.Step.{NodeEvent, Ticks, Asks, Given, Calls, Garbage, is_used, used_if, take_order, view_rule, take_body, packet_rule, event_rule, stepped, at_work}
+use Rattle.node_state.specs.Ticks.{tick_rings, tick_views, tick_owed}
+use Rattle.node_state.specs.Step.{NodeEvent, Ticks, Asks, Given, Calls, Garbage, is_used, used_if, take_order, view_rule, take_body, packet_rule, stepped, at_work}
+use Rattle.world_model.specs.Run.{Happening}
 use Rattle.run_safety.specs.Past.{History, records_of, view_now}
 use Rattle.run_safety.specs.Stays.{is_join_of}
-use Rattle.run_safety.specs.Group.{member}
 use Rattle.run_safety.specs.Group as group
 use Rattle.run_safety.specs.Requests.{requests_of, carried}
-use Rattle.run_safety.specs.Sight.{lines_with, lines_of}
-use Rattle.run_safety.proofs.SightLaws.{put_seen}
 use Rattle.run_safety.proofs.Whole.{Whole}
 use Rattle.run_safety.proofs.Lives.{whole}
-use Rattle.run_safety.proofs.Parts.{member_parts}
-use Rattle.node_state.proofs.NameOrder.{row_here}
 use Rattle.step_refinement.specs.Ghost.{asking}
-use Rattle.step_refinement.specs.Tied.{Owed, ShowsBody, ShowsEntry, ShowsLeader, ShowsRequest, Scene, opening_of, lines_now, Tied}
+use Rattle.step_refinement.specs.Tied.{Owed, ShowsBody, ShowsEntry, Scene, opening_of, lines_now, Tied}
 use Rattle.step_refinement.specs.Rules.{acted, Arises}
 use Rattle.step_refinement.proofs.Acks.{used_is}
-use Rattle.step_refinement.proofs.Leads.{leader_inc, leads_known}
-use Rattle.step_refinement.proofs.RowWorks.{len_is}
+use Rattle.step_refinement.proofs.JoinsFirst.{seen}
+use Rattle.step_refinement.proofs.Steps.{stepped_is}
 use Rattle.row_laws.proofs.honest_votes.At.{found}
 use Rattle.row_laws.proofs.honest_votes.Changes.{Every, NoGroup}
+use Rattle.row_laws.proofs.honest_votes.Steps.{entry_follows, request_leads}
 use Rattle.row_laws.specs.failed_rows.Failures.{IsRefused, GoneCause}
-use Rattle.row_laws.proofs.failed_rows.Fitting.{put_recorded, put_back}
+use Rattle.row_laws.proofs.failed_rows.Fitting.{put_back}
 use Rattle.row_laws.proofs.failed_rows.Asked.{join_carried, lost_asked}
-use Rattle.row_laws.proofs.failed_rows.InView.{InView, stay_asks, stay_prepares, stay_answers, stay_refuses, stay_installs, stay_takes}
+use Rattle.row_laws.proofs.hearing.InView.{InView, stay_asks, stay_prepares, stay_answers, stay_refuses, stay_installs, stay_takes}
 use Rattle.node_state.specs.Calls.{take_call}
 use Rattle.row_laws.proofs.failed_rows.Origin.{origin_of, root_of}
 use Rattle.row_laws.proofs.failed_rows.At.{At, at_sent_on, at_rooted}
@@ -70,50 +62,6 @@ use Rattle.row_laws.proofs.failed_rows.Following.{at_lookup, at_name, at_request
 use Rattle.row_laws.proofs.failed_rows.Living.{IsLive}
 use Rattle.row_laws.proofs.failed_rows.Calling.{Taken, Ended, at_call}
 
-past_end : (xs : List Entry) (e : Entry) → slice_get xs (length xs) ≡ Some e → ⊥
-past_end [] e q = absurd (cc)
-past_end (x ∷ xs) e q = past_end xs e q
-
--- a leader has all that was sent of its view: no entry comes to it at its length
-entry_follows : (v : ViewId) (g : List ℕ) (place stable : ℕ) (e : Entry) (w : Scene) (n : ℕ) (s : Core) (p : Packet) → p.body ≡ body.Entry v g place stable e → Has p w.sent → Tied g w n s → is_used s p v ≡ true → (place == len_of s g) ≡ true → leads s g ≡ true → ⊥
-entry_follows v g place stable e w n s p is delivered t used at led =
-    let k = used_is s p v used in
-    let shown : ShowsEntry t.ghost p.from p.inc v place stable e = (subst (ShowsBody t.ghost g p.from p.inc p.to) is (t.packets p (append_has_right p s.sends w.sent delivered))) refl in
-    let o : Whole (opening_of w.config) t.ghost.nodes t.ghost.ps t.ghost.all t.ghost.leads t.ghost.bases = whole t.life in
-    let stands = t.own.0.stands in
-    let get : slice_get (o.log v) place ≡ Some e = o.good.inv.packet (group.Append v place e) shown.sent in
-    let known = leads_known g w n s t led in
-    let list : (t.ghost.nodes n).list ≡ o.log (t.ghost.nodes n).view = (o.good.inv.node n).whole s.views.inc (ap t.ghost.leads stands.view ∙ known) in
-    let here : (t.ghost.nodes n).view ≡ v = stands.view ∙ sym k.0 in
-    let all : (t.ghost.nodes n).list ≡ o.log v = list ∙ ap o.log here in
-    let end : place ≡ length (t.ghost.nodes n).list = eqb-true place (len_of s g) at ∙ len_is g w n s t in
-    let past : slice_get (t.ghost.nodes n).list (length (t.ghost.nodes n).list) ≡ slice_get (o.log v) place = λ i. slice_get (all i) (sym end i) in
-    past_end (t.ghost.nodes n).list e (past ∙ get)
-
--- a node that is sent a request leads the group, once it has noted that
-request_leads : (v : ViewId) (g : List ℕ) (q : ProviderId) (r : ℕ) (phases : Phases) (x : Proposal) (w : Scene) (n : ℕ) (s : Core) (p : Packet) → p.body ≡ body.Request v g q r phases x → p.to ≡ n → Has p w.sent → Tied g w n s → is_used s p v ≡ true → leads (set_leader s g s.views.me) g ≡ true
-unfolding leads leads_in leader_in set_leader with_row
-request_leads v g q r phases x w n s p is to delivered t used = by s.config.mode t.own.0.led
-  where
-    shown : ShowsRequest t.ghost p.to v q r x
-    shown = (subst (ShowsBody t.ghost g p.from p.inc p.to) is (t.packets p (append_has_right p s.sends w.sent delivered))).2 refl
-
-    here : t.ghost.leads s.views.view ≡ Some (member n s.views.inc)
-    here =
-        let k = shown.leader in
-        leader_inc g w n s t (record { inc = k.inc; leads = ap t.ghost.leads (sym (used_is s p v used).0) ∙ k.leads ∙ ap (λ m. Some (member m k.inc)) to })
-
-    coordinates : ShowsLeader t.ghost s.views.view s.views.view.coord → s.views.view.coord ≡ n
-    coordinates k = (member_parts s.views.view.coord n k.inc s.views.inc (sym k.leads ∙ here)).0
-
-    row : (row_of (with_row s g (λ row. record row { leader = Some s.views.me })) g).leader ≡ Some s.views.me
-    row = ap (λ (z : GroupRow). z.leader) (row_here g (λ row. record row { leader = Some s.views.me }) (λ z. refl) s t.own.0.order)
-
-    by : (mode : Mode) → (is_fixed mode ≡ true → ShowsLeader t.ghost s.views.view s.views.view.coord) → is_this s.views.me (leader_by mode s.views.view.coord (row_of (with_row s g (λ row. record row { leader = Some s.views.me })) g).leader) ≡ true
-    by Fixed led = eq-eqb s.views.view.coord s.views.me (coordinates (led refl) ∙ sym t.own.0.stands.me)
-    by Asked led = ap (is_this s.views.me) row ∙ eq-eqb s.views.me s.views.me refl
-    by Rings led = ap (is_this s.views.me) row ∙ eq-eqb s.views.me s.views.me refl
-
 -- what was sent to a node of who is gone has its cause, and no telling says that a group was dissolved
 abbrev pub BodyGone : History → Body → Type 0
 BodyGone h (body.Gone v g p) = GoneCause h v g p
@@ -122,14 +70,9 @@ BodyGone h _ = Unit {0}
 
 -- whatever was asked is no failure leave
 no_failure : (p : ProviderId) (r : ℕ) (x : Proposal) → Has (p, r) (requests_of x) → NoFailure x
-no_failure p r (Join ps attrs n) i = tt
-no_failure p r (Leave q k) i = tt
 no_failure p r (Fail out) i = absurd i
-no_failure p r (Expel q k out) i = tt
-no_failure p r (State q k value) i = tt
-no_failure p r (Message q k bytes) i = tt
-no_failure p r (Attributes q k attrs) i = tt
 no_failure p r (Reflect v k value) i = absurd i
+no_failure p r _ i = tt
 
 join_number : (p : ProviderId) (r : ℕ) (x : Proposal) → is_join x ≡ true → Has (p, r) (requests_of x) → r ≡ p.join
 join_number p r (Join ps attrs n) e i =
@@ -152,18 +95,13 @@ entry_put v g place stable e w n s p is delivered t used at =
     let get : slice_get (o.log v) place ≡ Some e = o.good.inv.packet (group.Append v place e) shown.sent in
     let was = o.firsts.put v place e get in
     let line : Has (group.Put was.0 v place was.1) (group.kept (lines_now g w s)) = subst (λ z. Has (group.Put was.0 v place was.1) (group.kept z)) t.lines was.2 in
-    let rec = put_recorded was.0 v g place was.1 (reverse s.records) w.before (lines_of g w.before) (put_back was.0 v g place was.1 w.before) line in
+    let now : Happening = record { event = None; records = reverse s.records } in
+    let rec = put_back was.0 v g place was.1 (now ∷ w.before) line in
     (was.0, was.1, subst (λ (z : ViewId × ℕ). Has (happened.Put was.0 z.0 g z.1 was.1) (reverse s.records ++ records_of w.before)) (λ i. (k.0 i, eqb-true place (len_of s g) at i)) rec)
 
 -- ---- a join that is outstanding was put in no group
 
 module _ (w : Scene) (n : ℕ) (s : Core) (none : s.records ≡ []) (all : (h : List ℕ) → Tied h w n s) where
-  -- what was put before the event, its group sees
-  put_there : (h : List ℕ) (m : ℕ) (u : ViewId) (k : ℕ) (e : Entry) → Has (happened.Put m u h k e) (records_of w.before) → Has (group.Put m u k e) (group.kept (all h).ghost.all)
-  put_there h m u k e i =
-      let lines : (all h).ghost.all ≡ group.Kept group.Begins ∷ lines_of h w.before = (all h).lines ∙ ap (λ z. lines_with h (reverse z) w.before (lines_of h w.before)) none in
-      subst (λ z. Has (group.Put m u k e) (group.kept z)) (sym lines) (inr (put_seen m u h k e w.before i))
-
   unput : (q : Request) → Has q s.sessions.requests → q.r ≡ q.p.join → (v : ViewId) (g : List ℕ) (i : ℕ) (e : Entry) → Has (happened.Put q.p.node v g i e) (records_of w.before) → is_join_of q.p e ≡ true → ⊥
   unput q there join v g i e put names = owed.unput v i e (subst (λ m. Has (group.Put m v i e) (group.kept t.ghost.all)) own.0 line) carries
     where
@@ -177,7 +115,7 @@ module _ (w : Scene) (n : ℕ) (s : Core) (none : s.records ≡ []) (all : (h : 
       own = t.own.0.owes.own q there
 
       line : Has (group.Put q.p.node v i e) (group.kept t.ghost.all)
-      line = put_there g q.p.node v i e put
+      line = seen w n s none all g q.p.node v i e put
 
       asked : Has (asking q.p q.p.join g) t.ghost.asked
       asked =
@@ -278,14 +216,6 @@ module _ (w : Scene) (n : ℕ) (f : Answering) (s : Core) (root : Option Core) (
       by : (b : Bool) → (p.to == s.views.me) ≡ b → Full (elim b as (λ _. Core) [ true ↦ take_body f s p p.body | false ↦ s ])
       by false e = a
       by true e = body_at p p.body refl (eqb-true p.to s.views.me e ∙ (all []).own.0.stands.me) arises (were p arises)
-
-stepped_is : (f : Answering) (s : Core) (e : NodeEvent) → stepped f s e ≡ end_step f (acted f (at_work s) e)
-unfolding stepped event_rule tick_rule
-stepped_is f s Ticks = refl
-stepped_is f s (Asks mask) = refl
-stepped_is f s (Given p) = refl
-stepped_is f s (Calls c) = refl
-stepped_is f s Garbage = refl
 
 pub at_stepped : (w : Scene) (n : ℕ) (f : Answering) (s : Core) (said : ProviderId → Type 0) (M : Type 0) (e : NodeEvent) (were : (p : Packet) → Has p w.sent → BodyGone w.before p.body) (all : (h : List ℕ) → Tied h w n (at_work s)) → Arises w e → (a : At w.before said (origin_of s None) (Unit {0}) (Unit {0}) M Every NoGroup Every (at_work s)) → Calling (at_work s) said M e → At w.before said (origin_of s (Some (root_of (at_work s) e))) (Unit {0}) (Unit {0}) M Every NoGroup Every (stepped f s e)
 at_stepped w n f s said M e were all arises a calls =

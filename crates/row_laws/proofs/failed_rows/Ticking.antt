@@ -47,7 +47,7 @@ use Rattle.row_laws.proofs.hearing.Handing.{has_among}
 use Rattle.row_laws.proofs.honest_votes.At.{found, leads_row}
 use Rattle.row_laws.proofs.honest_votes.Changes.{Every, NoGroup}
 use Rattle.row_laws.specs.failed_rows.Failures.{GoneCause, StoodThere, IsOver}
-use Rattle.row_laws.proofs.failed_rows.InView.{stay_ticks, stay_reminds}
+use Rattle.row_laws.proofs.hearing.InView.{stay_ticks, stay_reminds}
 use Rattle.row_laws.proofs.failed_rows.Facts.{TallyFails, TallyIs, Quiet, Lives}
 use Rattle.row_laws.proofs.failed_rows.Origin.{Origin}
 use Rattle.row_laws.proofs.failed_rows.At.{At, at_fold, at_sent, at_sent_on, at_recorded_all, at_row_for}

@@ -46,17 +46,8 @@ Still _ = Unit {0}
 inner_still : (r : Happened) → Inner r → Still r
 inner_still (happened.Up n j) a = absurd a
 inner_still (happened.Down n) a = absurd a
-inner_still (happened.Ring n k i ms m) a = tt
 inner_still (happened.In n v ms) a = absurd a
-inner_still (happened.Base n v g u len s) a = tt
-inner_still (happened.Put n v g i e) a = tt
-inner_still (happened.Heard p v g i e ms value) a = tt
-inner_still (happened.Cast p proto phase vote value message) a = tt
-inner_still (happened.Asked p r g x) a = tt
-inner_still (happened.Told p r why) a = tt
-inner_still (happened.Noted n c v i told) a = tt
-inner_still (happened.Refused n c fault) a = tt
-inner_still (happened.Shown n line) a = tt
+inner_still _ a = tt
 
 -- where a node is stays
 abbrev Where : ℕ → List Happened → Option ViewId × ℕ
@@ -65,17 +56,8 @@ Where n rs = (view_now n rs, inc_now n rs)
 still_place : (n : ℕ) (r : Happened) (rs : List Happened) → Still r → Where n (r ∷ rs) ≡ Where n rs
 still_place n (happened.Up m j) rs a = absurd a
 still_place n (happened.Down m) rs a = absurd a
-still_place n (happened.Ring m k i ms o) rs a = refl
 still_place n (happened.In m v ms) rs a = absurd a
-still_place n (happened.Base m v g u len s) rs a = refl
-still_place n (happened.Put m v g i e) rs a = refl
-still_place n (happened.Heard p v g i e ms value) rs a = refl
-still_place n (happened.Cast p proto phase vote value message) rs a = refl
-still_place n (happened.Asked p r g x) rs a = refl
-still_place n (happened.Told p r why) rs a = refl
-still_place n (happened.Noted m c v i told) rs a = refl
-still_place n (happened.Refused m c fault) rs a = refl
-still_place n (happened.Shown m line) rs a = refl
+still_place n _ rs a = refl
 
 pushed_place : (n : ℕ) (rs now : List Happened) (before : History) → ((r : Happened) → Has r rs → Still r) → Where n (earlier (pushed rs now) before) ≡ Where n (earlier now before)
 pushed_place n [] now before still = refl

@@ -34,7 +34,7 @@ use Rattle.node_state.proofs.NameOrder.{cases_text, text_same, text_self}
 use Rattle.step_refinement.proofs.SessionLaws.{provider_same, provider_self, Later, handed_later, cast_has}
 use Rattle.row_laws.specs.hearing.Hearing.{last_heard, next_place, Follows, AtPut}
 use Rattle.row_laws.specs.hearing.Changes.{Aside, Fewer}
-use Rattle.row_laws.proofs.hearing.Handing.{Kept, handed_kept, handed_begun, handed_present, hearer_found, present_hears, new_hears}
+use Rattle.row_laws.proofs.hearing.Handing.{Kept, handed_kept, handed_begun, handed_present, hearer_found, present_hears, new_hears, some_is}
 
 -- what stands of a provider of this node that heard place j of view u and group g last: it is of an incarnation or a view that
 -- are over, it is gone for good, or the list has no place after that one, and it takes part
@@ -56,43 +56,17 @@ pub record Attending (n inc : ℕ) (before : History) (v : ViewId) (t : SessionS
   pub heard : (p : ProviderId) (u : ViewId) (g : List ℕ) (j : ℕ) → p.node ≡ n → last_heard p u g (earlier now before) ≡ Some j → Stance inc v t lens p u g j
   pub upto : (p : ProviderId) (x : Provider) → provider_of t p ≡ Some x → x.takes_part ≡ true → lens x.group ≡ next_place (last_heard p v x.group (earlier now before))
 
-some_is : {a b : Provider} → Some a ≡ Some b → a ≡ b
-some_is e = cc
-
-number_is : {a b : ℕ} → Some a ≡ Some b → a ≡ b
-number_is e = cc
-
 -- ---- records of neither kind
 
 pub aside_law : (now : List Happened) (before : History) (r : Happened) → Aside r → AtPut now before r
-aside_law now before (happened.Up n j) a = (tt, tt)
-aside_law now before (happened.Down n) a = (tt, tt)
-aside_law now before (happened.Ring n k i ms m) a = (tt, tt)
-aside_law now before (happened.In n v ms) a = (tt, tt)
-aside_law now before (happened.Base n v g u len s) a = (tt, tt)
 aside_law now before (happened.Put n v g i e) a = absurd a
 aside_law now before (happened.Heard p v g i e ms value) a = absurd a
-aside_law now before (happened.Cast p proto phase vote value message) a = (tt, tt)
-aside_law now before (happened.Asked p r g x) a = (tt, tt)
-aside_law now before (happened.Told p r why) a = (tt, tt)
-aside_law now before (happened.Noted n c v i told) a = (tt, tt)
-aside_law now before (happened.Refused n c fault) a = (tt, tt)
-aside_law now before (happened.Shown n line) a = (tt, tt)
+aside_law now before _ a = (tt, tt)
 
 pub aside_last : (p : ProviderId) (u : ViewId) (g : List ℕ) (r : Happened) → Aside r → (rs : List Happened) → last_heard p u g (r ∷ rs) ≡ last_heard p u g rs
-aside_last p u g (happened.Up n j) a rs = refl
-aside_last p u g (happened.Down n) a rs = refl
-aside_last p u g (happened.Ring n k i ms m) a rs = refl
-aside_last p u g (happened.In n v ms) a rs = refl
-aside_last p u g (happened.Base n v h w len s) a rs = refl
 aside_last p u g (happened.Put n v h i e) a rs = absurd a
 aside_last p u g (happened.Heard q v h i e ms value) a rs = absurd a
-aside_last p u g (happened.Cast q proto phase vote value message) a rs = refl
-aside_last p u g (happened.Asked q r h x) a rs = refl
-aside_last p u g (happened.Told q r why) a rs = refl
-aside_last p u g (happened.Noted n c v i told) a rs = refl
-aside_last p u g (happened.Refused n c fault) a rs = refl
-aside_last p u g (happened.Shown n line) a rs = refl
+aside_last p u g _ a rs = refl
 
 -- what is heard changes nothing of others
 pub heard_other : (p : ProviderId) (u : ViewId) (g : List ℕ) (q : ProviderId) (v : ViewId) (h : List ℕ) (i : ℕ) (e : Entry) (ms : List ProviderId) (value : List ℕ) (rs : List Happened) → (p ≡ q → ⊥) → last_heard p u g (happened.Heard q v h i e ms value ∷ rs) ≡ last_heard p u g rs
@@ -266,19 +240,9 @@ has_cast e after level (q ∷ ps) (b ∷ bs) p (inl k) = (cast_of e after level 
 has_cast e after level (q ∷ ps) (b ∷ bs) p (inr k) = let r = has_cast e after level ps bs p k in (r.0, inr r.1, r.2)
 
 aside_put : (n : ℕ) (v : ViewId) (g : List ℕ) (r : Happened) → Aside r → (rs : List Happened) → latest_put n v g (r ∷ rs) ≡ latest_put n v g rs
-aside_put n v g (happened.Up m j) a rs = refl
-aside_put n v g (happened.Down m) a rs = refl
-aside_put n v g (happened.Ring m k i ms o) a rs = refl
-aside_put n v g (happened.In m u ms) a rs = refl
-aside_put n v g (happened.Base m u h w len s) a rs = refl
 aside_put n v g (happened.Put m u h i e) a rs = absurd a
 aside_put n v g (happened.Heard q u h i e ms value) a rs = absurd a
-aside_put n v g (happened.Cast q proto phase vote value message) a rs = refl
-aside_put n v g (happened.Asked q r h x) a rs = refl
-aside_put n v g (happened.Told q r why) a rs = refl
-aside_put n v g (happened.Noted m c u i told) a rs = refl
-aside_put n v g (happened.Refused m c fault) a rs = refl
-aside_put n v g (happened.Shown m line) a rs = refl
+aside_put n v g _ a rs = refl
 
 list_self : (n : ℕ) (v : ViewId) (g : List ℕ) → is_list n v g n v g ≡ true
 list_self n v g = λ k. number n k && (view v k && text_self g k)
@@ -496,7 +460,7 @@ attends_handed n inc before v t now lens lens' states states' k h e bs more same
             let z = has_cast e st t.level ps' bs p (hears p x a c (group ∙ sym s)) in
             let y : last_heard p v h (earlier (pushed (flat_map (heard_at v h (lens h) e st) cs) (happened.Put n v h (lens h) e ∷ now)) before) ≡ Some (lens h) = mid.said p (subst (λ r. Has r all.all) z.2 (all.each z.0 z.1)) in
             let r : last_heard p v h (earlier (pushed (flat_map (heard_at v h (lens h) e st) cs) (happened.Put n v h (lens h) e ∷ now)) before) ≡ Some j = subst (λ (b : ViewId × List ℕ). last_heard p b.0 b.1 (earlier (pushed (flat_map (heard_at v h (lens h) e st) cs) (happened.Put n v h (lens h) e ∷ now)) before) ≡ Some j) (λ i. (at i, sym s i)) q in
-            let m : lens h ≡ j = number_is (sym y ∙ r) in
+            let m : lens h ≡ j = some_is (sym y ∙ r) in
             let l : lens h ≡ j + 1 = ap lens s ∙ len in
             absurd (omega arith)
 

@@ -30,36 +30,24 @@ use Rattle.row_laws.specs.hearing.Changes.{Same, Aside, Inner, Unentered, handin
 use Rattle.node_state.proofs.NameOrder.{KeepsName, cases_text, row_here, row_there, rows_ordered}
 
 pub inner_aside : (r : Happened) → Inner r → Aside r
-inner_aside (happened.Up n j) a = absurd a
-inner_aside (happened.Down n) a = absurd a
 inner_aside (happened.Ring n k i ms m) a = tt
-inner_aside (happened.In n v ms) a = absurd a
-inner_aside (happened.Base n v g u len s) a = absurd a
-inner_aside (happened.Put n v g i e) a = absurd a
-inner_aside (happened.Heard p v g i e ms value) a = absurd a
-inner_aside (happened.Cast p proto phase vote value message) a = absurd a
 inner_aside (happened.Asked p r g x) a = tt
 inner_aside (happened.Told p r why) a = tt
 inner_aside (happened.Noted n c v i told) a = tt
 inner_aside (happened.Refused n c fault) a = tt
 inner_aside (happened.Shown n line) a = tt
+inner_aside _ a = absurd a
 
 -- ---- no view is entered
 
 pub inner_unentered : (r : Happened) → Inner r → Unentered r
 inner_unentered (happened.Up n j) a = absurd a
 inner_unentered (happened.Down n) a = absurd a
-inner_unentered (happened.Ring n k i ms m) a = tt
 inner_unentered (happened.In n v ms) a = absurd a
 inner_unentered (happened.Base n v g u len s) a = absurd a
 inner_unentered (happened.Put n v g i e) a = absurd a
 inner_unentered (happened.Heard p v g i e ms value) a = absurd a
-inner_unentered (happened.Cast p proto phase vote value message) a = tt
-inner_unentered (happened.Asked p r g x) a = tt
-inner_unentered (happened.Told p r why) a = tt
-inner_unentered (happened.Noted n c v i told) a = tt
-inner_unentered (happened.Refused n c fault) a = tt
-inner_unentered (happened.Shown n line) a = tt
+inner_unentered _ a = tt
 
 abbrev pub Calm : Core → Core → Type 0
 Calm c d = (r : Happened) → Has r d.records → Has r c.records ⊎ Unentered r
@@ -74,7 +62,7 @@ pub calm_all : (rs : List Happened) (c : Core) → ((r : Happened) → Has r rs 
 unfolding recorded_all
 calm_all rs c aside r h = ⊎_elim (λ (i : Has r c.records). inl i) (λ (i : Has r rs). inr (aside r i)) (has_append r c.records rs h)
 
-heards_calm : (c : Core) (h : List ℕ) (i : ℕ) (e : Entry) (after : GroupState) (cs : List Cast) (r : Happened) → Has r (flat_map (heard c h i e after) cs) → Unentered r
+pub heards_calm : (c : Core) (h : List ℕ) (i : ℕ) (e : Entry) (after : GroupState) (cs : List Cast) (r : Happened) → Has r (flat_map (heard c h i e after) cs) → Unentered r
 unfolding heard cast_records cast_record
 heards_calm c h i e after [] r k = absurd k
 heards_calm c h i e after (x ∷ cs) r k = by (has_append r (heard c h i e after x) (flat_map (heard c h i e after) cs) k) (heards_calm c h i e after cs r)

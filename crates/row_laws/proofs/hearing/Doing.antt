@@ -44,7 +44,7 @@ use Rattle.row_laws.specs.hearing.Hearing.{last_heard, next_place}
 use Rattle.row_laws.specs.hearing.Changes.{Same, Aside, handing, Does, Stays, Then, Records, Hands, Loses, Joins, Votes, Enters}
 use Rattle.row_laws.proofs.hearing.Changes.{inner_aside}
 use Rattle.row_laws.proofs.hearing.Sessions.{found_is, fewer_same, fewer_told}
-use Rattle.row_laws.proofs.hearing.Handing.{among_is, has_among, left_stays}
+use Rattle.row_laws.proofs.hearing.Handing.{among_is, has_among, left_stays, some_is}
 use Rattle.row_laws.proofs.hearing.Viewing.{Stands, sides_stand}
 use Rattle.row_laws.proofs.hearing.Attending.{Stance, Before, Left, Gone, Attends, Attending, attends_aside, attends_fewer, attends_less, attends_joined, attends_handed, pushed, pushed_reverse, heard_at}
 
@@ -137,9 +137,6 @@ turn_stays : (c : Core) (h : List ℕ) (old : ViewId) (b : Option Base) (p : Pro
 unfolding dissolved_if dissolved recorded with_sessions
 turn_stays c h old b p x q part group = by (provider_of c.sessions p) refl q
   where
-    some_is : {a b : Provider} → Some a ≡ Some b → a ≡ b
-    some_is e = cc
-
     at : (y : Provider) → provider_of c.sessions p ≡ Some y → (t : Bool) → (y.takes_part && bytes_eq y.group h && not (is_in_base old y.p b)) ≡ t → provider_of (elim t as (λ _. Core) [ true ↦ dissolved c y.p (number_of (outstanding c.sessions y.p)) | false ↦ c ]).sessions p ≡ Some x → is_in_base old p b ≡ true
     at y e true k q =
         absurd (dropped c.sessions p (number_of (outstanding c.sessions y.p)) y x e (subst (λ z. provider_of (take_telling c.sessions z (number_of (outstanding c.sessions y.p)) Dissolved) p ≡ Some x) (found_is c.sessions p y e) q))

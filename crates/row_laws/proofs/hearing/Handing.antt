@@ -11,7 +11,7 @@ use Rattle.rsct_packet.proofs.HasLaws.{has_filter, filter_has, has_append, appen
 use Rattle.proposal_core.specs.declared.proposal.Proposal.{Proposal}
 use Rattle.proposal_core.specs.declared.proposal.Proposal.TheVariants.{Join, Leave, Fail, Expel, State, Message, Attributes, Reflect}
 use Rattle.proposal_core.specs.declared.entry.Entry.{Entry}
-use Rattle.proposal_core.specs.declared.entry.Entry.TheVariants.{Once, Begin, Phase, Approve, Reject, Late}
+use Rattle.proposal_core.specs.declared.entry.Entry.TheVariants.{Once, Begin, Phase, Approve, Reject}
 use Rattle.proposal_core.specs.declared.group_state.GroupState.{GroupState}
 use Rattle.proposal_core.specs.Fold.{present, joiners_in}
 use Rattle.client_callbacks.specs.declared.ballot.Filled.{Filled}
@@ -60,7 +60,7 @@ kept_then bs t u w a b = record { back = back }
         let j = a.back p k.0 k.1 in
         (j.0, j.1, k.2 ∙ j.2, λ z. k.3 (j.3 z), λ z. ⊎_elim (λ (i : (k.0).takes_part ≡ true). j.4 i) (λ (i : Has p bs). inr i) (k.4 z))
 
-some_is : {a b : Provider} → Some a ≡ Some b → a ≡ b
+pub some_is : {A : Type 0} {a b : A} → Some a ≡ Some b → a ≡ b
 some_is e = cc
 
 -- who is found after an edit
@@ -130,11 +130,7 @@ parts_begun bs (q ∷ ps) all t p (inl h) y e =
 opened_p : (e : Entry) (after : GroupState) (x : Provider) → ((opened_after e after x).p ≡ x.p) × ((opened_after e after x).group ≡ x.group) × ((opened_after e after x).takes_part ≡ x.takes_part)
 unfolding opened_after
 opened_p (Once x) after y = (refl, refl, refl)
-opened_p (Begin x) after y = (refl, refl, refl)
-opened_p (Phase c) after y = (refl, refl, refl)
-opened_p (Approve c) after y = (refl, refl, refl)
-opened_p (Reject c) after y = (refl, refl, refl)
-opened_p (Late proto phase ps) after y = (refl, refl, refl)
+opened_p _ after y = (refl, refl, refl)
 
 kept_opened : (bs : List ProviderId) (t : SessionState) (e : Entry) (after : GroupState) (ps : List ProviderId) → Kept bs t (open_phases t e after ps)
 unfolding open_phases
@@ -143,12 +139,10 @@ kept_opened bs t e after ps =
 
 kept_ballots : (bs : List ProviderId) (t : SessionState) (g : List ℕ) (e : Entry) → Kept bs t (kept_after t g e)
 unfolding kept_after kept_ended
-kept_ballots bs t g (Once x) = kept_same bs t t refl
-kept_ballots bs t g (Begin x) = kept_same bs t t refl
 kept_ballots bs t g (Phase c) = kept_same bs t _ refl
 kept_ballots bs t g (Approve c) = kept_same bs t _ refl
 kept_ballots bs t g (Reject c) = kept_same bs t _ refl
-kept_ballots bs t g (Late proto phase ps) = kept_same bs t t refl
+kept_ballots bs t g _ = kept_same bs t t refl
 
 kept_request : (bs : List ProviderId) (t : SessionState) (p : ProviderId) (r : ℕ) → Kept bs t (end_request t p r)
 unfolding end_request
@@ -169,10 +163,7 @@ kept_requests : (bs : List ProviderId) (t : SessionState) (e : Entry) → Kept b
 unfolding requests_after
 kept_requests bs t (Once x) = kept_begun bs t x
 kept_requests bs t (Begin x) = kept_begun bs t x
-kept_requests bs t (Phase c) = kept_same bs t t refl
-kept_requests bs t (Approve c) = kept_same bs t t refl
-kept_requests bs t (Reject c) = kept_same bs t t refl
-kept_requests bs t (Late proto phase ps) = kept_same bs t t refl
+kept_requests bs t _ = kept_same bs t t refl
 
 -- who is left was not to go
 find_left : (out : List ProviderId) (p : ProviderId) (xs : List Provider) (y : Provider) → find (is_provider p) (filter (λ (x : Provider). not (among out x.p)) xs) ≡ Some y → (find (is_provider p) xs ≡ Some y) × (not (among out p) ≡ true)

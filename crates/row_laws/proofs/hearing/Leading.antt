@@ -1,6 +1,6 @@
 -- What the leader of a group does, change by change: it appends, closes phases, begins protocols, and ends a step.
-use Rattle.std.proofs.Common.{◌≡◌, ℕ, zero, suc, List, [], ◌∷◌, length, Option, Some, None, Bool, true, false, refl, sym, ◌∙◌, subst}
-use Rattle.std.specs.Prelude.{◌-◌, drop, max, nat_le, if◌then◌else◌, not, filter, fold}
+use Rattle.std.proofs.Common.{ℕ, zero, suc, List, [], ◌∷◌, length, Option, Some, None, Bool, true, false, refl, sym, ◌∙◌, subst}
+use Rattle.std.specs.Prelude.{not, filter, fold}
 use Rattle.rsct_packet.specs.declared.ids.ProviderId.{ProviderId}
 use Rattle.rsct_packet.specs.Lists.{is_empty}
 use Rattle.rsct_packet.specs.Providers.{among}
@@ -15,8 +15,7 @@ use Rattle.proposal_core.specs.declared.proposal.Proposal.TheVariants.{Join, Fai
 use Rattle.proposal_core.specs.declared.entry.Entry.{Entry}
 use Rattle.proposal_core.specs.declared.entry.Entry.TheVariants.{Once, Begin}
 use Rattle.proposal_core.specs.declared.group_state.GroupState.{GroupState}
-use Rattle.proposal_core.specs.GroupView.{GroupView}
-use Rattle.proposal_core.specs.Lists.{list_or_new, len_in, state_in, forgotten}
+use Rattle.proposal_core.specs.Lists.{list_or_new}
 use Rattle.batch_rules.specs.Waiting.{add_failure, batches_failures, chosen_of, next_failures, failures_left, next_joins, joins_left}
 use Rattle.source_target.specs.declared.Due.{Due}
 use Rattle.source_target.specs.declared.Due.TheVariants as due
@@ -35,6 +34,7 @@ use Rattle.proposal_core.specs.Fold.{max_phases}
 use Rattle.node_state.specs.Deciding.{keep_decision, refused, known_state, lacks_source, source_len}
 use Rattle.node_state.specs.Ending.{Pass, quiet, begun_now, failures_begin, due_begins, source_begins, attrs_for, carried_len, source_refused, joins_begin, or_due, or_joins, may_begin, first_begins, group_begins, one_pass, passes, most_begun, end_step}
 use Rattle.row_laws.proofs.hearing.Changes.{Sends, Onward, onward_same, onward_then, onward_sends, onward_row, onward_led, sends_one, sends_all, same_sends, put_order, put_views, handed_onward}
+use Rattle.step_walk.proofs.Asides.{forgotten_len, forgotten_state}
 
 -- ---- appending
 
@@ -54,24 +54,6 @@ new_onward h after gone [] c = onward_same c
 new_onward h after gone (p ∷ ps) c =
     let d : Core = wait_if c h p (among after.failed p) (among gone p) in
     onward_then c d (fold (λ d p. wait_if d h p (among after.failed p) (among gone p)) d ps) (waits_if_onward c h p (among after.failed p) (among gone p)) (new_onward h after gone ps d)
-
-forgotten_len : (m : ℕ) (l : Option GroupView) → len_in (list_forgotten m l) ≡ len_in l
-unfolding forgotten
-forgotten_len m None = refl
-forgotten_len m (Some l) = by (nat_le m l.len)
-  where
-    by : (b : Bool) → (if b then record l { start = max l.start m; entries = drop (m - l.start) l.entries } else l).len ≡ l.len
-    by true = refl
-    by false = refl
-
-forgotten_state : (m : ℕ) (l : Option GroupView) → state_in (list_forgotten m l) ≡ state_in l
-unfolding forgotten
-forgotten_state m None = refl
-forgotten_state m (Some l) = by (nat_le m l.len)
-  where
-    by : (b : Bool) → (if b then record l { start = max l.start m; entries = drop (m - l.start) l.entries } else l).state ≡ l.state
-    by true = refl
-    by false = refl
 
 pub forgets_onward : (c : Core) (h : List ℕ) (m : ℕ) → Onward c (forget_below c h m)
 unfolding forget_below

@@ -15,12 +15,8 @@ use Rattle.row_laws.specs.hearing.Hearing.{last_heard, Follows, InARow, AtPut, H
 use Rattle.node_state.proofs.NameOrder.{text_same}
 use Rattle.step_refinement.proofs.SessionLaws.{provider_same}
 use Rattle.row_laws.proofs.hearing.Attending.{heard_own}
-
-number_is : {a b : ℕ} → Some a ≡ Some b → a ≡ b
-number_is e = cc
-
-view_is : (a b : ViewId) → same_view a b ≡ true → a ≡ b
-view_is a b z = grind (arith, nat_tests)
+use Rattle.row_laws.proofs.hearing.Handing.{some_is}
+use Rattle.view_state.proofs.ViewOrder.{same_view_is}
 
 cases_le : (k m : ℕ) → (k ≤ m) ⊎ (m < k)
 cases_le k m = by (nat_le k m) refl
@@ -88,7 +84,7 @@ module _ (p : ProviderId) (v : ViewId) (g : List ℕ) where
       still z = other i r rs (ap (λ b. if b then Some m else last_heard p v g rs) z) c
 
       by : (a b d : Bool) → same_provider q p ≡ a → same_view u v ≡ b → bytes_eq h g ≡ d → Covers i (r ∷ rs)
-      by true true true x y z = next (provider_same q p x) (view_is u v y) (text_same h g z)
+      by true true true x y z = next (provider_same q p x) (same_view_is u v y) (text_same h g z)
       by false b d x y z = still (λ i. x i && (y i && z i))
       by true false d x y z = still (λ i. x i && (y i && z i))
       by true true false x y z = still (λ i. x i && (y i && z i))
@@ -123,7 +119,7 @@ module _ (p : ProviderId) (v : ViewId) (g : List ℕ) where
   between rs row i k j a b low high =
       let c : Covers i rs = covers_from i rs row a in
       let d : Covers j rs = covers_from j rs row b in
-      let same : d.last ≡ c.last = number_is (sym d.is ∙ c.is) in
+      let same : d.last ≡ c.last = some_is (sym d.is ∙ c.is) in
       let le : j ≤ d.last = d.upto in c.all k low (omega (arith, same, le, high))
 
 pub no_gap : HeardLeavesNoGap

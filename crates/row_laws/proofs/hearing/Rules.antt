@@ -1,5 +1,5 @@
 -- What the rules of a step do, change by change, where the view stays.
-use Rattle.std.proofs.Common.{◌≡◌, ℕ, ◌+◌, ◌-◌, List, [], ◌∷◌, ◌++◌, take, drop, Option, Some, None, Bool, true, false, refl, sym, subst, inl, inr, arith}
+use Rattle.std.proofs.Common.{◌≡◌, ℕ, ◌+◌, ◌-◌, List, [], ◌∷◌, take, drop, Option, Some, None, Bool, true, false, refl, sym, subst, inl, inr, arith}
 use Rattle.std.specs.Prelude.{not, ◌==◌, ◌&&◌, filter, find, fold, nat_lt, nat_le, Result, Ok, Err}
 use Rattle.std.specs.Option.{unwrap_or}
 use Rattle.std.specs.List.{last_or}
@@ -14,7 +14,7 @@ use Rattle.group_attr.specs.declared.attrs.Attrs.{Attrs}
 use Rattle.group_attr.specs.declared.attrs.Phases.{Phases}
 use Rattle.proposal_core.specs.declared.proposal.Cause.TheVariants.{Gone}
 use Rattle.proposal_core.specs.declared.proposal.Proposal.{Proposal}
-use Rattle.proposal_core.specs.declared.proposal.Proposal.TheVariants.{Join, Leave, Fail, Expel, State, Message, Attributes, Reflect}
+use Rattle.proposal_core.specs.declared.proposal.Proposal.TheVariants.{Join}
 use Rattle.proposal_core.specs.declared.entry.Vote.{Vote}
 use Rattle.proposal_core.specs.declared.entry.Entry.{Entry}
 use Rattle.proposal_core.specs.declared.entry.Entry.TheVariants.{Late}
@@ -63,6 +63,7 @@ use Rattle.node_state.specs.Deciding.{keep_decision, join_refusal, is_idle_empty
 use Rattle.node_state.specs.Following.{take_lookup, told_if, take_tell, requests_of, named, is_name_used, take_name, tell_again, decide_new, request_after, request_at, is_group_refused, take_request, entry_next, entry_elsewhere, take_entry, acked, take_ack, vote_cast, take_vote, tally_failed, wait_gone, marked, gone_present, gone_of, take_gone}
 use Rattle.node_state.specs.Ticks.{ring_put, set_records, ring_taken, ring_rule_of, ring_rule, take_report, rings_union, report_of, send_report, rings_tick, tick_rings, is_lost, lost_told, tick_owed, late_appended, announced, ticked_in, tally_ticks, entries_sent, list_sent_again, sent_again, tick_group, tick_led}
 use Rattle.node_state.specs.Calls.{caller, subscriber, refuse_call, changed, ask_last, proposed, record_ballot, ballot_sent_if, cast_last, give_ballot, send_gone, send_all_gone, goodbye_said, take_call}
+use Rattle.step_walk.proofs.Kept.{last_is}
 use Rattle.row_laws.specs.hearing.Changes.{Records, Loses, Joins, Votes, Inner, Fewer, voting, Unentered}
 use Rattle.row_laws.proofs.hearing.Changes.{inner_unentered, calm_same, calm_all, Sends, sends_nothing, sends_then, sends_fold, sends_on, sends_one, sends_all, sends_known, Onward, onward_same, onward_then, onward_sends, onward_row, onward_led, onward_records, put_handed_onward}
 use Rattle.row_laws.proofs.hearing.Leading.{forgets_onward, appended_onward, closes_onward, begins_onward, refused_onward, waits_onward}
@@ -70,30 +71,37 @@ use Rattle.row_laws.proofs.hearing.Sessions.{fewer_same, fewer_told, fewer_ended
 
 -- ---- what is owed is sent
 
-request_to_sends : (c : Core) (q : Request) (o : Option ℕ) → Sends c (send_request_to c q o)
-unfolding send_request_to
-request_to_sends c q None = sends_one c _ _
-request_to_sends c q (Some n) = sends_one c _ _
-
-request_sends : (c : Core) (q : Request) → Sends c (send_request c q)
-unfolding send_request
+pub request_sends : (c : Core) (q : Request) → Sends c (send_request c q)
+unfolding send_request send_request_to
 request_sends c q = by (frozen c)
   where
+    to : (o : Option ℕ) → Sends c (send_request_to c q o)
+    to None = sends_one c _ _
+    to (Some n) = sends_one c _ _
+
     by : (b : Bool) → Sends c (elim b as (λ _. Core) [ true ↦ c | false ↦ send_request_to c q (leader_of c q.group) ])
     by true = sends_nothing c
-    by false = request_to_sends c q (leader_of c q.group)
+    by false = to (leader_of c q.group)
 
 requests_sends : (c : Core) → Sends c (send_requests c)
 unfolding send_requests
 requests_sends c = sends_fold send_request request_sends c.sessions.requests c
 
-kept_sends : (c : Core) (k : KeptBallot) → Sends c (send_kept c k)
+pub kept_sends : (c : Core) (k : KeptBallot) → Sends c (send_kept c k)
 unfolding send_kept send_kept_to
 kept_sends c k = by k.ballot.filled
   where
     by : (o : Option Filled) → Sends c (send_kept_to c k (leader_of c k.group) o)
     by None = sends_nothing c
     by (Some b) = sends_known c _ _
+
+pub gone_sends : (c : Core) (xs : List Provider) → Sends c (send_all_gone c xs)
+unfolding send_all_gone send_gone
+gone_sends c xs = by (frozen c)
+  where
+    by : (b : Bool) → Sends c (elim b as (λ _. Core) [ true ↦ c | false ↦ fold send_gone c xs ])
+    by true = sends_nothing c
+    by false = sends_fold send_gone (λ t x. sends_known t _ _) xs c
 
 kept_again_sends : (c : Core) (k : KeptBallot) → Sends c (kept_sent_again c k)
 unfolding kept_sent_again kept_sent_if
@@ -174,13 +182,7 @@ decided_other_onward f c h p r phases x (Some y) = refused_onward c h p r y
 decided_onward : (f : Answering) (c : Core) (h : List ℕ) (p : ProviderId) (r : ℕ) (phases : Phases) (x : Proposal) → Onward c (decided f c h p r phases x)
 unfolding decided
 decided_onward f c h p r phases (Join ps a n) = decided_join_onward c h p r a (join_refusal c h p a)
-decided_onward f c h p r phases (Leave q k) = decided_other_onward f c h p r phases (Leave q k) _
-decided_onward f c h p r phases (Fail out) = decided_other_onward f c h p r phases (Fail out) _
-decided_onward f c h p r phases (Expel q k out) = decided_other_onward f c h p r phases (Expel q k out) _
-decided_onward f c h p r phases (State q k value) = decided_other_onward f c h p r phases (State q k value) _
-decided_onward f c h p r phases (Message q k bytes) = decided_other_onward f c h p r phases (Message q k bytes) _
-decided_onward f c h p r phases (Attributes q k attrs) = decided_other_onward f c h p r phases (Attributes q k attrs) _
-decided_onward f c h p r phases (Reflect v i value) = decided_other_onward f c h p r phases (Reflect v i value) _
+decided_onward f c h p r phases x = decided_other_onward f c h p r phases x _
 
 -- ---- packets of a view
 
@@ -450,10 +452,6 @@ proposed_onward c client (Ok u) k =
     let d : Core = with_sessions c u in onward_then c d (ask_last d (last_or None u.requests)) (k u refl) (last_asked_onward d (last_or None u.requests))
 proposed_onward c client (Err fault) k = onward_record c (happened.Refused c.views.me client fault) tt
 
-last_is : (xs : List KeptBallot) (k : KeptBallot) (o : Option KeptBallot) → last_or o (xs ++ k ∷ []) ≡ Some k
-last_is [] k o = refl
-last_is (x ∷ xs) k o = last_is xs k (Some x)
-
 -- a ballot that is kept is recorded, and sent
 given_onward : (c : Core) (client : List ℕ) (r : Result SessionState GsFault) → ((u : SessionState) → r ≡ Ok u → Casts c.sessions u) → Onward c (give_ballot c client r)
 unfolding give_ballot refuse_call cast_last record_ballot ballot_sent_if with_sessions recorded recorded_all
@@ -479,13 +477,9 @@ given_onward c client (Ok u) k =
     sends d k false = onward_sends d _ (kept_sends d k)
 
 said_onward : (c : Core) (client : List ℕ) (ended : List Provider) (r : Result SessionState GsFault) → ((u : SessionState) → r ≡ Ok u → Fewer c.sessions u) → Onward c (goodbye_said c client ended r)
-unfolding goodbye_said refuse_call send_gone send_all_gone frozen
+unfolding goodbye_said refuse_call
 said_onward c client ended (Ok u) k =
-    let d : Core = with_sessions c u in onward_then c d (send_all_gone d ended) (onward_loses c u (k u refl)) (by d (frozen d))
-  where
-    by : (d : Core) (b : Bool) → Onward d (elim b as (λ _. Core) [ true ↦ d | false ↦ fold send_gone d ended ])
-    by d true = onward_same d
-    by d false = onward_sends d _ (sends_fold send_gone (λ t x. sends_known t _ _) ended d)
+    let d : Core = with_sessions c u in onward_then c d (send_all_gone d ended) (onward_loses c u (k u refl)) (onward_sends d (send_all_gone d ended) (gone_sends d ended))
 said_onward c client ended (Err fault) k = onward_record c (happened.Refused c.views.me client fault) tt
 
 -- a provider has one client

@@ -56,7 +56,7 @@ use Rattle.row_laws.specs.hearing.Changes.{Same, Does, Stays, Then, Enters, Inne
 use Rattle.row_laws.proofs.hearing.Changes.{Sends, sends_nothing, sends_fold, sends_on, sends_one, Keeps, Onward, onward_same, onward_then, onward_sends, onward_records, put_handed_onward}
 use Rattle.row_laws.proofs.hearing.Leading.{waits_onward, opened_onward, end_onward}
 use Rattle.row_laws.proofs.hearing.Rules.{OneOwner, onward_fold, owed_sends, owed_part_onward, lookup_onward, tell_onward, name_onward, request_onward, entry_onward, ack_onward, closes_on, vote_onward, gone_onward, ring_onward, report_onward, rings_onward, led_part_onward, call_onward}
-use Rattle.row_laws.proofs.hearing.Whose.{whose_asks, whose_prepares, whose_answers, whose_refuses, whose_installs, whose_takes, whose_ticks, whose_reminds}
+use Rattle.row_laws.proofs.hearing.InView.{stay_asks, stay_prepares, stay_answers, stay_refuses, stay_installs, stay_takes, stay_ticks, stay_reminds}
 
 -- rows stand in the order of their names, and the promise is no less than the view
 pub record Fit (c : Core) : Type 0 where
@@ -93,12 +93,12 @@ once_after a b c (Stayed x q) d e = Stayed (Then a b c x d) (e ∙ q)
 once_after a b c (Entered t i x q lt none y r) d e = Entered t i x q lt none (Then (entering t i) b c y d) (e ∙ r)
 
 -- no view is entered
-record Remains (c d : Core) : Type 0 where
+pub record Remains (c d : Core) : Type 0 where
   fit : Fit d
   does : Does c d
   view : d.views.view ≡ c.views.view
 
-remains : (c d : Core) → Onward c d → Fit c → Remains c d
+pub remains : (c d : Core) → Onward c d → Fit c → Remains c d
 remains c d k h =
     let x = k h.order in
     record { fit = record { order = x.order; views = subst AreViews (sym x.views) h.views }; does = x.does; view = ap (λ z. z.view) x.views }
@@ -109,22 +109,22 @@ comes_keeps c d k h = let x = remains c d k h in record { fit = x.fit; once = St
 pub comes_same : (c : Core) → Comes c c
 comes_same c = comes_keeps c c (onward_same c)
 
-comes_before : (a b c : Core) → Onward a b → Comes b c → Comes a c
+pub comes_before : (a b c : Core) → Onward a b → Comes b c → Comes a c
 comes_before a b c p q h =
     let x = remains a b p h in
     let y = q x.fit in record { fit = y.fit; once = once_before a b c x.does x.view y.once }
 
-comes_remains : (a b c : Core) → Comes a b → (Fit b → Remains b c) → Comes a c
+pub comes_remains : (a b c : Core) → Comes a b → (Fit b → Remains b c) → Comes a c
 comes_remains a b c p q h =
     let x = p h in
     let y = q x.fit in record { fit = y.fit; once = once_after a b c x.once y.does y.view }
 
-comes_after : (a b c : Core) → Comes a b → Onward b c → Comes a c
+pub comes_after : (a b c : Core) → Comes a b → Onward b c → Comes a c
 comes_after a b c p q = comes_remains a b c p (remains b c q)
 
 -- ---- entering a view
 
-filled_onward : (f : Answering) (xs : List Lacking) (c : Core) → Onward c (fill_lists f c xs)
+pub filled_onward : (f : Answering) (xs : List Lacking) (c : Core) → Onward c (fill_lists f c xs)
 unfolding fill_lists
 filled_onward f xs c =
     onward_fold (λ t (x : Lacking). fold (λ u e. put_and_hand f u None x.name e) t x.entries) (λ t x. onward_fold (λ u (e : Entry). put_and_hand f u None x.name e) (λ u e. put_handed_onward f u None x.name e) x.entries t) xs c
@@ -134,13 +134,13 @@ pub record Stands (c d : Core) : Type 0 where
   pub groups : d.groups ≡ c.groups
   pub views : d.views ≡ c.views
 
-stands_fold : {A : Type 0} (f : Core → A → Core) → ((c : Core) (x : A) → Stands c (f c x)) → (xs : List A) (c : Core) → Stands c (fold f c xs)
+pub stands_fold : {A : Type 0} (f : Core → A → Core) → ((c : Core) (x : A) → Stands c (f c x)) → (xs : List A) (c : Core) → Stands c (fold f c xs)
 stands_fold f one [] c = record { groups = refl; views = refl }
 stands_fold f one (x ∷ xs) c =
     let a = one c x in
     let b = stands_fold f one xs (f c x) in record { groups = b.groups ∙ a.groups; views = b.views ∙ a.views }
 
-dissolved_stands : (c : Core) (h : List ℕ) (old : ViewId) (b : Option Base) (o : Option Provider) → Stands c (dissolved_if c h old b o)
+pub dissolved_stands : (c : Core) (h : List ℕ) (old : ViewId) (b : Option Base) (o : Option Provider) → Stands c (dissolved_if c h old b o)
 unfolding dissolved_if dissolved recorded with_sessions
 dissolved_stands c h old b None = record { groups = refl; views = refl }
 dissolved_stands c h old b (Some x) = by (x.takes_part && bytes_eq x.group h && not (is_in_base old x.p b))
@@ -154,7 +154,7 @@ unfolding sides_dissolved group_dissolved
 sides_stand c rows old bs =
     stands_fold (group_dissolved old bs) (λ t row. stands_fold (λ (u : Core) p. dissolved_if u row.name old (base_named bs row.name) (provider_of u.sessions p)) (λ u p. dissolved_stands u row.name old (base_named bs row.name) (provider_of u.sessions p)) (present (state_in row.list)) t) rows c
 
-noted_onward : (c : Core) (bs : List Base) → Onward c (entering_noted c bs)
+pub noted_onward : (c : Core) (bs : List Base) → Onward c (entering_noted c bs)
 unfolding entering_noted base_note note_of entering_note
 noted_onward c bs = onward_records (flat_map (entering_note c bs) c.sessions.subs.live) c (all c.sessions.subs.live)
   where
@@ -173,7 +173,7 @@ noted_onward c bs = onward_records (flat_map (entering_note c bs) c.sessions.sub
     all (u ∷ us) r k =
         ⊎_elim (λ (a : Has r (entering_note c bs u)). one u (bytes_eq u.group host_membership) r a) (λ (b : Has r (flat_map (entering_note c bs) us)). all us r b) (has_append r (entering_note c bs u) (flat_map (entering_note c bs) us) k)
 
-taken_sends : (c : Core) → Sends c (taken_sent c)
+pub taken_sends : (c : Core) → Sends c (taken_sent c)
 unfolding taken_sent
 taken_sends c = by (c.views.view.coord == c.views.me)
   where
@@ -181,7 +181,7 @@ taken_sends c = by (c.views.view.coord == c.views.me)
     by true = sends_nothing c
     by false = sends_one c _ _
 
-group_led_onward : (f : Answering) (c : Core) (h : List ℕ) → Onward c (lead f c h)
+pub group_led_onward : (f : Answering) (c : Core) (h : List ℕ) → Onward c (lead f c h)
 unfolding lead wait_failed phase_reopened
 group_led_onward f c h =
     let out : List ProviderId = filter (among (state_of c h).members) (state_of c h).failed in
@@ -192,7 +192,7 @@ group_led_onward f c h =
     by d false = onward_same d
     by d true = onward_then d (tally_opened d h) (closes f (tally_opened d h) h) (opened_onward d h) (closes_on f (tally_opened d h) h)
 
-entered_comes : (f : Answering) (c : Core) (i : Install) (xs : List Lacking) → NoneEntered c → IsNext c.views i.view → Comes c (entered f c i xs)
+pub entered_comes : (f : Answering) (c : Core) (i : Install) (xs : List Lacking) → NoneEntered c → IsNext c.views i.view → Comes c (entered f c i xs)
 unfolding entered owed_sent lead_groups view_entered views_entered recorded_all is_before
 entered_comes f c i xs none next h =
     let filled : Keeps c t = filled_onward f xs c h.order in
@@ -237,7 +237,7 @@ entered_comes f c i xs none next h =
 
 -- ---- what a rule of views leaves
 
-taken_comes : (f : Answering) (c : Core) (w : ViewWork) → NoneEntered c → (AreViews c.views → Goes c.views w) → w.views.me ≡ c.views.me → w.views.inc ≡ c.views.inc → Comes c (views_taken f c w)
+pub taken_comes : (f : Answering) (c : Core) (w : ViewWork) → NoneEntered c → (AreViews c.views → Goes c.views w) → w.views.me ≡ c.views.me → w.views.inc ≡ c.views.inc → Comes c (views_taken f c w)
 unfolding views_taken len_of state_of list_of row_of entered_if apply_install
 taken_comes f c w none goes me inc h =
     let k = goes h.views in
@@ -267,7 +267,7 @@ taken_comes f c w none goes me inc h =
     by (Some i) next = if_lacking i (lacking u i) next
 
 -- where no install is to be applied, the view stays
-taken_remains : (f : Answering) (c : Core) (w : ViewWork) → (AreViews c.views → Goes c.views w) → w.views.me ≡ c.views.me → w.views.inc ≡ c.views.inc → w.install ≡ None → Fit c → Remains c (views_taken f c w)
+pub taken_remains : (f : Answering) (c : Core) (w : ViewWork) → (AreViews c.views → Goes c.views w) → w.views.me ≡ c.views.me → w.views.inc ≡ c.views.inc → w.install ≡ None → Fit c → Remains c (views_taken f c w)
 unfolding views_taken len_of state_of list_of row_of apply_install
 taken_remains f c w goes me inc none h =
     let k = goes h.views in
@@ -288,8 +288,8 @@ module _ (f : Answering) (c : Core) (none : NoneEntered c) where
   ask_comes : (mask : Mask) → Comes c (views_taken f c (ask_rule (views_at_work c.views) mask (own_parts c)))
   unfolding view_stepped steps.view_rule
   ask_comes mask =
-      let k = whose_asks (views_at_work c.views) mask (own_parts c) in
-      taken_comes f c (ask_rule (views_at_work c.views) mask (own_parts c)) none (λ a. promises_stand c.views (event.Ask mask) (own_parts c) a) k.0 k.1
+      let k = stay_asks (views_at_work c.views) mask (own_parts c) in
+      taken_comes f c (ask_rule (views_at_work c.views) mask (own_parts c)) none (λ a. promises_stand c.views (event.Ask mask) (own_parts c) a) k.0 k.2
 
   pub order_comes : (mask : Mask) → Comes c (take_order f c mask)
   unfolding take_order
@@ -302,30 +302,30 @@ module _ (f : Answering) (c : Core) (none : NoneEntered c) where
   pub view_comes : (from inc : ℕ) (y : ViewPacket) → Comes c (view_rule f c from inc y)
   unfolding view_rule view_stepped steps.view_rule
   view_comes from inc (packet.Prepare v mask) =
-      let k = whose_prepares (views_at_work c.views) from inc v mask (own_parts c) in
-      taken_comes f c (prepare_rule (views_at_work c.views) from inc v mask (own_parts c)) none (λ a. promises_stand c.views (event.Prepare from inc v mask) (own_parts c) a) k.0 k.1
+      let k = stay_prepares (views_at_work c.views) from inc v mask (own_parts c) in
+      taken_comes f c (prepare_rule (views_at_work c.views) from inc v mask (own_parts c)) none (λ a. promises_stand c.views (event.Prepare from inc v mask) (own_parts c) a) k.0 k.2
   view_comes from inc (packet.Answer v old parts) =
       let x : Answer = record { node = from; inc = inc; view = old; parts = parts } in
-      let k = whose_answers (views_at_work c.views) v x in
-      taken_comes f c (answer_rule (views_at_work c.views) v x) none (λ a. promises_stand c.views (event.Answer from inc v (record { view = old; parts = parts })) (own_parts c) a) k.0 k.1
+      let k = stay_answers (views_at_work c.views) v x in
+      taken_comes f c (answer_rule (views_at_work c.views) v x) none (λ a. promises_stand c.views (event.Answer from inc v (record { view = old; parts = parts })) (own_parts c) a) k.0 k.2
   view_comes from inc (packet.Refuse v n) =
-      let k = whose_refuses (views_at_work c.views) v n in
-      taken_comes f c (refuse_rule (views_at_work c.views) v n) none (λ a. promises_stand c.views (event.Refuse v n) (own_parts c) a) k.0 k.1
+      let k = stay_refuses (views_at_work c.views) v n in
+      taken_comes f c (refuse_rule (views_at_work c.views) v n) none (λ a. promises_stand c.views (event.Refuse v n) (own_parts c) a) k.0 k.2
   view_comes from inc (packet.Install i) =
-      let k = whose_installs (views_at_work c.views) i in
-      taken_comes f c (install_rule (views_at_work c.views) i) none (λ a. promises_stand c.views (event.Install i) (own_parts c) a) k.0 k.1
+      let k = stay_installs (views_at_work c.views) i in
+      taken_comes f c (install_rule (views_at_work c.views) i) none (λ a. promises_stand c.views (event.Install i) (own_parts c) a) k.0 k.2
   view_comes from inc (packet.Taken v) =
-      let k = whose_takes (views_at_work c.views) from v in
-      taken_comes f c (taken_rule (views_at_work c.views) from v) none (λ a. promises_stand c.views (event.Taken from v) (own_parts c) a) k.0 k.1
+      let k = stay_takes (views_at_work c.views) from v in
+      taken_comes f c (taken_rule (views_at_work c.views) from v) none (λ a. promises_stand c.views (event.Taken from v) (own_parts c) a) k.0 k.2
 
   tick_comes : Comes c (views_taken f c (gathering_ticks (views_at_work c.views) (ring_ask c) (own_parts c)))
   unfolding view_stepped steps.view_rule
   tick_comes =
-      let k = whose_ticks (views_at_work c.views) (ring_ask c) (own_parts c) in
-      taken_comes f c (gathering_ticks (views_at_work c.views) (ring_ask c) (own_parts c)) none (λ a. promises_stand c.views (event.Tick (ring_ask c)) (own_parts c) a) k.0 k.1
+      let k = stay_ticks (views_at_work c.views) (ring_ask c) (own_parts c) in
+      taken_comes f c (gathering_ticks (views_at_work c.views) (ring_ask c) (own_parts c)) none (λ a. promises_stand c.views (event.Tick (ring_ask c)) (own_parts c) a) k.0 k.2
 
 module _ (f : Answering) (c : Core) where
-  reminds_only : (install_again (views_at_work c.views)).install ≡ None
+  pub reminds_only : (install_again (views_at_work c.views)).install ≡ None
   unfolding install_again install_again_of view_sent_all
   reminds_only = by (is_coordinator c.views && not (is_frozen c.views))
     where
@@ -340,11 +340,11 @@ module _ (f : Answering) (c : Core) where
       by true = at c.views.install
       by false = refl
 
-  remind_remains : Fit c → Remains c (views_taken f c (install_again (views_at_work c.views)))
+  pub remind_remains : Fit c → Remains c (views_taken f c (install_again (views_at_work c.views)))
   unfolding view_stepped steps.view_rule
   remind_remains =
-      let k = whose_reminds (views_at_work c.views) in
-      taken_remains f c (install_again (views_at_work c.views)) (λ a. promises_stand c.views event.Remind (own_parts c) a) k.0 k.1 reminds_only
+      let k = stay_reminds (views_at_work c.views) in
+      taken_remains f c (install_again (views_at_work c.views)) (λ a. promises_stand c.views event.Remind (own_parts c) a) k.0 k.2 reminds_only
 
 pub views_part_comes : (f : Answering) (c : Core) → NoneEntered c → Comes c (tick_views f c)
 unfolding tick_views
@@ -354,7 +354,7 @@ views_part_comes f c none =
 
 -- ---- a whole step
 
-used_comes : (c d : Core) (b : Bool) → Comes c d → Comes c (used_if c d b)
+pub used_comes : (c d : Core) (b : Bool) → Comes c d → Comes c (used_if c d b)
 unfolding used_if
 used_comes c d true k = k
 used_comes c d false k = comes_same c

@@ -92,12 +92,12 @@ entry_pushed rs l v e new old d i = by (has_append d l.entries (e ∷ []) i)
     by (inr (inr z)) = absurd z
 
 -- an entry that begins and ends at once leaves nothing running, and one of who is late leaves what runs
-once_idle : (st : GroupState) (v : ViewId) (i : ℕ) (x : Proposal) → fits st (Once x) ≡ true → (after st v i (Once x)).running ≡ None
+pub once_idle : (st : GroupState) (v : ViewId) (i : ℕ) (x : Proposal) → fits st (Once x) ≡ true → (after st v i (Once x)).running ≡ None
 unfolding after after_if apply approve
 once_idle st v i x e =
     ap (λ b. (after_if st v i (Once x) b).running) e ∙ idle_approved (begun st v i x) v i None (begun st v i x).running refl
 
-late_same : (st : GroupState) (v : ViewId) (i : ℕ) (e : Entry) → apply st v i e ≡ st → after st v i e ≡ st
+pub late_same : (st : GroupState) (v : ViewId) (i : ℕ) (e : Entry) → apply st v i e ≡ st → after st v i e ≡ st
 unfolding after after_if
 late_same st v i e same = by (fits st e)
   where
@@ -111,7 +111,7 @@ row_is_same rs led row now t r (inl e) = inl (t ∙ e)
 row_is_same rs led row now t r (inr k) = inr (k.0, subst (λ (z : Option TallyView × Option Running). TallyCast rs z.0 z.1) (λ i. (sym t i, sym r i)) k.1)
 
 -- where nothing runs, no vote counts
-row_is_idle : (rs : List Happened) (led : Bool) (row now : GroupRow) → now.led.tally ≡ row.led.tally → (state_in now.list).running ≡ None → RowIs rs led row → RowIs rs led now
+pub row_is_idle : (rs : List Happened) (led : Bool) (row now : GroupRow) → now.led.tally ≡ row.led.tally → (state_in now.list).running ≡ None → RowIs rs led row → RowIs rs led now
 row_is_idle rs led row now t r (inl e) = inl (t ∙ e)
 row_is_idle rs led row now t r (inr k) = inr (k.0, subst (λ z. TallyCast rs now.led.tally z) (sym r) (by now.led.tally))
   where
@@ -119,7 +119,7 @@ row_is_idle rs led row now t r (inr k) = inr (k.0, subst (λ z. TallyCast rs now
     by None = tt
     by (Some x) = tt
 
-row_ticked : (rs : List Happened) (led : Bool) (row : GroupRow) → RowIs rs led row → RowIs rs led (record row { led = record (row.led) { tally = ticked_in row.led.tally } })
+pub row_ticked : (rs : List Happened) (led : Bool) (row : GroupRow) → RowIs rs led row → RowIs rs led (record row { led = record (row.led) { tally = ticked_in row.led.tally } })
 row_ticked rs led row (inl e) = inl (ap ticked_in e)
 row_ticked rs led row (inr k) = inr (k.0, by row.led.tally k.1)
   where
@@ -140,12 +140,12 @@ row_voted rs led row p v value message ok k = by row.led.tally refl k
     by (Some t) e (inl none) = let z : Some t ≡ None = sym e ∙ none in absurd (cc)
     by (Some t) e (inr j) = inr (j.0, voted_cast rs p v t run ok (subst (λ z. TallyCast rs z run) e j.1))
 
-row_failed : (rs : List Happened) (led : Bool) (row : GroupRow) (p : ProviderId) (t : TallyView) → row.led.tally ≡ Some t → RowIs rs led row → RowIs rs led (record row { led = record (row.led) { tally = Some (tally_fail p t) } })
+pub row_failed : (rs : List Happened) (led : Bool) (row : GroupRow) (p : ProviderId) (t : TallyView) → row.led.tally ≡ Some t → RowIs rs led row → RowIs rs led (record row { led = record (row.led) { tally = Some (tally_fail p t) } })
 row_failed rs led row p t e (inl none) = let z : Some t ≡ None = sym e ∙ none in absurd (cc)
 row_failed rs led row p t e (inr k) = inr (k.0, failed_cast rs p t (state_in row.list).running (subst (λ z. TallyCast rs z (state_in row.list).running) e k.1))
 
 -- what the node does not lead is not counted
-row_unled : (rs : List Happened) (led : Bool) (row : GroupRow) → led ≡ false → RowIs rs led row → row.led.tally ≡ None
+pub row_unled : (rs : List Happened) (led : Bool) (row : GroupRow) → led ≡ false → RowIs rs led row → row.led.tally ≡ None
 row_unled rs led row e (inl none) = none
 row_unled rs led row e (inr k) = let z : true ≡ false = sym k.0 ∙ e in absurd (cc)
 
@@ -241,7 +241,7 @@ abbrev pub But : List ℕ → List ℕ → Type 0
 But g k = g ≡ k → ⊥
 
 -- evidence is asked for
-sure : {A : Type 0} → A ⊎ ⊥ → A
+pub sure : {A : Type 0} → A ⊎ ⊥ → A
 sure (inl a) = a
 sure (inr z) = absurd z
 
@@ -322,7 +322,7 @@ module _ (h : History) where
         handed = λ s before after bs kept a. (at_sessions h T s (session.handed_on s.sessions g before after e bs) (λ k i. ⊎_elim (λ (j : Has k s.sessions.kept). (a.0).kept k j) (λ (j : KeptIs s.records k). cast_so s.records (records_of h) k.p k.proto k.phase k.ballot.filled j) (kept k i)) a.0, a.1);
       }
 
-  abbrev put_row : Core → GroupRow → Entry → GroupRow
+  abbrev pub put_row : Core → GroupRow → Entry → GroupRow
   put_row s row e = record row { list = Some (with_entry (list_or_new row.list) s.views.view e) }
 
   at_put : (E : List Happened → Type 0) → Lasts E → (T U : List ℕ → Type 0) (s : Core) (g : List ℕ) (e : Entry) (ns : List ℕ) (stable : ℕ) (bs : List (Option Filled)) → ((rs : List Happened) → E rs → EntryCast rs e) → ((k : List ℕ) → U k → (g ≡ k → ⊥) → T k) → (U g → Is s (put_row s (found s g) e)) → With T E s → With U E (delivered s g e ns stable bs)
@@ -364,13 +364,10 @@ module _ (h : History) where
 
       by : (e : Entry) → Turning NamesOnce s g e → EntryCast (all_of s) e
       by (Begin x) t = t
-      by (Once x) t = made (Once x) t
       by (Late proto phase ps) t = tt
-      by (Phase c) t = made (Phase c) t
-      by (Approve c) t = made (Approve c) t
-      by (Reject c) t = made (Reject c) t
+      by x t = made x t
 
-  opened : (s : Core) (g : List ℕ) → leads s g ≡ true → At h (But g) s → At h Every (tally_opened s g)
+  pub opened : (s : Core) (g : List ℕ) → leads s g ≡ true → At h (But g) s → At h Every (tally_opened s g)
   unfolding tally_opened tally_set with_led led_of state_of list_of row_of
   opened s g led a =
       at_row_for h (But g) Every s g (λ row. record row { led = record (row.led) { tally = Some (tally_for (state_in (found s g).list) (found s g).led.gone); given = [] } }) (λ x. refl) (λ x all. all) (λ z. z) (λ k u ne. ne) (λ u. inr (leads_is s g ∙ led, opened_cast (all_of s) (state_in (found s g).list) (found s g).led.gone (state_in (found s g).list).running)) a
@@ -406,15 +403,15 @@ module _ (h : History) where
     pub request : (v : ViewId) (g : List ℕ) (p : ProviderId) (r : ℕ) (phases : Phases) (x : Proposal) → q.body ≡ body.Request v g p r phases x → q.to ≡ s.views.me → is_used s q v ≡ true → leads (set_leader s g s.views.me) g ≡ true
 
   -- a leader is known
-  led_by : (s : Core) (g : List ℕ) (n : ℕ) → Is s (record (found s g) { leader = Some n }) → Full s → Full (set_leader s g n)
+  pub led_by : (s : Core) (g : List ℕ) (n : ℕ) → Is s (record (found s g) { leader = Some n }) → Full s → Full (set_leader s g n)
   unfolding set_leader
   led_by s g n own a = at_row h Every s g (λ row. record row { leader = Some n }) (λ x. refl) (λ x all. all) (λ z. z) (λ t. own) a
 
-  idle_row : (s : Core) (g : List ℕ) → leads s g ≡ false → Full s → (found s g).led.tally ≡ None
+  pub idle_row : (s : Core) (g : List ℕ) → leads s g ≡ false → Full s → (found s g).led.tally ≡ None
   idle_row s g un a = row_unled (all_of s) (leads_row s (found s g)) (found s g) (leads_is s g ∙ un) (a.tallies g tt)
 
   -- nobody leads where nobody is known
-  unnamed : (s : Core) (g : List ℕ) → is_none (leader_of s g) ≡ true → leads s g ≡ false
+  pub unnamed : (s : Core) (g : List ℕ) → is_none (leader_of s g) ≡ true → leads s g ≡ false
   unfolding leads leads_in leader_of
   unnamed s g e = by (leader_in s (row_of s g)) e
     where
@@ -422,7 +419,7 @@ module _ (h : History) where
       by None e = refl
       by (Some n) e = absurd (cc)
 
-  noted : (s : Core) (g : List ℕ) → leads (set_leader s g s.views.me) g ≡ true → Full s → Full (set_leader s g s.views.me)
+  pub noted : (s : Core) (g : List ℕ) → leads (set_leader s g s.views.me) g ≡ true → Full s → Full (set_leader s g s.views.me)
   unfolding set_leader with_row leads leads_in leader_in row_of
   noted s g leads_it a = led_by s g s.views.me (own (a.tallies g tt)) a
     where
@@ -449,7 +446,7 @@ module _ (h : History) where
       let d : Core = keep_decision s g p r None in
       led_row d g (λ l. record l { waiting = waits_join p l.waiting; join_attrs = keep_attrs l.join_attrs p attrs (is_idle_empty (state_of s g)) }) (λ l. refl) (λ z. differ_push (found d g).led.waiting.joins p z (ap (λ (row : GroupRow). among row.led.waiting.joins p) (row_here g (λ row. record row { led = record (row.led) { decided = decisions_with (record { p = p; r = r; why = None }) row.led.decided } }) (λ x. refl) s a.order) ∙ join_new s g p attrs e)) (led_row s g _ (λ l. refl) (λ z. z) a)
 
-  telling : (s : Core) (p : ProviderId) (r : ℕ) (y : Why) → Full s → Full (recorded (with_sessions s (take_telling s.sessions p r y)) (happened.Told p r y))
+  pub telling : (s : Core) (p : ProviderId) (r : ℕ) (y : Why) → Full s → Full (recorded (with_sessions s (take_telling s.sessions p r y)) (happened.Told p r y))
   telling s p r y a =
       at_recorded h Every (with_sessions s (take_telling s.sessions p r y)) (happened.Told p r y) tt (at_sessions h Every s (take_telling s.sessions p r y) (λ k i. a.kept k (told_no_more s.sessions p r y k i)) a)
 

@@ -59,19 +59,10 @@ module _ (rs ts : List Happened) (more : (r : Happened) → Has r rs → Has r t
   packet_on (view.Taken v) k = tt
 
   pub body_on : (b : Body) → BodyCast rs b → BodyCast ts b
-  body_on (body.Ring x) k = tt
-  body_on (body.Report rows) k = tt
   body_on (body.View y) k = packet_on y k
-  body_on (body.Lookup v g) k = tt
-  body_on (body.Name v g n) k = tt
-  body_on (body.Request v g q r phases x) k = tt
-  body_on (body.Tell v g q r y) k = tt
   body_on (body.Entry v g place stable e) k = entry_on e k
-  body_on (body.Ack v g n) k = tt
   body_on (body.Vote v g proto phase p vote value message) k = cast_on p proto phase vote k
-  body_on (body.Gone v g q) k = tt
-  body_on (body.Query question what) k = tt
-  body_on (body.Reply question text) k = tt
+  body_on _ k = tt
 
   pub ballot_on : (p : ProviderId) (proto : ProtoId) (phase : ℕ) (b : Option Filled) → BallotCast rs p proto phase b → BallotCast ts p proto phase b
   ballot_on p proto phase None k = tt

@@ -40,12 +40,12 @@ use Rattle.row_laws.proofs.honest_votes.More.{body_on}
 use Rattle.row_laws.proofs.honest_votes.At.{At}
 use Rattle.row_laws.proofs.honest_votes.Changes.{Every, But, Known, Works, Leaving, beside, packets, calling, entering, ring}
 
-past_end : (xs : List Entry) (e : Entry) → slice_get xs (length xs) ≡ Some e → ⊥
+pub past_end : (xs : List Entry) (e : Entry) → slice_get xs (length xs) ≡ Some e → ⊥
 past_end [] e q = absurd (cc)
 past_end (x ∷ xs) e q = past_end xs e q
 
 -- a leader has all that was sent of its view: no entry comes to it at its length
-entry_follows : (v : ViewId) (g : List ℕ) (place stable : ℕ) (e : Entry) (w : Scene) (n : ℕ) (s : Core) (p : Packet) → p.body ≡ body.Entry v g place stable e → Has p w.sent → Tied g w n s → is_used s p v ≡ true → (place == len_of s g) ≡ true → leads s g ≡ true → ⊥
+pub entry_follows : (v : ViewId) (g : List ℕ) (place stable : ℕ) (e : Entry) (w : Scene) (n : ℕ) (s : Core) (p : Packet) → p.body ≡ body.Entry v g place stable e → Has p w.sent → Tied g w n s → is_used s p v ≡ true → (place == len_of s g) ≡ true → leads s g ≡ true → ⊥
 entry_follows v g place stable e w n s p is delivered t used at led =
     let k = used_is s p v used in
     let shown : ShowsEntry t.ghost p.from p.inc v place stable e = (subst (ShowsBody t.ghost g p.from p.inc p.to) is (t.packets p (append_has_right p s.sends w.sent delivered))) refl in
@@ -61,7 +61,7 @@ entry_follows v g place stable e w n s p is delivered t used at led =
     past_end (t.ghost.nodes n).list e (past ∙ get)
 
 -- a node that is sent a request leads the group, once it has noted that
-request_leads : (v : ViewId) (g : List ℕ) (q : ProviderId) (r : ℕ) (phases : Phases) (x : Proposal) (w : Scene) (n : ℕ) (s : Core) (p : Packet) → p.body ≡ body.Request v g q r phases x → p.to ≡ n → Has p w.sent → Tied g w n s → is_used s p v ≡ true → leads (set_leader s g s.views.me) g ≡ true
+pub request_leads : (v : ViewId) (g : List ℕ) (q : ProviderId) (r : ℕ) (phases : Phases) (x : Proposal) (w : Scene) (n : ℕ) (s : Core) (p : Packet) → p.body ≡ body.Request v g q r phases x → p.to ≡ n → Has p w.sent → Tied g w n s → is_used s p v ≡ true → leads (set_leader s g s.views.me) g ≡ true
 unfolding leads leads_in leader_in set_leader with_row
 request_leads v g q r phases x w n s p is to delivered t used = by s.config.mode t.own.0.led
   where

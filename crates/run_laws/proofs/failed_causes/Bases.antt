@@ -9,29 +9,25 @@ use Rattle.rsct_packet.specs.declared.ids.Member.{Member}
 use Rattle.rsct_packet.specs.Ids.{same_view}
 use Rattle.proposal_core.specs.declared.group_state.GroupState.{GroupState}
 use Rattle.proposal_core.specs.Fold.{empty_state}
-use Rattle.view_state.specs.declared.install.Install.{Install}
 use Rattle.view_state.specs.declared.install.Base.{Base}
 use Rattle.view_state.specs.Bases.{bases_of}
-use Rattle.view_state.specs.Views.{views_entered}
 use Rattle.node_state.specs.declared.config.Config.{Config}
 use Rattle.node_state.specs.declared.happened.Happened.{Happened}
 use Rattle.node_state.specs.declared.happened.Happened.TheVariants as happened
 use Rattle.node_state.specs.declared.state.Core.{Core}
-use Rattle.node_state.specs.State.{with_row, held_rows, recorded, recorded_all, with_sessions}
+use Rattle.node_state.specs.State.{with_row, recorded, recorded_all, with_sessions}
 use Rattle.node_state.specs.Leading.{put}
-use Rattle.node_state.specs.Applying.{base_record, view_entered, sides_dissolved}
 use Rattle.node_state.specs.Step.{stepped, at_work}
 use Rattle.run_safety.specs.Past.{History, EachRecord, Within, earlier}
 use Rattle.run_safety.specs.Stays.{Stay, stays, with_base}
 use Rattle.step_refinement.specs.Tied.{Scene}
 use Rattle.step_refinement.specs.Runs.{Reached}
 use Rattle.step_refinement.proofs.BaseOrder.{base_noted}
-use Rattle.row_laws.specs.hearing.Changes.{Inner, Does, Stays, Then, Records, Hands, Loses, Joins, Votes, Enters}
-use Rattle.row_laws.proofs.hearing.Attending.{pushed, pushed_reverse}
+use Rattle.row_laws.specs.hearing.Changes.{Does, Stays, Then, Records, Hands, Loses, Joins, Votes, Enters}
+use Rattle.row_laws.proofs.hearing.Attending.{pushed}
 use Rattle.row_laws.proofs.hearing.Listening.{steps_change}
-use Rattle.row_laws.proofs.hearing.Added.{Adds, sides_add}
 use Rattle.entry_laws.proofs.closing_rows.Told.{each_map}
-use Rattle.run_laws.proofs.failed_causes.Records.{NoBase, inner_none, none_pushed, turned_none, hands_none, each_scene}
+use Rattle.run_laws.proofs.failed_causes.Records.{NoBase, inner_none, turned_none, hands_none, each_scene, enters_none}
 use Rattle.run_laws.specs.failed_causes.Passed.{latest_entries, BaseFirst, BasesComeFirst}
 use Rattle.run_laws.specs.failed_causes.Entering.{just_entered, FollowsEntering, EachBaseFollows}
 
@@ -68,21 +64,6 @@ module _ (n : ℕ) (v : ViewId) (before : History) where
   entered_none ms now g =
       ap (λ b. latest_entries (if b then record { view = v; base = empty_state; entries = [] } ∷ stays n g (earlier now before) else stays n g (earlier now before))) (eq-eqb n n refl)
 
-enters_first : (before : History) (s : Core) (i : Install) → Within First (reverse s.records) before → Within First (reverse (sides_dissolved (view_entered s i (bases_of i)) (held_rows s) s.views.view (bases_of i)).records) before
-unfolding view_entered recorded_all views_entered base_record
-enters_first before s i k =
-    let told : Adds Inner inside (sides_dissolved inside (held_rows s) s.views.view bs) = sides_add inside (held_rows s) s.views.view bs in
-    subst (λ z. Within First z before) (sym (ap reverse told.is ∙ pushed_reverse told.more inside.records)) (none_pushed First none_first told.more (reverse inside.records) before (λ r h. inner_none r (told.all r h)) (subst (λ z. Within First z before) (sym (pushed_reverse (entering ∷ map (base_noted s.views.me i.view) bs) s.records)) (based_first s.views.me i.view before bs (entering ∷ reverse s.records) (entered_none s.views.me i.view before i.members (reverse s.records)) (λ j. eq-eqb s.views.me s.views.me refl j && view_self i.view i.view refl j) ((tt, tt), k))))
-  where
-    bs : List Base
-    bs = bases_of i
-
-    inside : Core
-    inside = view_entered s i bs
-
-    entering : Happened
-    entering = happened.In s.views.me i.view i.members
-
 -- ---- every change
 
 does_first : (before : History) (s t : Core) → Does s t → Within First (reverse s.records) before → Within First (reverse t.records) before
@@ -94,7 +75,8 @@ does_first before _ _ (Hands s c h e bs o same) k = hands_none First none_first 
 does_first before _ _ (Loses s t f) k = k
 does_first before _ _ (Joins s t g instance attrs none) k = k
 does_first before _ _ (Votes s x o b found opened unkept) k = turned_none First none_first before s.records (happened.Cast x.p o.proto o.phase b.vote b.value b.message) tt k
-does_first before _ _ (Enters s i lt none) k = enters_first before s i k
+does_first before _ _ (Enters s i lt none) k =
+    enters_none First none_first before s i (based_first s.views.me i.view before (bases_of i) (happened.In s.views.me i.view i.members ∷ reverse s.records) (entered_none s.views.me i.view before i.members (reverse s.records)) (λ j. eq-eqb s.views.me s.views.me refl j && view_self i.view i.view refl j) ((tt, tt), k))
 
 -- ---- every scene
 

@@ -11,7 +11,7 @@ use Rattle.proposal_core.specs.declared.entry.Entry.TheVariants.{Once, Begin, Ph
 use Rattle.proposal_core.specs.declared.proposal.Cause.{Cause}
 use Rattle.proposal_core.specs.declared.proposal.Cause.TheVariants.{Died, Gone, Cast}
 use Rattle.proposal_core.specs.declared.proposal.Proposal.{Proposal}
-use Rattle.proposal_core.specs.declared.proposal.Proposal.TheVariants.{Join, Leave, Fail, Expel, State, Message, Attributes, Reflect}
+use Rattle.proposal_core.specs.declared.proposal.Proposal.TheVariants.{Fail}
 use Rattle.proposal_core.specs.declared.group_state.GroupState.{GroupState}
 use Rattle.node_state.specs.declared.happened.Happened.{Happened}
 use Rattle.node_state.specs.declared.happened.Happened.TheVariants as happened
@@ -21,17 +21,21 @@ use Rattle.row_laws.proofs.failed_rows.Law.{reached, failures_are_honest}
 use Rattle.provider_laws.proofs.attending.OrderLaw.{heard_in_order}
 use Rattle.run_laws.specs.seen_runs.Seen.{Seen}
 use Rattle.run_laws.proofs.seen_runs.Scenes.{all_show}
-use Rattle.run_laws.proofs.seen_runs.Law.{traces_seen}
+use Rattle.run_laws.proofs.seen_runs.Law.{traces_seen, seen_after}
 use Rattle.run_laws.specs.failed_causes.Causes.{ExactCause, PutHasCause, EachPutHasCause, FailuresAreExact}
 use Rattle.run_laws.proofs.failed_causes.Ended.{Firsts}
 use Rattle.run_laws.proofs.failed_causes.Bases.{bases_come_first, bases_follow}
-use Rattle.run_laws.proofs.failed_causes.Cut.{Entries, entries_after}
-use Rattle.run_laws.proofs.failed_causes.Elsewhere.{Aways, aways_of, aways_after, bases_away}
+use Rattle.run_laws.proofs.failed_causes.Cut.{Entries}
+use Rattle.run_laws.proofs.failed_causes.Elsewhere.{Aways, aways_of, bases_away}
 use Rattle.run_laws.proofs.failed_causes.Held.{Held, held_asked}
 use Rattle.run_laws.proofs.failed_causes.Renamed.{joined_in_one}
-use Rattle.run_laws.proofs.failed_causes.Views.{Rises, rises_of, rises_after}
+use Rattle.run_laws.proofs.failed_causes.Views.{Rises, rises_of, RisesAt}
 use Rattle.run_laws.proofs.failed_causes.Sent.{JoinsSent, joins_sent}
-use Rattle.run_laws.proofs.failed_causes.Law.{Ordered, OneGroup, IsFront, firsts_of, firsts_after, seen_after, ordered_of, ordered_after, entries_of, did_not_pass}
+use Rattle.run_laws.proofs.failed_causes.Law.{Ordered, OneGroup, IsFront, firsts_of, ordered_of, entries_of, did_not_pass}
+use Rattle.run_laws.proofs.failed_causes.Records.{every_after}
+use Rattle.run_laws.specs.failed_causes.Passed.{BaseFirst, ElsewhereFails}
+use Rattle.run_laws.specs.failed_causes.Entering.{FollowsEntering}
+use Rattle.run_safety.specs.SafeHeard.{InOrder}
 
 -- ---- one cause in place of another
 
@@ -55,13 +59,7 @@ module _ (gone now : ProviderId → Type 0) (on : (p : ProviderId) → gone p �
 
   leaves_on : (source : List ℕ → GroupState) (s : GroupState) (x : Proposal) → LeavesFail gone source s x → LeavesFail now source s x
   leaves_on source s (Fail out) k = λ f h. let z = k f h in (z.0, cause_on source s f.p f.cause z.1)
-  leaves_on source s (Join ps attrs n) k = tt
-  leaves_on source s (Leave p r) k = tt
-  leaves_on source s (Expel p r out) k = tt
-  leaves_on source s (State p r value) k = tt
-  leaves_on source s (Message p r bytes) k = tt
-  leaves_on source s (Attributes p r attrs) k = tt
-  leaves_on source s (Reflect v i value) k = tt
+  leaves_on source s _ k = tt
 
   entry_on : (source : List ℕ → GroupState) (s : GroupState) (e : Entry) → EntryFails gone source s e → EntryFails now source s e
   entry_on source s (Once x) k = leaves_on source s x k
@@ -84,18 +82,7 @@ module _ (before : History) (seen : Seen (records_of before)) (firsts : Firsts (
 
   since_on : (r : Happened) (A B : Type 0) → (A → B) → Since r A → Since r B
   since_on (happened.In n v ms) A B f k = tt
-  since_on (happened.Up n j) A B f k = f k
-  since_on (happened.Down n) A B f k = f k
-  since_on (happened.Ring n net id ms x) A B f k = f k
-  since_on (happened.Base n v g u len s) A B f k = f k
-  since_on (happened.Put n v g i e) A B f k = f k
-  since_on (happened.Heard p v g i e ms value) A B f k = f k
-  since_on (happened.Cast p proto phase vote value message) A B f k = f k
-  since_on (happened.Asked p r g x) A B f k = f k
-  since_on (happened.Told p r why) A B f k = f k
-  since_on (happened.Noted n c v i told) A B f k = f k
-  since_on (happened.Refused n c fault) A B f k = f k
-  since_on (happened.Shown n line) A B f k = f k
+  since_on _ A B f k = f k
 
   each_on : (now : List Happened) → EachPut now before → EachPutHasCause all now before
   each_on [] k = tt
@@ -109,11 +96,11 @@ all_on : (all : List Happened) → OneGroup all → Held all → JoinsSent all �
 all_on all single held sent [] front seen firsts order entries away rises k = tt
 all_on all single held sent (e ∷ before) front seen firsts order entries away rises k =
     let s = seen_after e.records (records_of before) seen in
-    let f = firsts_after e.records (records_of before) firsts in
-    let o = ordered_after e.records (records_of before) order in
-    let a = entries_after e.records (records_of before) entries in
-    let b = aways_after e.records (records_of before) away in
-    let r = rises_after e.records (records_of before) rises in
+    let f = every_after BaseFirst e.records (records_of before) firsts in
+    let o = every_after InOrder e.records (records_of before) order in
+    let a = every_after FollowsEntering e.records (records_of before) entries in
+    let b = every_after ElsewhereFails e.records (records_of before) away in
+    let r = every_after RisesAt e.records (records_of before) rises in
     let m : IsFront (records_of before) all = (front.0 ++ e.records, front.1 ∙ sym (append_assoc front.0 e.records (records_of before))) in
     (each_on before s f o a b r all m single held sent e.records k.0, all_on all single held sent before m s f o a b r k.1)
 

@@ -19,6 +19,7 @@ use Rattle.row_laws.proofs.failed_rows.Grows.{there_first}
 use Rattle.run_laws.specs.failed_causes.Passed.{puts_join}
 use Rattle.run_laws.specs.failed_causes.Entering.{just_entered, FollowsEntering}
 use Rattle.run_laws.proofs.failed_causes.Ended.{Out, Firsts, any_more, out_step}
+use Rattle.run_laws.proofs.failed_causes.Records.{Every}
 
 -- it does not pass into the latest stay, and no entry there names it
 abbrev pub Cut : ProviderId → List Stay → Type 0
@@ -31,8 +32,7 @@ CutOut p g rs = Cut p (stays p.node g rs) × ((v : ViewId) → just_entered p.no
 
 -- bases come directly after the entering, also where earlier records are added
 abbrev pub Entries : List Happened → Type 0
-Entries [] = Unit {0}
-Entries (r ∷ rs) = FollowsEntering rs r × Entries rs
+Entries = Every FollowsEntering
 
 entered_before : (n : ℕ) (v : ViewId) (now old : List Happened) → just_entered n v now ≡ true → just_entered n v (now ++ old) ≡ true
 entered_before n v [] old q = absurd (cc)
@@ -48,10 +48,6 @@ entered_before n v (_ ∷ rs) old q = absurd (cc)
 pub follows_before : (r : Happened) (now old : List Happened) → FollowsEntering now r → FollowsEntering (now ++ old) r
 follows_before (happened.Base n v g u len s) now old k = entered_before n v now old k
 follows_before _ now old k = tt
-
-pub entries_after : (newer older : List Happened) → Entries (newer ++ older) → Entries older
-entries_after [] older k = k
-entries_after (r ∷ newer) older k = entries_after newer older k.1
 
 cut_pushed : (p : ProviderId) (e : Entry) (xs : List Stay) → is_join_of p e ≡ false → Cut p xs → Cut p (with_entry e xs)
 cut_pushed p e [] other k = k
@@ -99,14 +95,7 @@ module _ (p : ProviderId) (g : List ℕ) where
       by true true false q z = inl (cut_pushed p e (stays p.node g rs) q k.0, λ w. refl)
       by true false d q z = inl (k.0, λ w. refl)
       by false c d q z = inl (k.0, λ w. refl)
-  cut_step (happened.Ring m net id ms x) rs at other k = inl (k.0, λ w. refl)
-  cut_step (happened.Heard q v h i e ms value) rs at other k = inl (k.0, λ w. refl)
-  cut_step (happened.Cast q proto phase vote value message) rs at other k = inl (k.0, λ w. refl)
-  cut_step (happened.Asked q r h x) rs at other k = inl (k.0, λ w. refl)
-  cut_step (happened.Told q r why) rs at other k = inl (k.0, λ w. refl)
-  cut_step (happened.Noted m c v i told) rs at other k = inl (k.0, λ w. refl)
-  cut_step (happened.Refused m c fault) rs at other k = inl (k.0, λ w. refl)
-  cut_step (happened.Shown m line) rs at other k = inl (k.0, λ w. refl)
+  cut_step _ rs at other k = inl (k.0, λ w. refl)
 
   pub cut_on : (newer older : List Happened) → Firsts (newer ++ older) → Entries (newer ++ older) → list_any (puts_join p g) newer ≡ false → CutOut p g older → Next (newer ++ older)
   cut_on [] older f a others k = inl k

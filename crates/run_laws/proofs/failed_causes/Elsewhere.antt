@@ -1,5 +1,5 @@
 -- A base that comes from another view than the node: whoever is there of the node, in its incarnation, is on the failed list.
-use Rattle.std.proofs.Common.{◌≡◌, ℕ, List, [], ◌∷◌, ◌++◌, Some, Bool, true, false, refl, sym, ap, ◌∙◌, subst, inl, inr, arith}
+use Rattle.std.proofs.Common.{◌≡◌, ℕ, List, [], ◌∷◌, Some, Bool, true, false, refl, sym, ap, ◌∙◌, subst, inl, inr}
 use Rattle.std.specs.Prelude.{◌==◌, ◌&&◌, reverse, map, if◌then◌else◌}
 use Rattle.std.specs.Str.{bytes_eq}
 use Rattle.std.proofs.lemmas.Bool.{eq-eqb}
@@ -13,15 +13,14 @@ use Rattle.proposal_core.specs.Fold.{empty_state, present}
 use Rattle.view_state.specs.declared.install.Install.{Install}
 use Rattle.view_state.specs.declared.install.Base.{Base}
 use Rattle.view_state.specs.Bases.{bases_of}
-use Rattle.view_state.specs.Views.{views_entered}
 use Rattle.node_state.specs.declared.config.Config.{Config}
 use Rattle.node_state.specs.declared.happened.Happened.{Happened}
 use Rattle.node_state.specs.declared.happened.Happened.TheVariants as happened
 use Rattle.node_state.specs.declared.state.Core.{Core}
-use Rattle.node_state.specs.State.{row_of, with_row, list_of, state_of, len_of, held_rows, recorded, recorded_all, with_sessions}
+use Rattle.node_state.specs.State.{with_row, held_rows, recorded, recorded_all, with_sessions}
 use Rattle.node_state.specs.HandOn.{Answering}
 use Rattle.node_state.specs.Leading.{put}
-use Rattle.node_state.specs.Applying.{base_record, view_entered, sides_dissolved}
+use Rattle.node_state.specs.Applying.{view_entered, sides_dissolved}
 use Rattle.node_state.specs.Step.{NodeEvent, stepped, at_work}
 use Rattle.world_model.specs.declared.event.Event.{Event}
 use Rattle.run_safety.specs.ViewOrder.{Lt}
@@ -31,20 +30,20 @@ use Rattle.step_refinement.specs.Tied.{Scene}
 use Rattle.step_refinement.specs.Rules.{Arises}
 use Rattle.step_refinement.specs.Runs.{Reached}
 use Rattle.step_refinement.proofs.BaseOrder.{base_noted}
-use Rattle.row_laws.specs.hearing.Changes.{Inner, Unentered, Does, Stays, Then, Records, Hands, Loses, Joins, Votes, Enters}
-use Rattle.row_laws.proofs.hearing.Attending.{pushed, pushed_reverse}
+use Rattle.row_laws.specs.hearing.Changes.{Unentered, Does, Stays, Then, Records, Hands, Loses, Joins, Votes, Enters}
+use Rattle.row_laws.proofs.hearing.Attending.{pushed}
 use Rattle.row_laws.proofs.hearing.Listening.{steps_change}
 use Rattle.provider_laws.proofs.attending.Doing.{AllFine}
-use Rattle.row_laws.proofs.hearing.Added.{Adds, sides_add, does_grow}
+use Rattle.row_laws.proofs.hearing.Added.{does_grow}
 use Rattle.provider_laws.proofs.attending.Fresh.{fresh_now}
-use Rattle.provider_laws.proofs.attending.Law.{begin_strict, step_fine}
-use Rattle.row_laws.proofs.hearing.Incarnations.{incs_of}
+use Rattle.provider_laws.proofs.attending.Law.{step_fine}
 use Rattle.provider_laws.proofs.attending.Living.{lively_now, failed_now}
-use Rattle.provider_laws.proofs.attending.OrderLaw.{node_placed}
-use Rattle.provider_laws.proofs.attending.Ordering.{Ordered, Fresh, Lively, ordered_does, entering_recorded, base_recorded_at}
+use Rattle.provider_laws.proofs.attending.OrderLaw.{node_placed, begin_ordered}
+use Rattle.provider_laws.proofs.attending.Ordering.{Ordered, Fresh, Lively, ordered_does}
 use Rattle.run_laws.specs.failed_causes.Passed.{ElsewhereFails, BasesFromElsewhereFail}
 use Rattle.run_laws.proofs.failed_causes.Bases.{view_self}
-use Rattle.run_laws.proofs.failed_causes.Records.{NoBase, inner_none, none_pushed, turned_none, hands_none, each_scene}
+use Rattle.run_laws.proofs.failed_causes.Records.{NoBase, inner_none, turned_none, hands_none, each_scene, enters_none, Every, every_of}
+use Rattle.provider_laws.proofs.attending.Entering.{entered_records}
 
 abbrev pub Away : List Happened → History → Happened → Type 0
 Away now before r = ElsewhereFails (earlier now before) r
@@ -53,18 +52,7 @@ Away now before r = ElsewhereFails (earlier now before) r
 
 none_away : (r : Happened) (now : List Happened) (before : History) → NoBase r → Away now before r
 none_away (happened.Base n v g u len s) now before a = absurd a
-none_away (happened.Up n j) now before a = tt
-none_away (happened.Down n) now before a = tt
-none_away (happened.Ring n net id ms x) now before a = tt
-none_away (happened.In n v ms) now before a = tt
-none_away (happened.Put n v g i e) now before a = tt
-none_away (happened.Heard p v g i e ms value) now before a = tt
-none_away (happened.Cast p proto phase vote value message) now before a = tt
-none_away (happened.Asked p r g x) now before a = tt
-none_away (happened.Told p r why) now before a = tt
-none_away (happened.Noted n c v i told) now before a = tt
-none_away (happened.Refused n c fault) now before a = tt
-none_away (happened.Shown n line) now before a = tt
+none_away _ now before a = tt
 
 -- ---- a view is entered
 
@@ -104,19 +92,11 @@ module _ (n inc : ℕ) (before : History) (old : ViewId) (v : ViewId) where
 
 module _ (n inc : ℕ) (before : History) (old : ViewId) (last : ℕ) where
   enters_away : (s : Core) (i : Install) → Lt s.views.view i.view → ((r : Happened) → Has r s.records → Unentered r) → (rs : List Happened) → ((r : Happened) → Has r (sides_dissolved (view_entered s i (bases_of i)) (held_rows s) s.views.view (bases_of i)).records → Has r rs) → Failing n inc old rs → Ordered n inc before old last s → Within Away (reverse s.records) before → Within Away (reverse (sides_dissolved (view_entered s i (bases_of i)) (held_rows s) s.views.view (bases_of i)).records) before
-  unfolding view_entered recorded_all views_entered base_record
   enters_away s i lt none rs more failing o k =
-      let told : Adds Inner inside (sides_dissolved inside (held_rows s) s.views.view bs) = sides_add inside (held_rows s) s.views.view bs in
-      subst (λ z. Within Away z before) (sym (ap reverse told.is ∙ pushed_reverse told.more inside.records)) (none_pushed Away none_away told.more (reverse inside.records) before (λ r h. inner_none r (told.all r h)) (subst (λ z. Within Away z before) (sym (pushed_reverse (entering ∷ map (base_noted s.views.me i.view) bs) s.records)) (subst (λ m. Within Away (pushed (map (base_noted m i.view) bs) (happened.In m i.view i.members ∷ reverse s.records)) before) (sym me) (based_away n inc before old i.view bs (happened.In n i.view i.members ∷ reverse s.records) twice (o.strict.incs n ∙ o.strict.start) fails (tt, k)))))
+      enters_none Away none_away before s i (subst (λ m. Within Away (pushed (map (base_noted m i.view) bs) (happened.In m i.view i.members ∷ reverse s.records)) before) (sym me) (based_away n inc before old i.view bs (happened.In n i.view i.members ∷ reverse s.records) twice (o.strict.incs n ∙ o.strict.start) fails (tt, k)))
     where
       bs : List Base
       bs = bases_of i
-
-      inside : Core
-      inside = view_entered s i bs
-
-      entering : Happened
-      entering = happened.In s.views.me i.view i.members
 
       me : s.views.me ≡ n
       me = o.strict.hearing.me
@@ -132,7 +112,7 @@ module _ (n inc : ℕ) (before : History) (old : ViewId) (last : ℕ) where
 
       fails : (b : Base) → Has b bs → (b.from ≡ old → ⊥) → (p : ProviderId) → p.node ≡ n → p.inc ≡ inc → Has p (present b.state) → among b.state.failed p ≡ true
       fails b h other p node inc_is there =
-          failing i.view i.members b.name b.from b.len b.state (subst (λ m. Has (happened.In m i.view i.members) rs) me (more _ (entering_recorded n inc before old last s i))) (subst (λ m. Has (happened.Base m i.view b.name b.from b.len b.state) rs) me (more _ (base_recorded_at n inc before old last s i b h))) (subst (λ z. Lt z i.view) at lt) other p node inc_is there
+          failing i.view i.members b.name b.from b.len b.state (subst (λ m. Has (happened.In m i.view i.members) rs) me (more _ (entered_records s i).view)) (subst (λ m. Has (happened.Base m i.view b.name b.from b.len b.state) rs) me (more _ ((entered_records s i).base b h))) (subst (λ z. Lt z i.view) at lt) other p node inc_is there
 
   does_away : (s t : Core) → Does s t → (rs : List Happened) → ((r : Happened) → Has r t.records → Has r rs) → AllFine rs → Lively n inc old rs → Fresh n inc before old last → Failing n inc old rs → Ordered n inc before old last s → Within Away (reverse s.records) before → Within Away (reverse t.records) before
   unfolding recorded with_sessions put recorded_all with_row
@@ -150,22 +130,9 @@ module _ (n inc : ℕ) (before : History) (old : ViewId) (last : ℕ) where
 -- ---- every scene
 
 module _ (c : Config) (w : Scene) (n : ℕ) (f : Answering) (s : Core) (e : NodeEvent) (v : Event) (k : Reached c w) (up : w.cores n ≡ Some s) (arises : Arises w e) where
-  begin : Ordered n (w.incs n) w.before s.views.view s.sessions.last_request (at_work s)
-  unfolding len_of state_of list_of row_of
-  begin =
-      record {
-        strict = begin_strict c w n s k up (incs_of c w k n);
-        place = (node_placed c w k n s up).0;
-        law = tt;
-        others = λ m g ne. refl;
-        counts = λ p u g ne. refl;
-        begins = λ all. refl;
-        numbers = λ q. omega arith;
-      }
-
   step_away : Within Away (reverse (stepped f s e).records) w.before
   step_away =
-      does_away n (w.incs n) w.before s.views.view s.sessions.last_request (at_work s) (stepped f s e) (steps_change c w k n s up f e) (stepped f s e).records (λ r h. h) (step_fine c w n s k up f e v arises) (lively_now c w n f s e v k up arises) (fresh_now c w k n s up) (failed_now c w n f s e v k up arises) begin tt
+      does_away n (w.incs n) w.before s.views.view s.sessions.last_request (at_work s) (stepped f s e) (steps_change c w k n s up f e) (stepped f s e).records (λ r h. h) (step_fine c w n s k up f e v arises) (lively_now c w n f s e v k up arises) (fresh_now c w k n s up) (failed_now c w n f s e v k up arises) (begin_ordered c w k n s up (node_placed c w k n s up).0) tt
 
 pub bases_away : BasesFromElsewhereFail
 bases_away c w k = each_scene Away none_away c (λ w n f s e v k up arises. step_away c w n f s e v k up arises) w k
@@ -173,17 +140,7 @@ bases_away c w k = each_scene Away none_away c (λ w n f s e v k up arises. step
 -- ---- record by record
 
 abbrev pub Aways : List Happened → Type 0
-Aways [] = Unit {0}
-Aways (r ∷ rs) = ElsewhereFails rs r × Aways rs
-
-aways_now : (now : List Happened) (before : History) → Within Away now before → Aways (records_of before) → Aways (now ++ records_of before)
-aways_now [] before k old = old
-aways_now (r ∷ now) before k old = (k.0, aways_now now before k.1 old)
+Aways = Every ElsewhereFails
 
 pub aways_of : (h : History) → EachRecord Away h → Aways (records_of h)
-aways_of [] k = tt
-aways_of (e ∷ before) k = aways_now e.records before k.0 (aways_of before k.1)
-
-pub aways_after : (newer older : List Happened) → Aways (newer ++ older) → Aways older
-aways_after [] older k = k
-aways_after (r ∷ newer) older k = aways_after newer older k.1
+aways_of = every_of ElsewhereFails Away (λ now before r k. k)

@@ -19,9 +19,11 @@ use Rattle.run_safety.specs.Past.{fold_from}
 use Rattle.run_safety.specs.Stays.{Stay, stays, with_base, with_entry, is_join_of, Part, part, passes, first_in, last_in, last_from}
 use Rattle.node_state.proofs.NameOrder.{text_same}
 use Rattle.row_laws.specs.failed_rows.Failures.{state_of_stay}
-use Rattle.provider_laws.proofs.attending.Parts.{first_stays, last_comes, fold_push, pushed_stay}
+use Rattle.provider_laws.proofs.attending.Parts.{first_stays, last_comes, pushed_stay}
 use Rattle.run_laws.specs.failed_causes.Passed.{puts_join, latest_entries, BaseFirst}
 use Rattle.row_laws.proofs.failed_rows.Grows.{there_before, there_first}
+use Rattle.run_laws.proofs.failed_causes.Records.{Every}
+use Rattle.step_refinement.proofs.Puts.{fold_pushed}
 
 -- it has a first place and no last one
 abbrev pub goes_on : Part → Bool
@@ -89,7 +91,7 @@ pushed_off p x e other off = by (among (present (state_of_stay (pushed_stay x e)
   where
     now : among (present (state_of_stay (pushed_stay x e))) p ≡ true → among (present (state_of_stay x)) p ≡ true
     now q =
-        there_before (state_of_stay x) x.view (0 + length x.entries) e p other (subst (λ z. among (present z) p ≡ true) (fold_push x.view x.base 0 x.entries e) q)
+        there_before (state_of_stay x) x.view (0 + length x.entries) e p other (subst (λ z. among (present z) p ≡ true) (fold_pushed x.view x.entries x.base 0 e) q)
 
     by : (b : Bool) → among (present (state_of_stay (pushed_stay x e))) p ≡ b → b ≡ false
     by true q = absurd (let z = now q in cc)
@@ -130,8 +132,7 @@ entry_out a p e (x ∷ older) other k = pushed_out a p x older e other k
 
 -- each base comes first
 abbrev pub Firsts : List Happened → Type 0
-Firsts [] = Unit {0}
-Firsts (r ∷ rs) = BaseFirst rs r × Firsts rs
+Firsts = Every BaseFirst
 
 module _ (a : Bool) (p : ProviderId) (g : List ℕ) where
   down_out : (b : Bool) (xs : List Stay) → Out a p xs → Out a p (if b then [] else xs)
@@ -145,7 +146,6 @@ module _ (a : Bool) (p : ProviderId) (g : List ℕ) where
   pub out_step : (r : Happened) (rs : List Happened) → BaseFirst rs r → puts_join p g r ≡ false → Out a p (stays p.node g rs) → Out a p (stays p.node g (r ∷ rs))
   out_step (happened.Up m j) rs first other k = down_out (m == p.node) (stays p.node g rs) k
   out_step (happened.Down m) rs first other k = down_out (m == p.node) (stays p.node g rs) k
-  out_step (happened.Ring m net id ms x) rs first other k = k
   out_step (happened.In m v ms) rs first other k = in_out (m == p.node) v (stays p.node g rs) k
   out_step (happened.Base m v h u len s) rs first other k = by (m == p.node) (bytes_eq h g) refl refl
     where
@@ -169,13 +169,7 @@ module _ (a : Bool) (p : ProviderId) (g : List ℕ) where
       by true true false q z = entry_out a p e (stays p.node g rs) q k
       by true false d q z = k
       by false c d q z = k
-  out_step (happened.Heard q v h i e ms value) rs first other k = k
-  out_step (happened.Cast q proto phase vote value message) rs first other k = k
-  out_step (happened.Asked q r h x) rs first other k = k
-  out_step (happened.Told q r why) rs first other k = k
-  out_step (happened.Noted m c v i told) rs first other k = k
-  out_step (happened.Refused m c fault) rs first other k = k
-  out_step (happened.Shown m line) rs first other k = k
+  out_step _ rs first other k = k
 
   pub out_on : (newer older : List Happened) → Firsts (newer ++ older) → list_any (puts_join p g) newer ≡ false → Out a p (stays p.node g older) → Out a p (stays p.node g (newer ++ older))
   out_on [] older f others k = k
@@ -228,7 +222,7 @@ last_there p v f s es e le off = by (last_from p v f s 0 es) refl
     zero = omega (arith, le)
 
     gone : among (present (after (fold_from v s 0 es) v (0 + length es) e)) p ≡ false
-    gone = ap (λ z. among (present z) p) (sym (fold_push v s 0 es e)) ∙ off
+    gone = ap (λ z. among (present z) p) (sym (fold_pushed v es s 0 e)) ∙ off
 
     by : (o : Option ℕ) → last_from p v f s 0 es ≡ o → (l : ℕ) × (last_from p v f s 0 (es ++ e ∷ []) ≡ Some l)
     by (Some l) q = (l, last_stays p v f s 0 es e l q)

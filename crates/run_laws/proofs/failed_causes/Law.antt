@@ -3,7 +3,7 @@ use Rattle.std.proofs.Common.{◌≡◌, ◌⊎◌, ℕ, List, [], ◌∷◌, �
 use Rattle.std.specs.Prelude.{not, ◌==◌, ◌&&◌, ◌||◌, is_some, is_none, if◌then◌else◌, IsTrue}
 use Rattle.std.specs.List.{list_any}
 use Rattle.std.specs.Str.{bytes_eq}
-use Rattle.std.proofs.lemmas.Bool.{eqb-true, eq-eqb}
+use Rattle.std.proofs.lemmas.Bool.{eqb-true, eq-eqb, or_parts}
 use Rattle.rsct_packet.specs.declared.ids.ViewId.{ViewId}
 use Rattle.rsct_packet.specs.declared.ids.Member.{Member}
 use Rattle.rsct_packet.specs.declared.ids.ProviderId.{ProviderId}
@@ -18,7 +18,7 @@ use Rattle.proposal_core.specs.declared.group_state.GroupState.{GroupState}
 use Rattle.proposal_core.specs.Fold.{present}
 use Rattle.node_state.specs.declared.happened.Happened.{Happened}
 use Rattle.node_state.specs.declared.happened.Happened.TheVariants as happened
-use Rattle.run_safety.specs.Past.{History, EachRecord, Within, records_of, earlier}
+use Rattle.run_safety.specs.Past.{History, EachRecord, records_of, earlier}
 use Rattle.run_safety.specs.SafeLists.{Each}
 use Rattle.run_safety.specs.SafeHeard.{heard_count, is_after, InOrder}
 use Rattle.run_safety.specs.Stays.{Stay, stays, with_entry, is_join_of, Part, part, passes}
@@ -33,60 +33,34 @@ use Rattle.row_laws.specs.failed_rows.Failures.{state_in_stays, state_held, From
 use Rattle.row_laws.proofs.failed_rows.Asked.{join_carried}
 use Rattle.run_laws.specs.seen_runs.Seen.{Seen, SeenAt, OnceSeen, BeginsOnce, WasTold as WasRefused}
 use Rattle.run_laws.proofs.seen_runs.Scenes.{all_show}
-use Rattle.run_laws.proofs.seen_runs.Law.{traces_seen}
-use Rattle.run_laws.specs.failed_causes.Passed.{puts_join, BaseFirst, DidNotPass, WhoIsOverDidNotPass}
+use Rattle.run_laws.proofs.seen_runs.Law.{traces_seen, seen_after}
+use Rattle.run_laws.specs.failed_causes.Passed.{puts_join, BaseFirst, DidNotPass, WhoIsOverDidNotPass, ElsewhereFails}
 use Rattle.run_laws.proofs.failed_causes.Ended.{Out, Firsts, out_on, there_out, first_out, off_out}
 use Rattle.run_laws.proofs.failed_causes.Bases.{First, bases_come_first, bases_follow}
-use Rattle.run_laws.proofs.failed_causes.Cut.{Cut, CutOut, Entries, follows_before, entries_after, cut_on, there_cut}
-use Rattle.run_laws.proofs.failed_causes.Elsewhere.{Aways, aways_of, aways_after, bases_away}
+use Rattle.run_laws.proofs.failed_causes.Cut.{Cut, CutOut, Entries, follows_before, cut_on, there_cut}
+use Rattle.run_laws.proofs.failed_causes.Elsewhere.{Aways, aways_of, bases_away}
 use Rattle.run_laws.proofs.failed_causes.Held.{Held, held_asked}
-use Rattle.run_laws.proofs.failed_causes.Views.{Rises, rises_of, rises_after, now_entered, put_entered, AtStay, AtFront, at_front}
+use Rattle.run_laws.proofs.failed_causes.Views.{Rises, rises_of, now_entered, put_entered, AtStay, AtFront, at_front, RisesAt}
 use Rattle.run_laws.proofs.failed_causes.Sent.{SentIn, JoinsSent, joins_sent}
 use Rattle.run_laws.proofs.failed_causes.Renamed.{joined_in_one}
+use Rattle.run_laws.proofs.failed_causes.Records.{every_of, every_after, Every}
+use Rattle.run_laws.specs.failed_causes.Entering.{FollowsEntering}
+use Rattle.std.proofs.lemmas.List.Folds.{list_any-append}
 
 -- ---- one record after another
 
-firsts_now : (now : List Happened) (before : History) → Within (λ now before r. BaseFirst (earlier now before) r) now before → Firsts (records_of before) → Firsts (now ++ records_of before)
-firsts_now [] before k old = old
-firsts_now (r ∷ now) before k old = (k.0, firsts_now now before k.1 old)
-
 pub firsts_of : (h : History) → EachRecord (λ now before r. BaseFirst (earlier now before) r) h → Firsts (records_of h)
-firsts_of [] k = tt
-firsts_of (e ∷ before) k = firsts_now e.records before k.0 (firsts_of before k.1)
+firsts_of = every_of BaseFirst (λ now before r. BaseFirst (earlier now before) r) (λ now before r k. k)
 
-pub firsts_after : (newer older : List Happened) → Firsts (newer ++ older) → Firsts older
-firsts_after [] older k = k
-firsts_after (r ∷ newer) older k = firsts_after newer older k.1
-
-pub seen_after : (newer older : List Happened) → Seen (newer ++ older) → Seen older
-seen_after [] older k = k
-seen_after (r ∷ newer) older k = seen_after newer older k.1
+pub entries_of : (h : History) → EachRecord First h → Entries (records_of h)
+entries_of = every_of FollowsEntering First (λ now before r k. follows_before r now (records_of before) k.1)
 
 -- what is heard is heard in order, at each record
 abbrev pub Ordered : List Happened → Type 0
-Ordered [] = Unit {0}
-Ordered (r ∷ rs) = InOrder rs r × Ordered rs
-
-ordered_now : (now : List Happened) (before : History) → Within (λ now before r. InOrder (earlier now before) r) now before → Ordered (records_of before) → Ordered (now ++ records_of before)
-ordered_now [] before k old = old
-ordered_now (r ∷ now) before k old = (k.0, ordered_now now before k.1 old)
+Ordered = Every InOrder
 
 pub ordered_of : (h : History) → Each InOrder h → Ordered (records_of h)
-ordered_of [] k = tt
-ordered_of (e ∷ before) k = ordered_now e.records before k.0 (ordered_of before k.1)
-
-entries_now : (now : List Happened) (before : History) → Within First now before → Entries (records_of before) → Entries (now ++ records_of before)
-entries_now [] before k old = old
-entries_now (r ∷ now) before k old =
-    (follows_before r now (records_of before) (k.0).1, entries_now now before k.1 old)
-
-pub entries_of : (h : History) → EachRecord First h → Entries (records_of h)
-entries_of [] k = tt
-entries_of (e ∷ before) k = entries_now e.records before k.0 (entries_of before k.1)
-
-pub ordered_after : (newer older : List Happened) → Ordered (newer ++ older) → Ordered older
-ordered_after [] older k = k
-ordered_after (r ∷ newer) older k = ordered_after newer older k.1
+ordered_of = every_of InOrder (λ now before r. InOrder (earlier now before) r) (λ now before r k. k)
 
 -- ---- a join is put once at its node, after it was asked
 
@@ -109,18 +83,7 @@ puts_it p g (happened.Put m v h i e) q = by (m == p.node) (bytes_eq h g) (is_joi
     by true true false x y z q = absurd (cc)
     by true false c x y z q = absurd (cc)
     by false b c x y z q = absurd (cc)
-puts_it p g (happened.Up m j) q = absurd (cc)
-puts_it p g (happened.Down m) q = absurd (cc)
-puts_it p g (happened.Ring m net id ms x) q = absurd (cc)
-puts_it p g (happened.In m v ms) q = absurd (cc)
-puts_it p g (happened.Base m v h u len s) q = absurd (cc)
-puts_it p g (happened.Heard z v h i e ms value) q = absurd (cc)
-puts_it p g (happened.Cast z proto phase vote value message) q = absurd (cc)
-puts_it p g (happened.Asked z r h x) q = absurd (cc)
-puts_it p g (happened.Told z r why) q = absurd (cc)
-puts_it p g (happened.Noted m c v i told) q = absurd (cc)
-puts_it p g (happened.Refused m c fault) q = absurd (cc)
-puts_it p g (happened.Shown m line) q = absurd (cc)
+puts_it p g _ q = absurd (cc)
 
 -- the law of its record
 begins_once : (p : ProviderId) (g : List ℕ) (r : Happened) (rs : List Happened) → (x : PutsIt p g r) → SeenAt rs r → BeginsOnce rs p.node g x.entry p p.join
@@ -201,7 +164,7 @@ module _ (p : ProviderId) (h : List ℕ) (newer older : List Happened) (v : View
 
   gone_out : (f : ℕ) → (part p (stays p.node h (it ∷ older))).first ≡ Some f → among (present (state_held p.node h (it ∷ older))) p ≡ false → Firsts (newer ++ it ∷ older) → Seen (newer ++ it ∷ older) → Out true p (stays p.node h (newer ++ it ∷ older))
   gone_out f first off firsts seen =
-      let put : ItsPut p h (it ∷ older) = its_put p h (it ∷ older) (joined f first (firsts_after newer (it ∷ older) firsts)) in
+      let put : ItsPut p h (it ∷ older) = its_put p h (it ∷ older) (joined f first (every_after BaseFirst newer (it ∷ older) firsts)) in
       out_on true p h newer (it ∷ older) firsts (none_later p h newer (it ∷ older) seen put) (subst (Out true p) (sym put_is) (list_out p e f (stays p.node h older) (ap (λ z. (part p z).first) (sym put_is) ∙ first) (ap (λ z. among (present (state_in_stays z)) p) (sym put_is) ∙ off)))
 
 -- ---- who was refused is put nowhere
@@ -236,32 +199,12 @@ module _ (p : ProviderId) (g : List ℕ) (why : Why) (older : List Happened) (re
       by false e rest = rest
       by true e rest = absurd ((begins_once p g r (newer ++ tells ∷ older) (puts_it p g r e) s.0).untold (still_told newer))
 
-any_left : (t : Happened → Bool) (xs ys : List Happened) → list_any t xs ≡ true → list_any t (xs ++ ys) ≡ true
-any_left t [] ys q = absurd (cc)
-any_left t (x ∷ xs) ys q = by (t x) q (any_left t xs ys)
-  where
-    by : (b : Bool) → (b || list_any t xs) ≡ true → (list_any t xs ≡ true → list_any t (xs ++ ys) ≡ true) → (b || list_any t (xs ++ ys)) ≡ true
-    by true q rest = refl
-    by false q rest = rest q
-
 any_right : (t : Happened → Bool) (xs ys : List Happened) → list_any t ys ≡ true → list_any t (xs ++ ys) ≡ true
-any_right t [] ys q = q
-any_right t (x ∷ xs) ys q = or_right (t x) (list_any t (xs ++ ys)) (any_right t xs ys q)
+any_right t xs ys q = list_any-append t xs ys ∙ or_right (list_any t xs) (list_any t ys) q
 
 -- neither here nor there
-none_left : (t : Happened → Bool) (xs ys : List Happened) → list_any t (xs ++ ys) ≡ false → list_any t xs ≡ false
-none_left t xs ys q = by (list_any t xs) refl
-  where
-    by : (b : Bool) → list_any t xs ≡ b → list_any t xs ≡ false
-    by false e = e
-    by true e = absurd (let z : true ≡ false = sym (any_left t xs ys e) ∙ q in cc)
-
-none_right : (t : Happened → Bool) (xs ys : List Happened) → list_any t (xs ++ ys) ≡ false → list_any t ys ≡ false
-none_right t xs ys q = by (list_any t ys) refl
-  where
-    by : (b : Bool) → list_any t ys ≡ b → list_any t ys ≡ false
-    by false e = e
-    by true e = absurd (let z : true ≡ false = sym (any_right t xs ys e) ∙ q in cc)
+none_parts : (t : Happened → Bool) (xs ys : List Happened) → list_any t (xs ++ ys) ≡ false → (list_any t xs ≡ false) × (list_any t ys ≡ false)
+none_parts t xs ys q = or_parts (list_any t xs) (list_any t ys) (sym (list_any-append t xs ys) ∙ q)
 
 -- each join is asked for in one group
 abbrev pub OneGroup : List Happened → Type 0
@@ -309,10 +252,10 @@ module _ (rs : List Happened) (v : ViewId) (g : List ℕ) (p : ProviderId) (seen
   seen_then = seen_after st.newer st.older seen_now
 
   firsts_then : Firsts st.older
-  firsts_then = firsts_after st.newer st.older (subst Firsts st.moment firsts)
+  firsts_then = every_after BaseFirst st.newer st.older (subst Firsts st.moment firsts)
 
   order_then : Ordered st.older
-  order_then = ordered_after st.newer st.older (subst Ordered st.moment order)
+  order_then = every_after InOrder st.newer st.older (subst Ordered st.moment order)
 
   -- what the records of its own node say
   abbrev Says : Type 0
@@ -338,7 +281,7 @@ module _ (rs : List Happened) (v : ViewId) (g : List ℕ) (p : ProviderId) (seen
   -- its node never put its join
   never_put : list_any (puts_join p g) (st.newer ++ st.older) ≡ false → Says
   never_put q =
-      done false (none_left (puts_join p g) st.newer st.older q) (unput_out p g st.older firsts_then (none_right (puts_join p g) st.newer st.older q))
+      done false (none_parts (puts_join p g) st.newer st.older q).0 (unput_out p g st.older firsts_then (none_parts (puts_join p g) st.newer st.older q).1)
 
   module _ (told : WasTold st.older p) where
     abbrev tells_it : Happened
@@ -382,13 +325,13 @@ module _ (rs : List Happened) (v : ViewId) (g : List ℕ) (p : ProviderId) (seen
 
       settled : Joined → list_any (puts_join p g) told.older ≡ true → passes p (k.stay).base (part p (k.last ∷ k.rest)) ≡ false → Says
       settled q put apart =
-          by (cut_on p g told.newer (tells_it ∷ told.older) (subst Firsts told.moment firsts_then) (subst Entries told.moment (entries_after st.newer st.older (subst Entries st.moment entries))) (none_right (puts_join p g) st.newer told.newer none) (cut, λ u. refl))
+          by (cut_on p g told.newer (tells_it ∷ told.older) (subst Firsts told.moment firsts_then) (subst Entries told.moment (every_after FollowsEntering st.newer st.older (subst Entries st.moment entries))) (none_parts (puts_join p g) st.newer told.newer none).1 (cut, λ u. refl))
         where
           none : list_any (puts_join p g) (st.newer ++ told.newer) ≡ false
           none = none_later p g (st.newer ++ told.newer) (tells_it ∷ told.older) (subst Seen moment_told seen_now) (its_put p g (tells_it ∷ told.older) put)
 
           later : list_any (puts_join p g) st.newer ≡ false
-          later = none_left (puts_join p g) st.newer told.newer none
+          later = (none_parts (puts_join p g) st.newer told.newer none).0
 
           cut : Cut p (stays p.node g told.older)
           cut =
@@ -401,13 +344,13 @@ module _ (rs : List Happened) (v : ViewId) (g : List ℕ) (p : ProviderId) (seen
 
       away_then : Aways told.older
       away_then =
-          (aways_after told.newer (tells_it ∷ told.older) (subst Aways told.moment (aways_after st.newer st.older (subst Aways st.moment away)))).1
+          (every_after ElsewhereFails told.newer (tells_it ∷ told.older) (subst Aways told.moment (every_after ElsewhereFails st.newer st.older (subst Aways st.moment away)))).1
 
       -- whoever is there in a base from elsewhere failed
       from_elsewhere : FromElsewhere told.older p k.group k.stay k.last → among (present (k.stay).base) p ≡ true → among (k.stay).base.failed p ≡ true
       from_elsewhere c there =
           let base : Happened = happened.Base p.node (k.stay).view k.group c.from c.len (k.stay).base in
-          (aways_after c.newer (base ∷ c.older) (subst Aways c.moment away_then)).0 c.entered k.last c.rest c.stays_so c.apart p refl c.inc (among_is (present (k.stay).base) p there)
+          (every_after ElsewhereFails c.newer (base ∷ c.older) (subst Aways c.moment away_then)).0 c.entered k.last c.rest c.stays_so c.apart p refl c.inc (among_is (present (k.stay).base) p there)
 
       was_cut : Joined → Says
       was_cut q = by (passes p (k.stay).base (part p (k.last ∷ k.rest))) refl k.cut
@@ -443,14 +386,14 @@ module _ (rs : List Happened) (v : ViewId) (g : List ℕ) (p : ProviderId) (seen
     -- it had a first place there, since it heard the entry
     first : (f : ℕ) × ((part p (stays p.node off.group (off_it ∷ off.older))).first ≡ Some f)
     first =
-        let heard : InOrder (off.between ++ off_it ∷ off.older) off_heard = (ordered_after off.newer (off_heard ∷ (off.between ++ off_it ∷ off.older)) (subst Ordered off.moment order_then)).0 in
+        let heard : InOrder (off.between ++ off_it ∷ off.older) off_heard = (every_after InOrder off.newer (off_heard ∷ (off.between ++ off_it ∷ off.older)) (subst Ordered off.moment order_then)).0 in
         let f = first_of (heard_count p off.view off.group (off.between ++ off_it ∷ off.older)) off.place (part p (stays p.node off.group (off.between ++ off_it ∷ off.older))).first heard.0 in
         (f.0, ap (λ xs. (part p xs).first) (sym off.still) ∙ f.1)
 
     -- so its join was put
     its_join : list_any (puts_join p off.group) st.older ≡ true
     its_join =
-        ap (list_any (puts_join p off.group)) off_moment ∙ any_right (puts_join p off.group) off_newer (off_it ∷ off.older) (joined p off.group off_newer off.older off.view off.place off.entry first.0 first.1 (firsts_after off_newer (off_it ∷ off.older) firsts_off))
+        ap (list_any (puts_join p off.group)) off_moment ∙ any_right (puts_join p off.group) off_newer (off_it ∷ off.older) (joined p off.group off_newer off.older off.view off.place off.entry first.0 first.1 (every_after BaseFirst off_newer (off_it ∷ off.older) firsts_off))
 
     gone : Out true p (stays p.node off.group st.older)
     gone =
@@ -481,7 +424,7 @@ module _ (rs : List Happened) (v : ViewId) (g : List ℕ) (p : ProviderId) (seen
 
     stood : AtStay p.node g st.older st.stay
     stood =
-        subst (AtFront p.node g st.older) st.stays_so (at_front p.node g st.older seen_then (rises_after st.newer st.older (subst Rises st.moment rises)))
+        subst (AtFront p.node g st.older) st.stays_so (at_front p.node g st.older seen_then (every_after RisesAt st.newer st.older (subst Rises st.moment rises)))
 
     -- a node puts an entry into the view's list that names it
     module _ (m i : ℕ) (e : Entry) (put : Has (happened.Put m v g i e) all) (names : is_join_of p e ≡ true) where

@@ -1,59 +1,33 @@
 -- What any node's put of a join says of the provider's own node, in the whole run.
-use Rattle.std.proofs.Common.{◌≡◌, ◌⊎◌, ℕ, List, [], ◌∷◌, ◌++◌, Some, true, refl, sym, subst, inl, inr, ⊎_elim}
+use Rattle.std.proofs.Common.{◌≡◌, ℕ, List, ◌∷◌, ◌++◌, Some, true, refl, sym, subst, ⊎_elim}
 use Rattle.std.specs.Prelude.{slice_get}
 use Rattle.rsct_packet.specs.declared.ids.ViewId.{ViewId}
 use Rattle.rsct_packet.specs.declared.ids.Member.{Member}
 use Rattle.rsct_packet.specs.declared.ids.ProviderId.{ProviderId}
 use Rattle.rsct_packet.specs.Search.{Has}
-use Rattle.rsct_packet.proofs.HasLaws.{append_has_left, append_has_right}
 use Rattle.client_callbacks.specs.declared.told.Why.{Why}
 use Rattle.proposal_core.specs.declared.entry.Entry.{Entry}
 use Rattle.proposal_core.specs.declared.proposal.Proposal.{Proposal}
 use Rattle.node_state.specs.declared.config.Config.{Config}
 use Rattle.node_state.specs.declared.happened.Happened.{Happened}
 use Rattle.node_state.specs.declared.happened.Happened.TheVariants as happened
-use Rattle.run_safety.specs.Group.{Request, Refusal, In, Put, Line, Noted, Asked, Told, kept}
+use Rattle.run_safety.specs.Group.{Request, Refusal, In, Put, Noted, Asked, Told, kept}
 use Rattle.run_safety.specs.GroupLists.{WasIn}
-use Rattle.run_safety.specs.Past.{History, records_of, view_now}
+use Rattle.run_safety.specs.Past.{records_of, view_now}
 use Rattle.run_safety.specs.Requests.{carried, Meets}
-use Rattle.run_safety.specs.Sight.{inc_in, told_in, lines_at, lines_of}
+use Rattle.run_safety.specs.Sight.{inc_in, lines_of, view_or_none}
 use Rattle.run_safety.specs.Stays.{is_join_of}
 use Rattle.run_safety.specs.ViewOrder.{Lt, Le}
-use Rattle.run_safety.proofs.SightLaws.{put_seen}
+use Rattle.run_safety.proofs.SightLaws.{put_seen, line_recorded}
 use Rattle.run_safety.proofs.Whole.{Whole}
 use Rattle.run_safety.proofs.Lives.{whole}
 use Rattle.step_refinement.specs.Tied.{Scene, Rests, opening_of}
 use Rattle.step_refinement.specs.Runs.{Reached}
 use Rattle.step_refinement.proofs.RunLaw.{reached_rests}
 use Rattle.step_refinement.proofs.ViewRules.{before_of}
-use Rattle.row_laws.proofs.failed_rows.Asked.{join_carried, asked_back}
-use Rattle.run_laws.proofs.seen_runs.Sights.{cut}
+use Rattle.row_laws.proofs.failed_rows.Asked.{join_carried}
+use Rattle.run_laws.proofs.seen_runs.Sights.{told_line}
 use Rattle.run_laws.proofs.seen_runs.Froms.{in_kept}
-
--- ---- a line of a record, after those before it, is one of the group's
-
-module _ (g : List ℕ) (y : Line) where
-  -- one of these records has the line
-  abbrev AtSome : List Happened → Type 0
-  AtSome [] = ⊥
-  AtSome (r ∷ rs) = Has y (lines_at g rs r) ⊎ AtSome rs
-
-  at_split : (newer older : List Happened) (r : Happened) → Has y (lines_at g older r) → AtSome (newer ++ r ∷ older)
-  at_split [] older r h = inl h
-  at_split (x ∷ newer) older r h = inr (at_split newer older r h)
-
-  line_now : (now : List Happened) (before : History) → (AtSome (records_of before) → Has y (lines_of g before)) → AtSome (now ++ records_of before) → Has y (lines_of g (cut now before))
-  line_now [] before old h = inr (old h)
-  line_now (r ∷ now) before old (inl h) = append_has_left y (lines_at g (now ++ records_of before) r) (lines_of g (cut now before)) h
-  line_now (r ∷ now) before old (inr h) = append_has_right y (lines_at g (now ++ records_of before) r) (lines_of g (cut now before)) (line_now now before old h)
-
-  line_of_some : (h : History) → AtSome (records_of h) → Has y (lines_of g h)
-  line_of_some [] k = absurd k
-  line_of_some (e ∷ before) k = line_now e.records before (line_of_some before) k
-
-told_line : (g : List ℕ) (p : ProviderId) (r : ℕ) (why : Why) (u : ViewId) (newer older : List Happened) (h : History) → records_of h ≡ newer ++ happened.Told p r why ∷ older → view_now p.node older ≡ Some u → Has (Noted (Told p r u)) (lines_of g h)
-told_line g p r why u newer older h moment in_view =
-    line_of_some g (Noted (Told p r u)) h (subst (AtSome g (Noted (Told p r u))) (sym moment) (at_split g (Noted (Told p r u)) newer older (happened.Told p r why) (subst (λ o. Has (Noted (Told p r u)) (told_in p r o)) (sym in_view) (inl refl))))
 
 -- ---- of every scene
 
@@ -73,10 +47,10 @@ JoinsSent run =
 pub joins_sent : (c : Config) (w : Scene) → Reached c w → JoinsSent (records_of w.before)
 joins_sent c w k n v g i e p put names =
     record {
-      asked = (request.0, asked_back p p.join g request.0 w.before (subst (Has (Noted (Asked p p.join request.0))) t.lines sent.1));
+      asked = (request.0, line_recorded g (Noted (Asked p p.join request.0)) (happened.Asked p p.join g request.0) refl w.before (subst (Has (Noted (Asked p p.join request.0))) t.lines sent.1));
       inc = λ ms h. one_inc v sent.0 ms h;
       own = λ u j f h joins. sent.2 u j f (put_there p.node u j f h) (join_carried p f joins);
-      told = λ newer older why u moment in_view. told u (subst (Has (Noted (Told p p.join u))) (sym t.lines) (told_line g p p.join why u newer older w.before moment in_view));
+      told = λ newer older why u moment in_view. told u (subst (Has (Noted (Told p p.join u))) (sym t.lines) (subst (λ o. Has (Noted (Told p p.join (view_or_none o))) (lines_of g w.before)) in_view (told_line g p p.join why newer older w.before moment)));
     }
   where
     t : Rests g w

@@ -25,7 +25,8 @@ use Rattle.run_laws.proofs.seen_runs.LineRules.{bare}
 use Rattle.run_laws.proofs.seen_runs.BareLines.{kept_bare}
 use Rattle.run_laws.proofs.seen_runs.Sights.{cut}
 use Rattle.run_laws.proofs.seen_runs.Froms.{in_kept}
-use Rattle.run_laws.proofs.seen_runs.Shown.{AllShow, shown_before, in_line}
+use Rattle.run_laws.proofs.seen_runs.Shown.{AllShow, in_line, each_shown}
+use Rattle.run_laws.proofs.failed_causes.Records.{Every, every_of}
 
 -- ---- views rise in an incarnation
 
@@ -36,25 +37,16 @@ RisesAt rs (happened.In n v ms) =
 RisesAt rs _ = Unit {0}
 
 abbrev pub Rises : List Happened → Type 0
-Rises [] = Unit {0}
-Rises (r ∷ rs) = RisesAt rs r × Rises rs
+Rises = Every RisesAt
 
 rises_at : (r : Happened) (now : List Happened) (before : History) → AllShow (cut (r ∷ now) before) → RisesAt (now ++ records_of before) r
 rises_at (happened.In n v ms) now before all = λ u ns h same. let there : Has (In n (inc_in n ns) u ns) (kept (bare (lines_of [] (cut now before)))) = subst (Has (In n (inc_in n ns) u ns)) (sym (kept_bare (lines_of [] (cut now before)))) (in_kept [] n u ns (cut now before) h) in
     (in_line now before n v ms all []).rising u ns (subst (λ j. Has (In n j u ns) (kept (bare (lines_of [] (cut now before))))) same there)
 rises_at _ now before all = tt
 
-rises_now : (now : List Happened) (before : History) → AllShow (cut now before) → (AllShow before → Rises (records_of before)) → Rises (now ++ records_of before)
-rises_now [] before all old = old (λ g. (all g).1)
-rises_now (r ∷ now) before all old = (rises_at r now before all, rises_now now before (shown_before r now before all) old)
-
 pub rises_of : (h : History) → AllShow h → Rises (records_of h)
-rises_of [] all = tt
-rises_of (e ∷ before) all = rises_now e.records before all (rises_of before)
-
-pub rises_after : (newer older : List Happened) → Rises (newer ++ older) → Rises older
-rises_after [] older k = k
-rises_after (r ∷ newer) older k = rises_after newer older k.1
+rises_of h all =
+    every_of RisesAt (λ now before r. RisesAt (now ++ records_of before) r) (λ now before r k. k) h (each_shown RisesAt rises_at h all)
 
 -- ---- a node is in a view that it entered
 

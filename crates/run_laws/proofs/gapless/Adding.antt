@@ -27,6 +27,7 @@ use Rattle.run_laws.proofs.gapless.Growing.{Inert}
 use Rattle.run_laws.proofs.gapless.Standing.{JoinWaits, told_joins, handed_joins}
 use Rattle.run_laws.proofs.gapless.Putting.{heards_inert}
 use Rattle.run_laws.proofs.gapless.TakerWalk.{Fine, Alike, Keeps}
+use Rattle.run_laws.proofs.gapless.Keeping.{fine_inert}
 
 abbrev pub Walked : ℕ → Happened → Type 0
 Walked n (happened.Up m j) = ⊥
@@ -36,36 +37,13 @@ Walked n (happened.Asked p r g x) = ⊥
 Walked n (happened.Refused m c fault) = ⊥
 Walked n _ = Unit {0}
 
-fine_walked : (n : ℕ) (r : Happened) → Fine r → Walked n r
-fine_walked n (happened.Up m j) a = absurd a
-fine_walked n (happened.Down m) a = absurd a
-fine_walked n (happened.Ring m k i ms o) a = tt
-fine_walked n (happened.In m v ms) a = tt
-fine_walked n (happened.Base m v g u len s) a = tt
-fine_walked n (happened.Put m v g i e) a = absurd a
-fine_walked n (happened.Heard p v g i e ms value) a = tt
-fine_walked n (happened.Cast p proto phase vote value message) a = tt
-fine_walked n (happened.Asked p r g x) a = absurd a
-fine_walked n (happened.Told p r why) a = tt
-fine_walked n (happened.Noted m c v i told) a = tt
-fine_walked n (happened.Refused m c fault) a = absurd a
-fine_walked n (happened.Shown m line) a = tt
-
--- what is heard and cast
-cast_walked : (n : ℕ) (r : Happened) → Inert r → Walked n r
-cast_walked n (happened.Up m j) a = absurd a
-cast_walked n (happened.Down m) a = absurd a
-cast_walked n (happened.Ring m k i ms o) a = tt
-cast_walked n (happened.In m v ms) a = absurd a
-cast_walked n (happened.Base m v g u len s) a = absurd a
-cast_walked n (happened.Put m v g i e) a = absurd a
-cast_walked n (happened.Heard p v g i e ms value) a = tt
-cast_walked n (happened.Cast p proto phase vote value message) a = tt
-cast_walked n (happened.Asked p r g x) a = absurd a
-cast_walked n (happened.Told p r why) a = tt
-cast_walked n (happened.Noted m c v i told) a = tt
-cast_walked n (happened.Refused m c f) a = absurd a
-cast_walked n (happened.Shown m line) a = tt
+inert_walked : (n : ℕ) (r : Happened) → Inert r → Walked n r
+inert_walked n (happened.Up m j) a = absurd a
+inert_walked n (happened.Down m) a = absurd a
+inert_walked n (happened.Put m v g i e) a = absurd a
+inert_walked n (happened.Asked p r g x) a = absurd a
+inert_walked n (happened.Refused m c f) a = absurd a
+inert_walked n _ a = tt
 
 module _ (n : ℕ) (root : List Happened) where
   pub record Added (s : Core) : Type 0 where
@@ -87,7 +65,7 @@ module _ (n : ℕ) (root : List Happened) where
 
   added_records : (s : Core) (r : Happened) → Fine r → Added s → Added (recorded s r)
   unfolding recorded
-  added_records s x fine k = record { order = k.order; me = k.me; joins = k.joins; all = λ r i. one_more s.records x r (fine_walked n x fine) k.all i }
+  added_records s x fine k = record { order = k.order; me = k.me; joins = k.joins; all = λ r i. one_more s.records x r (inert_walked n x (fine_inert x fine)) k.all i }
 
   added_tells : (s : Core) (p : ProviderId) (r : ℕ) (y : Why) → Added s → Added (recorded (with_sessions s (take_telling s.sessions p r y)) (happened.Told p r y))
   unfolding recorded with_sessions
@@ -103,7 +81,7 @@ module _ (n : ℕ) (root : List Happened) where
 
       by : (r : Happened) → Has r c.records ⊎ Has r (flat_map (heard_at c.views.view h (len_of s h) e st) (casts_out c.sessions h (state_of s h) st e bs)) → Has r root ⊎ Walked n r
       by r (inl i) = one_more s.records (happened.Put s.views.me s.views.view h (len_of s h) e) r k.me k.all (subst (Has r) same.records i)
-      by r (inr i) = inr (cast_walked n r (heards_inert c.views.view h (len_of s h) e st (casts_out c.sessions h (state_of s h) st e bs) r i))
+      by r (inr i) = inr (inert_walked n r (heards_inert c.views.view h (len_of s h) e st (casts_out c.sessions h (state_of s h) st e bs) r i))
 
   added_enters : (s : Core) (i : Install) → Added s → Added (view_entered s i (bases_of i))
   unfolding view_entered recorded_all views_entered base_record level_set provider_of

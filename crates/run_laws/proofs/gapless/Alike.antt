@@ -1,8 +1,6 @@
 -- Who takes part at one place of a view's list hears the same there: the list is one, and so is its fold.
-use Rattle.std.proofs.Common.{◌≡◌, ◌<◌, ℕ, ◌+◌, Bool, true, List, [], ◌∷◌, ◌++◌, Some, refl, sym, ap, ◌∙◌, subst, inl, length}
-use Rattle.std.specs.Prelude.{take, slice_get, if◌then◌else◌}
-use Rattle.std.specs.Str.{bytes_eq}
-use Rattle.std.proofs.lemmas.Slice.Eq.{bytes_eq-Decides}
+use Rattle.std.proofs.Common.{◌≡◌, ◌<◌, ℕ, ◌+◌, List, [], ◌∷◌, ◌++◌, Some, refl, sym, ◌∙◌, subst, inl, length}
+use Rattle.std.specs.Prelude.{take, slice_get}
 use Rattle.rsct_packet.specs.declared.ids.ViewId.{ViewId}
 use Rattle.rsct_packet.specs.declared.ids.ProviderId.{ProviderId}
 use Rattle.rsct_packet.specs.Search.{Has}
@@ -13,16 +11,15 @@ use Rattle.node_state.specs.declared.happened.Happened.{Happened}
 use Rattle.node_state.specs.declared.happened.Happened.TheVariants as happened
 use Rattle.world_model.specs.Run.{Happening}
 use Rattle.run_safety.specs.Past.{History, EachEvent, Within, records_of}
-use Rattle.run_safety.specs.Group.{Heard, Put, Record, Line, Noted, kept}
+use Rattle.run_safety.specs.Group.{Heard, Put, Line, Noted, kept}
 use Rattle.run_safety.specs.GroupLists as lists
 use Rattle.run_safety.specs.Bases.{state_of_list}
 use Rattle.run_safety.specs.Moves.{Opening}
 use Rattle.run_safety.specs.Sight.{lines_of}
 use Rattle.run_safety.specs.SafeGroups.{SafeGroups, SafeLines}
 use Rattle.run_safety.specs.SafeHeard.{AllHear}
-use Rattle.run_safety.proofs.SightLaws.{put_seen}
+use Rattle.run_safety.proofs.SightLaws.{put_seen, line_seen, own_line}
 use Rattle.run_safety.proofs.HeardLaw.{get_within}
-use Rattle.run_laws.proofs.seen_runs.Sights.{line_in}
 use Rattle.run_laws.proofs.seen_runs.LineFacts.{put_at}
 use Rattle.run_laws.specs.gapless.Alike.{Attends, HeardBoth, TakersHearAlike}
 
@@ -41,9 +38,6 @@ event_has r (x ∷ newer) e before i = append_has_right r x.records (records_of 
 
 among_has : (r : Happened) (later now : List Happened) → Has r (later ++ r ∷ now)
 among_has r later now = append_has_right r later (r ∷ now) (inl refl)
-
-own_name : (g : List ℕ) → bytes_eq g g ≡ true
-own_name g = (bytes_eq-Decides g g).1 refl
 
 module _ (o : Opening) (h : History) (safe : SafeGroups o h) (all : EachEvent (λ event before. Within (AllHear event) event.records before) h) (v : ViewId) (g : List ℕ) (i : ℕ) where
   abbrev L : List Line
@@ -76,7 +70,7 @@ module _ (o : Opening) (h : History) (safe : SafeGroups o h) (all : EachEvent (�
 
   heard_line : (p : ProviderId) (e : Entry) (ms : List ProviderId) (value : List ℕ) → Has (happened.Heard p v g i e ms value) (records_of h) → Has (Noted (Heard p v i e ms value)) L
   heard_line p e ms value k =
-      (line_in g (happened.Heard p v g i e ms value) h k).among (Noted (Heard p v i e ms value)) (subst (λ b. Has (Noted (Heard p v i e ms value)) (if b then Noted (Heard p v i e ms value) ∷ [] else [])) (sym (own_name g)) (inl refl))
+      line_seen (Noted (Heard p v i e ms value)) g (happened.Heard p v g i e ms value) (λ rs. own_line g (Noted (Heard p v i e ms value))) h k
 
   both : (p q : ProviderId) → Hearing p → Hearing q → HeardBoth p q v g i h
   both p q a b =

@@ -1,6 +1,6 @@
 -- What a call makes of providers and requests: who is there stays, but for a goodbye; and whose join is asked for waits.
 use Rattle.std.proofs.Common.{◌≡◌, ◌⊎◌, ◌≤◌, ℕ, ◌+◌, List, [], ◌∷◌, ◌++◌, Option, Some, None, Bool, true, false, refl, sym, ap, ◌∙◌, subst, inl, inr, ⊎_elim, arith}
-use Rattle.std.specs.Prelude.{not, find, filter, fold, if◌then◌else◌, Result, Ok, Err}
+use Rattle.std.specs.Prelude.{not, find, if◌then◌else◌, Result, Ok, Err}
 use Rattle.std.specs.List.{last_or}
 use Rattle.rsct_packet.specs.declared.ids.ProviderId.{ProviderId}
 use Rattle.rsct_packet.specs.Providers.{among}
@@ -28,15 +28,20 @@ use Rattle.node_state.specs.declared.call.CallLine.TheVariants as call
 use Rattle.node_state.specs.declared.happened.Happened.{Happened}
 use Rattle.node_state.specs.declared.happened.Happened.TheVariants as happened
 use Rattle.node_state.specs.declared.state.Core.{Core}
-use Rattle.node_state.specs.State.{frozen, leader_of, recorded, with_sessions}
-use Rattle.node_state.specs.Sending.{send_request_to, send_request, send_kept_to, send_kept}
-use Rattle.node_state.specs.Calls.{caller, refuse_call, changed, ask_last, proposed, record_ballot, ballot_sent_if, cast_last, give_ballot, send_gone, send_all_gone, goodbye_said, take_call}
+use Rattle.node_state.specs.State.{frozen, recorded, with_sessions}
+use Rattle.node_state.specs.Sending.{send_request, send_kept}
+use Rattle.node_state.specs.Calls.{caller, refuse_call, changed, ask_last, proposed, record_ballot, ballot_sent_if, cast_last, give_ballot, send_all_gone, goodbye_said, take_call}
 use Rattle.step_refinement.proofs.SessionLaws.{provider_self, provider_same}
-use Rattle.row_laws.proofs.hearing.Changes.{Sends, sends_nothing, sends_one, sends_known, sends_fold}
-use Rattle.row_laws.proofs.hearing.Rules.{OneOwner}
+use Rattle.row_laws.proofs.hearing.Changes.{Sends}
+use Rattle.row_laws.proofs.hearing.Rules.{OneOwner, request_sends, kept_sends, gone_sends}
 use Rattle.row_laws.proofs.hearing.Sessions.{Casts, casts_voted, unless_is, fewer_ended}
 use Rattle.run_laws.specs.gapless.Takers.{Stood, AskedJoin}
 use Rattle.run_laws.proofs.gapless.Standing.{JoinWaits}
+use Rattle.row_laws.proofs.failed_rows.Living.{last_is}
+use Rattle.provider_laws.proofs.attending.Staying.{found_joined}
+use Rattle.run_laws.proofs.gapless.Forward.{find_kept}
+use Rattle.std.proofs.lemmas.List.Folds.{find-append}
+use Rattle.std.specs.Option.{option_or}
 
 -- what a call records
 abbrev pub CallRecord : SessionState → Happened → Type 0
@@ -69,34 +74,6 @@ made_sends c s t u e k =
       asks = λ g p a. subst (λ z. Stood z p g false) (sym e.sessions) (k.asks g p (subst (AskedJoin g p) e.records a));
       joins = λ j. subst JoinWaits (sym e.sessions) (k.joins j);
     }
-
-request_sends : (c : Core) (q : Request) → Sends c (send_request c q)
-unfolding send_request send_request_to
-request_sends c q = by (frozen c)
-  where
-    to : (o : Option ℕ) → Sends c (send_request_to c q o)
-    to None = sends_one c _ _
-    to (Some n) = sends_one c _ _
-
-    by : (b : Bool) → Sends c (elim b as (λ _. Core) [ true ↦ c | false ↦ send_request_to c q (leader_of c q.group) ])
-    by true = sends_nothing c
-    by false = to (leader_of c q.group)
-
-kept_sends : (c : Core) (k : KeptBallot) → Sends c (send_kept c k)
-unfolding send_kept send_kept_to
-kept_sends c k = by k.ballot.filled
-  where
-    by : (o : Option Filled) → Sends c (send_kept_to c k (leader_of c k.group) o)
-    by None = sends_nothing c
-    by (Some b) = sends_known c _ _
-
-gone_sends : (c : Core) (xs : List Provider) → Sends c (send_all_gone c xs)
-unfolding send_all_gone send_gone
-gone_sends c xs = by (frozen c)
-  where
-    by : (b : Bool) → Sends c (elim b as (λ _. Core) [ true ↦ c | false ↦ fold send_gone c xs ])
-    by true = sends_nothing c
-    by false = sends_fold send_gone (λ t x. sends_known t _ _) xs c
 
 -- ---- a call that adds no provider, and no join
 
@@ -172,14 +149,10 @@ module _ (c : CallLine) (s : Core) (none : s.records ≡ []) where
 
   asked_asks : (x : Provider) (phases : Phases) (make : ℕ → Proposal) (o : Option GsFault) (u : SessionState) → Has x s.sessions.providers → ((r : ℕ) → (joins_of (make r) ≡ []) × (is_join (make r) ≡ false)) → unless_fault o (asked s.sessions x phases make) ≡ Ok u → Asks u
   unfolding asked
-  asked_asks x phases make o u has other e = subst Asks (sym (unless_is o (asked s.sessions x phases make) u e)) (record { request = q; last = last_is s.sessions.requests None; own = (x, has, refl); other = λ p. ap (λ z. among z p) (other (s.sessions.last_request + 1)).0; plain_it = record { providers = refl; joins = joins } })
+  asked_asks x phases make o u has other e = subst Asks (sym (unless_is o (asked s.sessions x phases make) u e)) (record { request = q; last = last_is s.sessions.requests q None; own = (x, has, refl); other = λ p. ap (λ z. among z p) (other (s.sessions.last_request + 1)).0; plain_it = record { providers = refl; joins = joins } })
     where
       q : Request
       q = record { p = x.p; r = s.sessions.last_request + 1; group = x.group; phases = phases; proposal = make (s.sessions.last_request + 1) }
-
-      last_is : (xs : List Request) (o : Option Request) → last_or o (xs ++ q ∷ []) ≡ Some q
-      last_is [] o = refl
-      last_is (y ∷ ys) o = last_is ys (Some y)
 
       joins : (z : Request) → Has z (s.sessions.requests ++ q ∷ []) → is_join z.proposal ≡ true → Has z s.sessions.requests
       joins z i j = by (has_append z s.sessions.requests (q ∷ []) i)
@@ -240,19 +213,6 @@ module _ (c : CallLine) (s : Core) (none : s.records ≡ []) where
 
 -- ---- a goodbye
 
-find_kept : (p : ProviderId) (keep : Provider → Bool) (xs : List Provider) (x : Provider) → keep x ≡ true → find (is_provider p) xs ≡ Some x → find (is_provider p) (filter keep xs) ≡ Some x
-find_kept p keep [] x k e = absurd (cc)
-find_kept p keep (y ∷ ys) x k e = by (keep y) (is_provider p y) refl refl e (find_kept p keep ys x k)
-  where
-    some_is : {a b : Provider} → Some a ≡ Some b → a ≡ b
-    some_is e = cc
-
-    by : (a b : Bool) → keep y ≡ a → is_provider p y ≡ b → (if b then Some y else find (is_provider p) ys) ≡ Some x → (find (is_provider p) ys ≡ Some x → find (is_provider p) (filter keep ys) ≡ Some x) → find (is_provider p) (if a then y ∷ filter keep ys else filter keep ys) ≡ Some x
-    by true true m q e rest = ap (λ b. if b then Some y else find (is_provider p) (filter keep ys)) q ∙ e
-    by true false m q e rest = ap (λ b. if b then Some y else find (is_provider p) (filter keep ys)) q ∙ rest e
-    by false true m q e rest = absurd (let z : true ≡ false = sym k ∙ ap keep (sym (some_is e)) ∙ m in cc)
-    by false false m q e rest = rest e
-
 module _ (s : Core) (none : s.records ≡ []) (client : List ℕ) (own : OneOwner s.sessions) where
   abbrev t : ClientToken
   t = client_token s.sessions client
@@ -307,37 +267,16 @@ module _ (s : Core) (none : s.records ≡ []) (low : (x : Provider) → Has x s.
   not_new : (y : Provider) → Has y s.sessions.providers → y.p ≡ new → ⊥
   not_new y i e = let a = low y i in let b : y.p.join ≡ s.sessions.last_request + 1 = ap (λ (z : ProviderId). z.join) e in omega (arith, a, b)
 
-  found_more : (p : ProviderId) (xs : List Provider) (x : Provider) → find (is_provider p) xs ≡ Some x → find (is_provider p) (xs ++ next ∷ []) ≡ Some x
-  found_more p [] x e = absurd (cc)
-  found_more p (y ∷ ys) x e = by (is_provider p y) e (found_more p ys x)
-    where
-      by : (b : Bool) → (if b then Some y else find (is_provider p) ys) ≡ Some x → (find (is_provider p) ys ≡ Some x → find (is_provider p) (ys ++ next ∷ []) ≡ Some x) → (if b then Some y else find (is_provider p) (ys ++ next ∷ [])) ≡ Some x
-      by true e rest = e
-      by false e rest = rest e
-
-  found_last : (xs : List Provider) → ((y : Provider) → Has y xs → y.p ≡ new → ⊥) → find (is_provider new) (xs ++ next ∷ []) ≡ Some next
-  found_last [] off = ap (λ b. if b then Some next else None) (provider_self new)
-  found_last (y ∷ ys) off = by (is_provider new y) refl (found_last ys (λ z i. off z (inr i)))
-    where
-      by : (b : Bool) → is_provider new y ≡ b → find (is_provider new) (ys ++ next ∷ []) ≡ Some next → (if b then Some y else find (is_provider new) (ys ++ next ∷ [])) ≡ Some next
-      by true q rest = absurd (off y (inl refl) (provider_same y.p new q))
-      by false q rest = rest
-
-  found_back : (p : ProviderId) (xs : List Provider) (y : Provider) → find (is_provider p) (xs ++ next ∷ []) ≡ Some y → (find (is_provider p) xs ≡ Some y) ⊎ (y ≡ next)
-  found_back p [] y e = last (is_provider p next) e
-    where
-      last : (b : Bool) → (if b then Some next else None) ≡ Some y → (find (is_provider p) [] ≡ Some y) ⊎ (y ≡ next)
-      last true e = inr (cc)
-      last false e = absurd (cc)
-  found_back p (z ∷ zs) y e = by (is_provider p z) e (found_back p zs y)
-    where
-      by : (b : Bool) → (if b then Some z else find (is_provider p) (zs ++ next ∷ [])) ≡ Some y → (find (is_provider p) (zs ++ next ∷ []) ≡ Some y → (find (is_provider p) zs ≡ Some y) ⊎ (y ≡ next)) → ((if b then Some z else find (is_provider p) zs) ≡ Some y) ⊎ (y ≡ next)
-      by true e rest = inl e
-      by false e rest = rest e
+  none_new : (y : Provider) → find (is_provider new) s.sessions.providers ≡ Some y → ⊥
+  none_new y e = let k = find_has (is_provider new) s.sessions.providers y e in not_new y k.0 (provider_same y.p new k.1)
 
   joined_stands : Stood after new g false
   unfolding join_asked provider_of
-  joined_stands = record { provider = next; found = found_last s.sessions.providers not_new; group = refl; part_is = refl }
+  joined_stands = record { provider = next; found = find-append (is_provider new) s.sessions.providers (next ∷ []) ∙ by (find (is_provider new) s.sessions.providers) refl; group = refl; part_is = refl }
+    where
+      by : (o : Option Provider) → find (is_provider new) s.sessions.providers ≡ o → option_or o (find (is_provider new) (next ∷ [])) ≡ Some next
+      by None e = ap (λ b. if b then Some next else None) (provider_self new)
+      by (Some y) e = absurd (none_new y e)
 
   joined_waits : JoinWaits s.sessions → JoinWaits after
   unfolding join_asked provider_of
@@ -346,17 +285,14 @@ module _ (s : Core) (none : s.records ≡ []) (low : (x : Provider) → Has x s.
       no_part : (y : Provider) → y ≡ next → y.takes_part ≡ false
       no_part y z = ap (λ (a : Provider). a.takes_part) z
 
-      fresh : (y : Provider) → find (is_provider new) s.sessions.providers ≡ Some y → y.takes_part ≡ false
-      fresh y f = let k = find_has (is_provider new) s.sessions.providers y f in absurd (not_new y k.0 (provider_same y.p new k.1))
-
       by : Has q s.sessions.requests ⊎ Has q (request ∷ []) → (q.r ≡ q.p.join) × ((y : Provider) → find (is_provider q.p) (s.sessions.providers ++ next ∷ []) ≡ Some y → y.takes_part ≡ false)
-      by (inl h) = let a = j q h e in (a.0, λ y f. ⊎_elim (λ (z : find (is_provider q.p) s.sessions.providers ≡ Some y). a.1 y z) (λ (z : y ≡ next). no_part y z) (found_back q.p s.sessions.providers y f))
-      by (inr (inl z)) = subst (λ (q : Request). (q.r ≡ q.p.join) × ((y : Provider) → find (is_provider q.p) (s.sessions.providers ++ next ∷ []) ≡ Some y → y.takes_part ≡ false)) (sym z) (refl, λ y f. ⊎_elim (λ (z : find (is_provider new) s.sessions.providers ≡ Some y). fresh y z) (λ (z : y ≡ next). no_part y z) (found_back new s.sessions.providers y f))
+      by (inl h) = let a = j q h e in (a.0, λ y f. ⊎_elim (λ (z : find (is_provider q.p) s.sessions.providers ≡ Some y). a.1 y z) (λ (z : (y ≡ next) × (q.p ≡ new)). no_part y z.0) (found_joined next q.p s.sessions.providers y f))
+      by (inr (inl z)) = subst (λ (q : Request). (q.r ≡ q.p.join) × ((y : Provider) → find (is_provider q.p) (s.sessions.providers ++ next ∷ []) ≡ Some y → y.takes_part ≡ false)) (sym z) (refl, λ y f. ⊎_elim (λ (z : find (is_provider new) s.sessions.providers ≡ Some y). absurd (none_new y z)) (λ (z : (y ≡ next) × (new ≡ new)). no_part y z.0) (found_joined next new s.sessions.providers y f))
       by (inr (inr z)) = absurd z
 
   joined_found : (p : ProviderId) (x : Provider) → provider_of s.sessions p ≡ Some x → provider_of after p ≡ Some x
   unfolding join_asked provider_of
-  joined_found p x q = found_more p s.sessions.providers x q
+  joined_found p x q = find-append (is_provider p) s.sessions.providers (next ∷ []) ∙ ap (λ o. option_or o (find (is_provider p) (next ∷ []))) q
 
   joined_has : Has next after.providers
   unfolding join_asked
@@ -364,11 +300,7 @@ module _ (s : Core) (none : s.records ≡ []) (low : (x : Provider) → Has x s.
 
   joined_last : last_or None after.requests ≡ Some request
   unfolding join_asked
-  joined_last = last_is s.sessions.requests None
-    where
-      last_is : (xs : List Request) (o : Option Request) → last_or o (xs ++ request ∷ []) ≡ Some request
-      last_is [] o = refl
-      last_is (y ∷ ys) o = last_is ys (Some y)
+  joined_last = last_is s.sessions.requests request None
 
   joined_made : (o : Option GsFault) → Made c s (proposed s client (unless_fault o after))
   unfolding proposed ask_last with_sessions recorded

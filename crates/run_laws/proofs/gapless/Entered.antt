@@ -1,10 +1,9 @@
 -- A step in which a node enters a view: just those are told DISSOLVED who took part in the stay before, by the records, and do not
 -- pass into the new one.
-use Rattle.std.proofs.Common.{◌≡◌, ◌⊎◌, ℕ, List, [], ◌∷◌, Option, Some, None, Bool, true, false, refl, sym, ap, ◌∙◌, subst, inl, inr, ⊎_elim, arith, append-nil}
+use Rattle.std.proofs.Common.{◌≡◌, ◌⊎◌, ℕ, List, [], ◌∷◌, Option, Some, None, Bool, true, false, refl, sym, ap, ◌∙◌, subst, inl, inr, ⊎_elim, append-nil}
 use Rattle.std.specs.Prelude.{not, ◌&&◌, reverse, map, is_some, is_none, IsTrue}
 use Rattle.std.specs.List.{list_any}
 use Rattle.std.proofs.lemmas.Bool.{and_parts, eq-eqb, eqb-true}
-use Rattle.std.proofs.lemmas.Bool.Decides.{nat_tests}
 use Rattle.rsct_packet.specs.declared.ids.ViewId.{ViewId}
 use Rattle.rsct_packet.specs.declared.ids.ProviderId.{ProviderId}
 use Rattle.rsct_packet.specs.declared.ids.Member.{Member}
@@ -27,7 +26,7 @@ use Rattle.node_state.specs.declared.group.GroupRow.{GroupRow}
 use Rattle.node_state.specs.declared.happened.Happened.{Happened}
 use Rattle.node_state.specs.declared.happened.Happened.TheVariants as happened
 use Rattle.node_state.specs.declared.state.Core.{Core}
-use Rattle.node_state.specs.State.{held_rows, len_of, list_of, state_of, row_of, recorded_all}
+use Rattle.node_state.specs.State.{held_rows, recorded_all}
 use Rattle.node_state.specs.HandOn.{Answering}
 use Rattle.node_state.specs.Applying.{level_set, base_record, view_entered, is_in_base}
 use Rattle.node_state.specs.Step.{NodeEvent, at_work, stepped}
@@ -43,21 +42,23 @@ use Rattle.step_refinement.specs.Runs.{Reached}
 use Rattle.step_refinement.proofs.Turns.{has_turned}
 use Rattle.row_laws.specs.hearing.Changes.{Inner, Does, entering}
 use Rattle.row_laws.proofs.hearing.Attending.{pushed_reverse}
-use Rattle.row_laws.proofs.hearing.Handing.{among_is}
+use Rattle.row_laws.proofs.hearing.Handing.{among_is, some_is}
 use Rattle.row_laws.proofs.hearing.Doing.{present_row, rows_stay}
 use Rattle.row_laws.proofs.failed_rows.Living.{IsLive}
 use Rattle.row_laws.proofs.hearing.Added.{Adds, sides_add, enters_add}
-use Rattle.provider_laws.proofs.attending.Law.{begin_strict, step_fine}
-use Rattle.row_laws.proofs.hearing.Incarnations.{incs_of}
-use Rattle.provider_laws.proofs.attending.Ordering.{view_same, Ordered, entering_recorded, base_recorded_at, ordered_does}
-use Rattle.provider_laws.proofs.attending.OrderLaw.{node_placed}
-use Rattle.provider_laws.proofs.attending.Entering.{named_has, base_is, new_stay, entered_stays}
+use Rattle.provider_laws.proofs.attending.Law.{step_fine}
+use Rattle.provider_laws.proofs.attending.Ordering.{Ordered, ordered_does}
+use Rattle.provider_laws.proofs.attending.OrderLaw.{node_placed, begin_ordered}
+use Rattle.provider_laws.proofs.attending.Entering.{named_has, entered_stays, entered_records}
 use Rattle.provider_laws.proofs.attending.Fresh.{fresh_now}
 use Rattle.provider_laws.proofs.attending.Living.{lively_now, failed_now}
 use Rattle.run_laws.proofs.gapless.Fair.{Fair, fair_grows}
-use Rattle.run_laws.proofs.gapless.Forward.{some_is, live_found, found_live}
 use Rattle.run_laws.proofs.gapless.Tellings.{Leaves, told_leaves, sides_back, Stayed, stays_or_told}
 use Rattle.run_laws.proofs.gapless.Stayed.{LastStay, mild_stays}
+use Rattle.provider_laws.proofs.leaving.Comes.{live_found, found_live}
+use Rattle.run_laws.proofs.failed_causes.Bases.{view_self}
+use Rattle.view_state.proofs.ViewOrder.{same_view_is}
+use Rattle.row_laws.proofs.failed_rows.Bases.{base_is, new_stay}
 
 -- ---- passing
 
@@ -92,12 +93,6 @@ abbrev pub TakesIn : ℕ → History → Core → ProviderId → Type 0
 TakesIn n before t p =
     (g : List ℕ) (first : ℕ) → (part p (stays n g (earlier (reverse t.records) before))).first ≡ Some first → (part p (stays n g (earlier (reverse t.records) before))).last ≡ None → was_let_go p before ≡ false → (x : Provider) × (provider_of t.sessions p ≡ Some x) × (x.takes_part ≡ true) × (x.group ≡ g)
 
-view_self : (a b : ViewId) → a ≡ b → same_view a b ≡ true
-view_self a b e = subst (λ z. same_view a z ≡ true) e (self a)
-  where
-    self : (a : ViewId) → same_view a a ≡ true
-    self a = grind (arith, nat_tests)
-
 module _ (c : Config) (w : Scene) (n : ℕ) (f : Answering) (s : Core) (e : NodeEvent) (v : Event) (reached : Reached c w) (up : w.cores n ≡ Some s) (arises : Arises w e) (t : Core) (i : Install) (does : Does (at_work s) t) (fair : Fair (at_work s) t) (same : t.views.view ≡ s.views.view) (lt : Lt t.views.view i.view) (rest : Fair (entering t i) (stepped f s e)) where
   abbrev d : Core
   d = stepped f s e
@@ -121,17 +116,8 @@ module _ (c : Config) (w : Scene) (n : ℕ) (f : Answering) (s : Core) (e : Node
   turned r h = subst (Has r) (append-nil now) (has_turned r d.records [] (append_has_left r d.records [] h))
 
   pub o : Ordered n (w.incs n) w.before s.views.view s.sessions.last_request t
-  unfolding len_of state_of list_of row_of
   o =
-      ordered_does n (w.incs n) w.before s.views.view s.sessions.last_request (at_work s) t does d.records before_it (step_fine c w n s reached up f e v arises) (lively_now c w n f s e v reached up arises) (fresh_now c w reached n s up) (record {
-        strict = begin_strict c w n s reached up (incs_of c w reached n);
-        place = (node_placed c w reached n s up).0;
-        law = tt;
-        others = λ m g ne. refl;
-        counts = λ p u g ne. refl;
-        begins = λ all. refl;
-        numbers = λ q. omega arith;
-      })
+      ordered_does n (w.incs n) w.before s.views.view s.sessions.last_request (at_work s) t does d.records before_it (step_fine c w n s reached up f e v arises) (lively_now c w n f s e v reached up arises) (fresh_now c w reached n s up) (begin_ordered c w reached n s up (node_placed c w reached n s up).0)
 
   me : t.views.me ≡ n
   me = o.strict.hearing.me
@@ -140,11 +126,11 @@ module _ (c : Config) (w : Scene) (n : ℕ) (f : Answering) (s : Core) (e : Node
 
   in_there : Has (happened.In n i.view i.members) d.records
   in_there =
-      subst (λ m. Has (happened.In m i.view i.members) d.records) me (there (happened.In t.views.me i.view i.members) (entering_recorded n (w.incs n) w.before s.views.view s.sessions.last_request t i))
+      subst (λ m. Has (happened.In m i.view i.members) d.records) me (there (happened.In t.views.me i.view i.members) (entered_records t i).view)
 
   base_there : (b : Base) → Has b bs → Has (happened.Base n i.view b.name b.from b.len b.state) d.records
   base_there b h =
-      subst (λ m. Has (happened.Base m i.view b.name b.from b.len b.state) d.records) me (there (happened.Base t.views.me i.view b.name b.from b.len b.state) (base_recorded_at n (w.incs n) w.before s.views.view s.sessions.last_request t i b h))
+      subst (λ m. Has (happened.Base m i.view b.name b.from b.len b.state) d.records) me (there (happened.Base t.views.me i.view b.name b.from b.len b.state) ((entered_records t i).base b h))
 
   later : Lt s.views.view i.view
   later = subst (λ z. Lt z i.view) same lt
@@ -258,18 +244,7 @@ module _ (c : Config) (w : Scene) (n : ℕ) (f : Answering) (s : Core) (e : Node
 
       by : (r : Happened) → Has r now → enters p.node r ≡ true → p.node ≡ n
       by (happened.In m u ms) h q = sym (eqb-true m p.node q) ∙ at m u ms (has_reverse (happened.In m u ms) d.records h)
-      by (happened.Up m j) h q = absurd (cc)
-      by (happened.Down m) h q = absurd (cc)
-      by (happened.Ring m k i ms y) h q = absurd (cc)
-      by (happened.Base m u g old len st) h q = absurd (cc)
-      by (happened.Put m u g k y) h q = absurd (cc)
-      by (happened.Heard a u g k y ms value) h q = absurd (cc)
-      by (happened.Cast a proto phase vote value message) h q = absurd (cc)
-      by (happened.Asked a r g y) h q = absurd (cc)
-      by (happened.Told a r why) h q = absurd (cc)
-      by (happened.Noted m a u k told) h q = absurd (cc)
-      by (happened.Refused m a fault) h q = absurd (cc)
-      by (happened.Shown m line) h q = absurd (cc)
+      by _ h q = absurd (cc)
 
   -- who takes part and lives in its base passes
   is_passing : (p : ProviderId) (g : List ℕ) → p.node ≡ n → p.inc ≡ w.incs n → is_in_base t.views.view p (base_named bs g) ≡ true → (among (present (base_is (base_named bs g))) p && not (among (base_is (base_named bs g)).failed p)) ≡ true
@@ -280,7 +255,7 @@ module _ (c : Config) (w : Scene) (n : ℕ) (f : Answering) (s : Core) (e : Node
       by None q k = absurd (cc)
       by (Some b) q k =
           let a = and_parts (same_view b.from t.views.view) (among (present b.state) p) k in
-          let from : b.from ≡ s.views.view = view_same b.from t.views.view a.0 ∙ same in
+          let from : b.from ≡ s.views.view = same_view_is b.from t.views.view a.0 ∙ same in
           let based : Has (happened.Base n i.view b.name s.views.view b.len b.state) d.records = subst (λ z. Has (happened.Base n i.view b.name z b.len b.state) d.records) from (base_there b (named_has bs g b q)) in
           let lives : among b.state.failed p ≡ false = lively_now c w n f s e v reached up arises i.view i.members b.name b.len b.state in_there based later p node inc in
           (λ j. a.1 j && not (lives j))

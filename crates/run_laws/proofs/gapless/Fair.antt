@@ -1,5 +1,5 @@
 -- What a node sends, decides and records, but for the views that it enters: no refusal is that a group was dissolved.
-use Rattle.std.proofs.Common.{◌≡◌, ◌⊎◌, ℕ, List, [], ◌∷◌, ◌++◌, Option, Some, None, Bool, true, false, refl, sym, ap, ◌∙◌, subst, inl, inr, ⊎_elim, append_assoc, append-nil}
+use Rattle.std.proofs.Common.{◌≡◌, ℕ, List, [], ◌∷◌, ◌++◌, Option, Some, None, Bool, true, false, refl, sym, ap, ◌∙◌, subst, inl, inr, ⊎_elim, append_assoc, append-nil}
 use Rattle.std.specs.Prelude.{find}
 use Rattle.std.specs.Str.{bytes_eq}
 use Rattle.rsct_packet.specs.declared.ids.ProviderId.{ProviderId}
@@ -26,6 +26,7 @@ use Rattle.node_state.specs.Deciding.{keep_decision, wait_join}
 use Rattle.step_walk.proofs.Changes.{Any, Fairly, Spoken, Tells, Telling, KeepsCalls, KeepsParts, KeepsRing, KeepsRings, KeepsRules}
 use Rattle.step_walk.proofs.Parts.{on_hands}
 use Rattle.step_walk.proofs.Ringing.{by_ring}
+use Rattle.row_laws.proofs.failed_rows.Ending.{with_has}
 
 -- no packet tells that a group was dissolved
 abbrev pub FairBody : Body → Type 0
@@ -83,18 +84,6 @@ rows_all Q g f step (x ∷ rows) all row h d i =
     by false true (inr j) rest = all row j d i
     by false false (inl e) rest = all row (inl e) d i
     by false false (inr j) rest = rest j d i
-
-with_has : (d : Decision) (xs : List Decision) (z : Decision) → Has z (decisions_with d xs) → (z ≡ d) ⊎ Has z xs
-unfolding decisions_with
-with_has d [] z (inl e) = inl e
-with_has d [] z (inr a) = absurd a
-with_has d (x ∷ xs) z h = by (same_provider x.p d.p) h (with_has d xs z)
-  where
-    by : (b : Bool) → Has z (elim b as (λ _. List Decision) [ true ↦ d ∷ xs | false ↦ x ∷ decisions_with d xs ]) → (Has z (decisions_with d xs) → (z ≡ d) ⊎ Has z xs) → (z ≡ d) ⊎ Has z (x ∷ xs)
-    by true (inl e) rest = inl e
-    by true (inr j) rest = inr (inr j)
-    by false (inl e) rest = inr (inl e)
-    by false (inr j) rest = ⊎_elim (λ (e : z ≡ d). inl e) (λ (i : Has z xs). inr (inr i)) (rest j)
 
 -- ---- each change of a step
 

@@ -1,12 +1,10 @@
 -- First and last places of a provider as an entry comes: who takes part after it did before, or joins by it, and is present.
-use Rattle.std.proofs.Common.{◌≡◌, ◌≤◌, ◌<◌, ◌⊎◌, ℕ, suc, ◌+◌, List, [], ◌∷◌, ◌++◌, length, Option, Some, None, Bool, true, false, refl, sym, ap, ◌∙◌, inl, inr, arith}
+use Rattle.std.proofs.Common.{◌≡◌, ◌<◌, ◌⊎◌, ℕ, suc, ◌+◌, List, [], ◌∷◌, ◌++◌, length, Option, Some, None, Bool, true, false, refl, sym, ap, ◌∙◌, inl, inr, arith}
 use Rattle.std.specs.Prelude.{not, ◌&&◌, nat_le, is_some, is_none, IsTrue, if◌then◌else◌}
-use Rattle.std.specs.Option.{option_map}
 use Rattle.std.proofs.lemmas.Bool.{and_parts, leb-true, le-leb}
 use Rattle.rsct_packet.specs.declared.ids.ViewId.{ViewId}
 use Rattle.rsct_packet.specs.declared.ids.ProviderId.{ProviderId}
 use Rattle.rsct_packet.specs.Providers.{among}
-use Rattle.rsct_packet.specs.Search.{place_where}
 use Rattle.rsct_packet.proofs.SearchLaws.{place_is_in}
 use Rattle.proposal_core.specs.declared.entry.Entry.{Entry}
 use Rattle.proposal_core.specs.declared.group_state.GroupState.{GroupState}
@@ -23,10 +21,6 @@ first_below : (p : ProviderId) (es : List Entry) (b : Bool) (f : ℕ) → first_
 first_below p [] true f q = inr (refl, refl)
 first_below p (x ∷ xs) true f q = let e : 0 ≡ f = cc in inl (omega (arith, e))
 first_below p es false f q = inl (place_is_in (is_join_of p) es f q)
-
-first_least : (p : ProviderId) (es : List Entry) (b : Bool) (f : ℕ) → first_in p es b ≡ Some f → f ≤ length es
-first_least p es true f q = let e : 0 ≡ f = cc in omega (arith, e)
-first_least p es false f q = let a = place_is_in (is_join_of p) es f q in omega (arith, a)
 
 -- ---- the last place
 

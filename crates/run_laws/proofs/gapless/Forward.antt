@@ -1,11 +1,11 @@
 -- How a provider stands at its node goes on, where it is told, and where an entry is handed on.
 use Rattle.std.proofs.Common.{◌≡◌, ◌⊎◌, ℕ, List, [], ◌∷◌, Option, Some, None, Bool, true, false, refl, sym, ap, ◌∙◌, inl, inr, ⊎_elim}
-use Rattle.std.specs.Prelude.{◌==◌, ◌&&◌, ◌||◌, not, find, filter, is_some, is_none, if◌then◌else◌}
+use Rattle.std.specs.Prelude.{◌==◌, ◌&&◌, ◌||◌, not, find, filter, is_some, if◌then◌else◌}
 use Rattle.std.proofs.lemmas.Bool.{eqb-true}
 use Rattle.rsct_packet.specs.declared.ids.ProviderId.{ProviderId}
 use Rattle.rsct_packet.specs.Providers.{among, same_provider}
 use Rattle.rsct_packet.specs.Search.{Has}
-use Rattle.rsct_packet.proofs.HasLaws.{has_append, find_has, find_none}
+use Rattle.rsct_packet.proofs.HasLaws.{has_append, find_has}
 use Rattle.proposal_core.specs.declared.entry.Entry.{Entry}
 use Rattle.proposal_core.specs.declared.group_state.GroupState.{GroupState}
 use Rattle.proposal_core.specs.Fold.{joiners_in, present}
@@ -16,40 +16,28 @@ use Rattle.session_state.specs.declared.state.Request.{Request}
 use Rattle.session_state.specs.declared.state.SessionState.{SessionState}
 use Rattle.session_state.specs.State.{provider_of, is_provider, is_asked_by, outstanding, without_providers}
 use Rattle.session_state.specs.HandOn.{is_join, is_join_request, is_numbered, is_dissolved, takes_telling, told_of, take_telling, beginners, hearers, is_present, handed_on}
-use Rattle.step_refinement.proofs.SessionLaws.{provider_self, provider_same}
-use Rattle.row_laws.proofs.hearing.Handing.{has_among, handed_kept, handed_begun, hearer_found, new_hears}
+use Rattle.step_refinement.proofs.SessionLaws.{provider_same}
+use Rattle.row_laws.proofs.hearing.Handing.{has_among, handed_kept, handed_begun, hearer_found, new_hears, some_is}
 use Rattle.row_laws.proofs.failed_rows.Living.{IsLive, handed_lives}
 use Rattle.run_laws.specs.gapless.Takers.{Stood}
-
-pub some_is : {a b : Provider} → Some a ≡ Some b → a ≡ b
-some_is e = cc
-
--- who is a provider is found
-pub live_found : (t : SessionState) (p : ProviderId) → IsLive t p → (x : Provider) × (provider_of t p ≡ Some x)
-unfolding provider_of
-live_found t p k = by (find (is_provider p) t.providers) refl
-  where
-    by : (o : Option Provider) → find (is_provider p) t.providers ≡ o → (x : Provider) × (find (is_provider p) t.providers ≡ Some x)
-    by (Some x) e = (x, e)
-    by None e = absurd (find_none (is_provider p) t.providers k.0 (ap is_none e) k.1 (ap (λ z. is_provider p (record (k.0) { p = z })) k.2 ∙ provider_self p))
-
-pub found_live : (t : SessionState) (p : ProviderId) (x : Provider) → provider_of t p ≡ Some x → IsLive t p
-unfolding provider_of
-found_live t p x e = let k = find_has (is_provider p) t.providers x e in (x, k.0, provider_same x.p p k.1)
+use Rattle.provider_laws.proofs.leaving.Comes.{live_found, found_live}
 
 -- ---- a provider is told
 
-find_without : (p : ProviderId) (out : List ProviderId) (xs : List Provider) (x : Provider) → among out p ≡ false → find (is_provider p) xs ≡ Some x → find (is_provider p) (filter (λ (x : Provider). not (among out x.p)) xs) ≡ Some x
-find_without p out [] x off e = absurd (cc)
-find_without p out (y ∷ ys) x off e = by (not (among out y.p)) (is_provider p y) refl refl e (find_without p out ys x off)
+-- who is kept is found as before
+pub find_kept : (p : ProviderId) (keep : Provider → Bool) (xs : List Provider) (x : Provider) → keep x ≡ true → find (is_provider p) xs ≡ Some x → find (is_provider p) (filter keep xs) ≡ Some x
+find_kept p keep [] x k e = absurd (cc)
+find_kept p keep (y ∷ ys) x k e = by (keep y) (is_provider p y) refl refl e (find_kept p keep ys x k)
   where
-    by : (a b : Bool) → not (among out y.p) ≡ a → is_provider p y ≡ b → (if b then Some y else find (is_provider p) ys) ≡ Some x → (find (is_provider p) ys ≡ Some x → find (is_provider p) (filter (λ (x : Provider). not (among out x.p)) ys) ≡ Some x) → find (is_provider p) (if a then y ∷ filter (λ (x : Provider). not (among out x.p)) ys else filter (λ (x : Provider). not (among out x.p)) ys) ≡ Some x
-    by true true k m e rest = ap (λ b. if b then Some y else find (is_provider p) (filter (λ (x : Provider). not (among out x.p)) ys)) m ∙ e
-    by true false k m e rest = ap (λ b. if b then Some y else find (is_provider p) (filter (λ (x : Provider). not (among out x.p)) ys)) m ∙ rest e
-    by false true k m e rest =
-        let z : not (among out y.p) ≡ true = ap (λ q. not (among out q)) (provider_same y.p p m) ∙ ap not off in
-        absurd (let u : true ≡ false = sym z ∙ k in cc)
-    by false false k m e rest = rest e
+    by : (a b : Bool) → keep y ≡ a → is_provider p y ≡ b → (if b then Some y else find (is_provider p) ys) ≡ Some x → (find (is_provider p) ys ≡ Some x → find (is_provider p) (filter keep ys) ≡ Some x) → find (is_provider p) (if a then y ∷ filter keep ys else filter keep ys) ≡ Some x
+    by true true m q e rest = ap (λ b. if b then Some y else find (is_provider p) (filter keep ys)) q ∙ e
+    by true false m q e rest = ap (λ b. if b then Some y else find (is_provider p) (filter keep ys)) q ∙ rest e
+    by false true m q e rest = absurd (let z : true ≡ false = sym k ∙ ap keep (sym (some_is e)) ∙ m in cc)
+    by false false m q e rest = rest e
+
+find_without : (p : ProviderId) (out : List ProviderId) (xs : List Provider) (x : Provider) → among out p ≡ false → find (is_provider p) xs ≡ Some x → find (is_provider p) (filter (λ (x : Provider). not (among out x.p)) xs) ≡ Some x
+find_without p out xs x off e =
+    find_kept p (λ (x : Provider). not (among out x.p)) xs x (ap (λ q. not (among out q)) (provider_same x.p p (find_has (is_provider p) xs x e).1) ∙ ap not off) e
 
 -- it is of a join that the provider has outstanding under that number, or says that the group is dissolved
 abbrev pub Drops : SessionState → ProviderId → ℕ → Why → Type 0

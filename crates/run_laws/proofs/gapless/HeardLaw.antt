@@ -12,8 +12,8 @@ use Rattle.node_state.specs.HandOn.{Answering}
 use Rattle.node_state.specs.Step.{NodeEvent, at_work, stepped}
 use Rattle.world_model.specs.declared.event.Event.{Event}
 use Rattle.world_model.specs.Run.{Happening}
-use Rattle.run_safety.specs.Past.{History, Within, earlier}
-use Rattle.run_safety.specs.Stays.{stays, part, takes_part, was_let_go}
+use Rattle.run_safety.specs.Past.{History, Within, earlier, inc_now, records_of}
+use Rattle.run_safety.specs.Stays.{stays, part, takes_part, was_let_go, ends}
 use Rattle.step_refinement.specs.Tied.{Scene}
 use Rattle.step_refinement.specs.Rules.{over, Arises}
 use Rattle.step_refinement.specs.Runs.{Reached}
@@ -27,11 +27,14 @@ use Rattle.provider_laws.proofs.leaving.Law.{recounting, recounted_ran, reached,
 use Rattle.run_laws.specs.gapless.Takers.{Dissolving}
 use Rattle.run_laws.proofs.gapless.Standing.{Heard_at, Law}
 use Rattle.run_laws.proofs.gapless.Adding.{Walked}
+use Rattle.run_laws.specs.gapless.Hears.{AllHearUnlessLetGo, EachHears, TakersHear}
 use Rattle.run_laws.proofs.gapless.Resting.{Rested}
 use Rattle.run_laws.proofs.gapless.Stepping as stepping
 use Rattle.run_laws.proofs.gapless.TakerLaw.{rested}
 use Rattle.run_laws.specs.gapless.Heard.{leaves, AllHearUnlessLeaving, EachIsHeard, EachPutIsHeard}
 use Rattle.run_laws.proofs.gapless.Told.{never}
+use Rattle.std.specs.List.{list_any}
+use Rattle.std.proofs.lemmas.Bool.{or_parts}
 
 -- ---- records of no step
 
@@ -67,18 +70,7 @@ module _ (c : Config) (w : Scene) (n : ℕ) (f : Answering) (s : Core) (e : Node
           said : Dissolving p (earlier now w.before) ⊎ Heard_at n w.before p (own ∙ at) t.records u g i x → (ms : List ProviderId) × (value : List ℕ) × Has (happened.Heard p u g i x ms value) (reverse t.records)
           said (inl d) = absurd (never c w n f s e v reached up arises says is clean k p (own ∙ at) was lets xs u g i x now (subst (λ z. reverse t.records ≡ xs ++ happened.Put z u g i x ∷ now) at q) (subst (λ z. IsTrue (takes_part i (part p (stays z g (happened.Put z u g i x ∷ earlier now w.before))))) at takes) d)
           said (inr h) = (h.0, h.1, reverse_has (happened.Heard p u g i x h.0 h.1) t.records h.2)
-  one_heard xs (happened.Up m j) now q laws = tt
-  one_heard xs (happened.Down m) now q laws = tt
-  one_heard xs (happened.Ring m z i ms o) now q laws = tt
-  one_heard xs (happened.In m u ms) now q laws = tt
-  one_heard xs (happened.Base m u g o len x) now q laws = tt
-  one_heard xs (happened.Heard p u g i x ms value) now q laws = tt
-  one_heard xs (happened.Cast p proto phase vote value message) now q laws = tt
-  one_heard xs (happened.Asked p r g x) now q laws = tt
-  one_heard xs (happened.Told p r why) now q laws = tt
-  one_heard xs (happened.Noted m d u i told) now q laws = tt
-  one_heard xs (happened.Refused m d fault) now q laws = tt
-  one_heard xs (happened.Shown m line) now q laws = tt
+  one_heard xs _ now q laws = tt
 
   all_heard : (xs now : List Happened) → reverse t.records ≡ xs ++ now → Laws now → Within (AllHearUnlessLeaving (over v t)) now w.before
   all_heard xs [] q laws = tt
@@ -101,3 +93,20 @@ heard_law c =
 
 pub each_put_is_heard : EachPutIsHeard
 each_put_is_heard c w k = past_holds recounting c EachIsHeard (heard_law c) w (recounted_ran c w k)
+
+-- ---- unless it is let go
+
+unless_let_go : (x : Happening) (before : History) (now : List Happened) → Within (AllHearUnlessLeaving x) now before → Within (AllHearUnlessLetGo x) now before
+unless_let_go x before [] k = tt
+unless_let_go x before (r ∷ now) k = (one r k.0, unless_let_go x before now k.1)
+  where
+    one : (r : Happened) → AllHearUnlessLeaving x now before r → AllHearUnlessLetGo x now before r
+    one (happened.Put n v g i e) k = λ p own takes was lets. k p own takes was (or_parts (list_any (ends p (inc_now p.node (records_of before))) x.records) (leaves p x before) lets).1
+    one _ k = tt
+
+each_unless : (h : History) → EachIsHeard h → EachHears h
+each_unless [] k = tt
+each_unless (x ∷ h) k = (unless_let_go x h x.records k.0, each_unless h k.1)
+
+pub takers_hear : TakersHear
+takers_hear c w k = each_unless w.before (each_put_is_heard c w k)

@@ -1,7 +1,6 @@
 -- All that a step does keeps what stands of a provider at its node.
-use Rattle.std.proofs.Common.{◌≡◌, ℕ, ◌+◌, List, [], ◌∷◌, ◌++◌, Option, Some, None, Bool, true, false, refl, sym, ap, ◌∙◌, subst, inl, inr, ⊎_elim, append_assoc}
-use Rattle.std.specs.Prelude.{reverse, flat_map, map, if◌then◌else◌}
-use Rattle.std.proofs.lemmas.Bool.{eq-eqb}
+use Rattle.std.proofs.Common.{◌≡◌, ℕ, List, [], ◌∷◌, ◌++◌, Option, Bool, true, false, refl, sym, ap, ◌∙◌, subst, inl, inr, ⊎_elim, append_assoc}
+use Rattle.std.specs.Prelude.{reverse, flat_map, map}
 use Rattle.std.proofs.lemmas.List.{reverse-append}
 use Rattle.rsct_packet.specs.declared.ids.ViewId.{ViewId}
 use Rattle.rsct_packet.specs.declared.ids.ProviderId.{ProviderId}
@@ -9,8 +8,6 @@ use Rattle.rsct_packet.specs.Search.{Has}
 use Rattle.rsct_packet.proofs.HasLaws.{append_has_left, append_has_right, has_map}
 use Rattle.proposal_core.specs.declared.entry.Entry.{Entry}
 use Rattle.proposal_core.specs.declared.group_state.GroupState.{GroupState}
-use Rattle.proposal_core.specs.Fold.{empty_state, after}
-use Rattle.proposal_core.specs.Lists.{list_or_new, with_entry}
 use Rattle.client_callbacks.specs.declared.ballot.Filled.{Filled}
 use Rattle.client_callbacks.specs.declared.told.Why.{Why}
 use Rattle.session_state.specs.declared.state.SessionState.{SessionState}
@@ -20,7 +17,6 @@ use Rattle.view_state.specs.declared.install.Install.{Install}
 use Rattle.view_state.specs.declared.install.Base.{Base}
 use Rattle.view_state.specs.Bases.{bases_of, base_named}
 use Rattle.view_state.specs.Views.{views_entered}
-use Rattle.node_state.specs.declared.group.GroupRow.{GroupRow}
 use Rattle.node_state.specs.declared.happened.Happened.{Happened}
 use Rattle.node_state.specs.declared.happened.Happened.TheVariants as happened
 use Rattle.node_state.specs.declared.state.Core.{Core}
@@ -28,14 +24,13 @@ use Rattle.node_state.specs.State.{InNameOrder, row_of, with_row, list_of, state
 use Rattle.node_state.specs.HandOn.{heard}
 use Rattle.node_state.specs.Leading.{put}
 use Rattle.node_state.specs.Applying.{level_set, base_row, base_record, view_entered}
-use Rattle.run_safety.specs.Past.{History, Within, earlier, records_of}
+use Rattle.run_safety.specs.Past.{History, earlier, records_of}
 use Rattle.run_safety.specs.Stays.{stays}
-use Rattle.node_state.proofs.NameOrder.{row_here, row_there}
 use Rattle.step_refinement.proofs.BaseOrder.{bases_ordered, base_noted}
 use Rattle.row_laws.specs.hearing.Changes.{Same, handing}
 use Rattle.row_laws.proofs.hearing.Attending.{pushed, pushed_reverse, heard_at}
 use Rattle.row_laws.proofs.hearing.Doing.{base_len, entered_groups}
-use Rattle.provider_laws.proofs.attending.Entering.{bases_stay, with_state, base_is, new_stay, state_named}
+use Rattle.provider_laws.proofs.attending.Entering.{state_named, inside_stays}
 use Rattle.run_laws.specs.seen_runs.Seen.{Seen, SeenAt}
 use Rattle.run_laws.specs.gapless.Takers.{Taker, Stood, AskedJoin, Dissolving}
 use Rattle.run_laws.proofs.gapless.Firsts.{taker_passed}
@@ -43,32 +38,17 @@ use Rattle.run_laws.proofs.gapless.Growing.{Unasked, asked_back, Over, over_more
 use Rattle.run_laws.proofs.gapless.Standing.{Law, Inv, inv_record, inv_told}
 use Rattle.run_laws.proofs.gapless.Putting.{inv_handed}
 use Rattle.run_laws.proofs.gapless.TakerWalk.{Fine, Alike, Keeps}
+use Rattle.provider_laws.proofs.attending.Ordering.{put_made}
+use Rattle.provider_laws.proofs.attending.Turns.{within_pushed}
+use Rattle.run_laws.proofs.seen_runs.Law.{seen_after}
+use Rattle.row_laws.proofs.failed_rows.Bases.{base_is, new_stay}
 
-fine_inert : (r : Happened) → Fine r → Inert r
-fine_inert (happened.Up n j) a = absurd a
-fine_inert (happened.Down n) a = absurd a
+pub fine_inert : (r : Happened) → Fine r → Inert r
 fine_inert (happened.Ring n k i ms o) a = tt
-fine_inert (happened.In n v ms) a = absurd a
-fine_inert (happened.Base n v g u len s) a = absurd a
-fine_inert (happened.Put n v g i e) a = absurd a
-fine_inert (happened.Heard p v g i e ms value) a = absurd a
 fine_inert (happened.Cast p proto phase vote value message) a = tt
-fine_inert (happened.Asked p r g x) a = absurd a
-fine_inert (happened.Told p r why) a = absurd a
 fine_inert (happened.Noted n c v i told) a = tt
-fine_inert (happened.Refused n c fault) a = absurd a
 fine_inert (happened.Shown n line) a = tt
-
-pub seen_back : (zs : List Happened) (r : Happened) (rs : List Happened) → Seen (zs ++ r ∷ rs) → SeenAt rs r
-seen_back [] r rs k = k.0
-seen_back (z ∷ zs) r rs k = seen_back zs r rs k.1
-
--- what an entry that is put makes of the lists
-put_made : (s : Core) (h : List ℕ) (e : Entry) → InNameOrder s.groups → (len_of (put s h e) h ≡ len_of s h + 1) × (state_of (put s h e) h ≡ after (state_of s h) s.views.view (len_of s h) e) × ((g : List ℕ) → (h ≡ g → ⊥) → (len_of (put s h e) g ≡ len_of s g) × (state_of (put s h e) g ≡ state_of s g))
-unfolding put recorded len_of state_of list_of with_entry with_row row_of
-put_made s h e o =
-    let F : GroupRow → GroupRow = λ row. record row { list = Some (with_entry (list_or_new row.list) s.views.view e) } in
-    (ap (λ (row : GroupRow). (list_or_new row.list).len) (row_here h F (λ x. refl) s o), ap (λ (row : GroupRow). (list_or_new row.list).state) (row_here h F (λ x. refl) s o), λ g ne. (ap (λ (row : GroupRow). (list_or_new row.list).len) (row_there h F (λ x. refl) s g ne), ap (λ (row : GroupRow). (list_or_new row.list).state) (row_there h F (λ x. refl) s g ne)))
+fine_inert _ a = absurd a
 
 -- records of an entering
 abbrev Entered : Happened → Type 0
@@ -77,19 +57,8 @@ Entered (happened.Base n v g u len s) = Unit {0}
 Entered _ = ⊥
 
 entered_unasked : (r : Happened) → Entered r → Unasked r
-entered_unasked (happened.Up n j) a = absurd a
-entered_unasked (happened.Down n) a = absurd a
-entered_unasked (happened.Ring n k i ms o) a = absurd a
-entered_unasked (happened.In n v ms) a = tt
-entered_unasked (happened.Base n v g u len s) a = tt
-entered_unasked (happened.Put n v g i e) a = absurd a
-entered_unasked (happened.Heard p v g i e ms value) a = absurd a
-entered_unasked (happened.Cast p proto phase vote value message) a = absurd a
 entered_unasked (happened.Asked p r g x) a = absurd a
-entered_unasked (happened.Told p r why) a = absurd a
-entered_unasked (happened.Noted n c v i told) a = absurd a
-entered_unasked (happened.Refused n c fault) a = absurd a
-entered_unasked (happened.Shown n line) a = absurd a
+entered_unasked _ a = tt
 
 module _ (n : ℕ) (before : History) (p : ProviderId) (node : p.node ≡ n) (final : List Happened) where
   -- the event records more than this
@@ -149,24 +118,9 @@ module _ (n : ℕ) (before : History) (p : ProviderId) (node : p.node ≡ n) (fi
   pushed_dissolving [] now k = k
   pushed_dissolving (r ∷ rs) now k = pushed_dissolving rs (r ∷ now) (dissolving_more p r (earlier now before) k)
 
-  entered_law : (now : List Happened) (r : Happened) → Entered r → Law n before p node final now before r
-  entered_law now (happened.Up m j) a = tt
-  entered_law now (happened.Down m) a = tt
-  entered_law now (happened.Ring m k i ms o) a = tt
-  entered_law now (happened.In m v ms) a = tt
-  entered_law now (happened.Base m v g u len s) a = tt
-  entered_law now (happened.Put m v g i e) a = absurd a
-  entered_law now (happened.Heard q v g i e ms value) a = tt
-  entered_law now (happened.Cast q proto phase vote value message) a = tt
-  entered_law now (happened.Asked q r g x) a = tt
-  entered_law now (happened.Told q r why) a = tt
-  entered_law now (happened.Noted m c v i told) a = tt
-  entered_law now (happened.Refused m c fault) a = tt
-  entered_law now (happened.Shown m line) a = tt
-
-  pushed_law : (rs now : List Happened) → ((r : Happened) → Has r rs → Entered r) → Within (Law n before p node final) now before → Within (Law n before p node final) (pushed rs now) before
-  pushed_law [] now all k = k
-  pushed_law (r ∷ rs) now all k = pushed_law rs (r ∷ now) (λ q h. all q (inr h)) (entered_law now r (all r (inl refl)), k)
+  entered_law : (now : List Happened) (h : History) (r : Happened) → Entered r → Law n before p node final now h r
+  entered_law now h (happened.Put m v g i e) a = absurd a
+  entered_law now h _ a = tt
 
   module _ (s : Core) (i : Install) (k : Standing s) where
     abbrev bs : List Base
@@ -194,15 +148,7 @@ module _ (n : ℕ) (before : History) (p : ProviderId) (node : p.node ≡ n) (fi
 
     stays_at : (g : List ℕ) → stays n g (earlier now before) ≡ new_stay i.view (base_is (base_named bs g)) ∷ stays n g (earlier (reverse s.records) before)
     stays_at g =
-        subst (λ m. stays m g (earlier now before) ≡ new_stay i.view (base_is (base_named bs g)) ∷ stays m g (earlier (reverse s.records) before)) k.me (bases_stay s.views.me i.view g before bs (entering ∷ reverse s.records) (new_stay i.view empty_state) (stays s.views.me g (earlier (reverse s.records) before)) (bases_ordered i) here ∙ ap (λ x. x ∷ stays s.views.me g (earlier (reverse s.records) before)) (by (base_named bs g)))
-      where
-        here : stays s.views.me g (earlier (entering ∷ reverse s.records) before) ≡ new_stay i.view empty_state ∷ stays s.views.me g (earlier (reverse s.records) before)
-        here =
-            ap (λ b. if b then new_stay i.view empty_state ∷ stays s.views.me g (earlier (reverse s.records) before) else stays s.views.me g (earlier (reverse s.records) before)) (eq-eqb s.views.me s.views.me refl)
-
-        by : (o : Option Base) → with_state o (new_stay i.view empty_state) ≡ new_stay i.view (base_is o)
-        by None = refl
-        by (Some b) = refl
+        subst (λ m. stays m g (earlier now before) ≡ new_stay i.view (base_is (base_named bs g)) ∷ stays m g (earlier (reverse s.records) before)) k.me (inside_stays before s i g)
 
     groups : core.groups ≡ map base_row bs
     groups = entered_groups s i bs
@@ -233,7 +179,7 @@ module _ (n : ℕ) (before : History) (p : ProviderId) (node : p.node ≡ n) (fi
           takes = λ g a. let b = taker_passed p i.view (base_is (base_named bs g)) (stays n g (earlier (reverse s.records) before)) (subst (Taker p) (stays_at g) a) in
               ⊎_elim (λ (x : Stood s.sessions p g true). inl (stood_on g true x)) (λ (x : Dissolving p (earlier (reverse s.records) before)). inr (pushed_dissolving new (reverse s.records) x)) (v.takes g b.0);
           joins = λ q h j. let a = v.joins q (subst (Has q) same_requests h) j in (a.0, λ y f. a.1 y (sym (same_found q.p) ∙ f));
-          law = pushed_law new (reverse s.records) entered_all v.law;
+          law = within_pushed (Law n before p node final) Entered entered_law new (reverse s.records) before entered_all v.law;
         }
 
     standing_enters : Standing core
@@ -249,7 +195,7 @@ module _ (n : ℕ) (before : History) (p : ProviderId) (node : p.node ≡ n) (fi
 
   module _ (seen : Seen (earlier (reverse final) before)) where
     seen_at : (xs : List Happened) (r : Happened) (ys : List Happened) → xs ++ r ∷ ys ≡ final → SeenAt (earlier (reverse xs) before) r
-    seen_at xs r ys e = seen_back (reverse ys) r (earlier (reverse xs) before) (subst Seen (ap (λ z. reverse z ++ records_of before) (sym e) ∙ ap (λ z. z ++ records_of before) (reverse-append xs (r ∷ ys) ∙ ap (λ z. z ++ reverse xs) (reverse-append (r ∷ []) ys)) ∙ ap (λ z. z ++ records_of before) (append_assoc (reverse ys) (r ∷ []) (reverse xs)) ∙ append_assoc (reverse ys) (r ∷ reverse xs) (records_of before)) seen)
+    seen_at xs r ys e = (seen_after (reverse ys) (r ∷ earlier (reverse xs) before) (subst Seen (ap (λ z. reverse z ++ records_of before) (sym e) ∙ ap (λ z. z ++ records_of before) (reverse-append xs (r ∷ ys) ∙ ap (λ z. z ++ reverse xs) (reverse-append (r ∷ []) ys)) ∙ ap (λ z. z ++ records_of before) (append_assoc (reverse ys) (r ∷ []) (reverse xs)) ∙ append_assoc (reverse ys) (r ∷ reverse xs) (records_of before)) seen)).0
 
     standing_hands : (s c : Core) (h : List ℕ) (e : Entry) (bs : List (Option Filled)) → Same (put s h e) c → InNameOrder c.groups → Standing s → Standing (handing c h (len_of s h) (state_of s h) (state_of (put s h e) h) e bs)
     unfolding put recorded recorded_all with_sessions heard with_row casts_out len_of state_of list_of row_of

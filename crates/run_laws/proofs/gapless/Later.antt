@@ -1,17 +1,15 @@
 -- What is put since a node entered a view stands in its latest stay, and nothing else.
-use Rattle.std.proofs.Common.{◌≡◌, ◌⊎◌, ℕ, List, [], ◌∷◌, ◌++◌, Option, Some, None, Bool, true, false, refl, sym, ap, ◌∙◌, inl, inr, ⊎_elim, suc}
+use Rattle.std.proofs.Common.{◌≡◌, ◌⊎◌, ℕ, List, [], ◌∷◌, ◌++◌, Bool, true, false, refl, sym, ap, ◌∙◌, inl, inr, ⊎_elim}
 use Rattle.std.specs.Prelude.{◌==◌, ◌&&◌, if◌then◌else◌}
-use Rattle.std.specs.Option.{option_map}
 use Rattle.std.specs.Str.{bytes_eq}
 use Rattle.std.proofs.lemmas.Bool.{eqb-true}
 use Rattle.rsct_packet.specs.declared.ids.ViewId.{ViewId}
-use Rattle.rsct_packet.specs.declared.ids.ProviderId.{ProviderId}
-use Rattle.rsct_packet.specs.Search.{Has, place_where}
+use Rattle.rsct_packet.specs.Search.{Has}
 use Rattle.rsct_packet.proofs.HasLaws.{has_append}
 use Rattle.proposal_core.specs.declared.entry.Entry.{Entry}
 use Rattle.node_state.specs.declared.happened.Happened.{Happened}
 use Rattle.node_state.specs.declared.happened.Happened.TheVariants as happened
-use Rattle.run_safety.specs.Stays.{Stay, stays, is_join_of, with_entry}
+use Rattle.run_safety.specs.Stays.{Stay, stays, with_entry}
 use Rattle.node_state.proofs.NameOrder.{text_same}
 use Rattle.run_laws.proofs.gapless.Fair.{Mild}
 
@@ -63,7 +61,6 @@ grown n g (r ∷ rs) base x older all q = by r (all r (inl refl)) (grown n g rs 
     by : (r : Happened) → Mild r → Grown n g rs (stays n g (rs ++ base)) x older → Grown n g (r ∷ rs) (stays n g (r ∷ rs ++ base)) x older
     by (happened.Up m j) a k = absurd a
     by (happened.Down m) a k = absurd a
-    by (happened.Ring m z i ms o) a k = grown_same n g (happened.Ring m z i ms o) rs (stays n g (rs ++ base)) _ x older refl k
     by (happened.In m v ms) a k = absurd a
     by (happened.Base m v h u len s) a k = absurd a
     by (happened.Put m v h i e) a k = put (m == n) (bytes_eq h g) refl refl
@@ -85,11 +82,4 @@ grown n g (r ∷ rs) base x older all q = by r (all r (inl refl)) (grown n g rs 
             new z (inr y) = absurd y
         put true false c d = grown_same n g it rs (stays n g (rs ++ base)) _ x older refl k
         put false b c d = grown_same n g it rs (stays n g (rs ++ base)) _ x older refl k
-    by (happened.Heard p v h i e ms value) a k = grown_same n g (happened.Heard p v h i e ms value) rs (stays n g (rs ++ base)) _ x older refl k
-    by (happened.Cast p proto phase vote value message) a k = grown_same n g (happened.Cast p proto phase vote value message) rs (stays n g (rs ++ base)) _ x older refl k
-    by (happened.Asked p z h y) a k = grown_same n g (happened.Asked p z h y) rs (stays n g (rs ++ base)) _ x older refl k
-    by (happened.Told p z why) a k = grown_same n g (happened.Told p z why) rs (stays n g (rs ++ base)) _ x older refl k
-    by (happened.Noted m c v i told) a k = grown_same n g (happened.Noted m c v i told) rs (stays n g (rs ++ base)) _ x older refl k
-    by (happened.Refused m c fault) a k = grown_same n g (happened.Refused m c fault) rs (stays n g (rs ++ base)) _ x older refl k
-    by (happened.Shown m line) a k = grown_same n g (happened.Shown m line) rs (stays n g (rs ++ base)) _ x older refl k
-
+    by r a k = grown_same n g r rs (stays n g (rs ++ base)) _ x older refl k

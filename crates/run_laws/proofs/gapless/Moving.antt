@@ -1,12 +1,11 @@
 -- A step as it goes: what comes before a view is entered, the view, and what comes after it; no refusal is that a group was dissolved,
 -- and a call enters no view.
 use Rattle.std.proofs.Common.{◌≡◌, ℕ, List, Option, Some, None, Bool, true, false, refl, sym, ap, ◌∙◌, subst}
-use Rattle.std.specs.Prelude.{not, ◌==◌, ◌&&◌, map, fold}
+use Rattle.std.specs.Prelude.{◌==◌, map, fold}
 use Rattle.std.proofs.lemmas.Bool.{eqb-true}
 use Rattle.rsct_packet.specs.declared.mask.Mask.{Mask}
 use Rattle.rsct_packet.specs.Search.{Has}
 use Rattle.rsct_packet.proofs.HasLaws.{has_map}
-use Rattle.proposal_core.specs.declared.entry.Entry.{Entry}
 use Rattle.view_state.specs.declared.answer.Answer.{Answer}
 use Rattle.view_state.specs.declared.install.Install.{Install}
 use Rattle.view_state.specs.declared.install.Base.{Base}
@@ -16,7 +15,7 @@ use Rattle.view_state.specs.declared.packet.ViewPacket.TheVariants as packet
 use Rattle.view_state.specs.declared.packet.ViewSend.{ViewSend}
 use Rattle.view_core.specs.declared.step.ViewEvent.TheVariants as event
 use Rattle.view_state.specs.declared.views.ViewWork.{ViewWork}
-use Rattle.view_state.specs.Views.{is_coordinator, is_frozen, install_again_of, view_sent_all, views_at_work, ask_rule, prepare_rule, answer_rule, refuse_rule, install_rule, taken_rule, gathering_ticks, install_again}
+use Rattle.view_state.specs.Views.{views_at_work, ask_rule, prepare_rule, answer_rule, refuse_rule, install_rule, taken_rule, gathering_ticks, install_again}
 use Rattle.view_core.specs.Steps.{view_stepped}
 use Rattle.view_core.specs.Steps as steps
 use Rattle.view_core.specs.Laws.{AreViews, IsNext, AppliesNext, Goes}
@@ -31,17 +30,16 @@ use Rattle.node_state.specs.Settings.{is_fixed}
 use Rattle.node_state.specs.State.{InNameOrder, row_of, list_of, state_of, len_of, held_rows, recorded_all}
 use Rattle.node_state.specs.Sending.{sent}
 use Rattle.node_state.specs.HandOn.{Answering}
-use Rattle.node_state.specs.Leading.{put_and_hand}
 use Rattle.node_state.specs.Applying.{Lacking, lacking, own_parts, fill_lists, base_row, view_entered, entered, entered_if, apply_install, views_taken}
 use Rattle.node_state.specs.Ticks.{ring_ask, tick_rings, tick_views, tick_owed, tick_led, tick_rule}
 use Rattle.node_state.specs.Step.{NodeEvent, Ticks, Asks, Given, Calls, Garbage, take_order, view_rule, take_body, packet_rule, event_rule, stepped, at_work}
 use Rattle.node_state.specs.Ending.{end_step}
 use Rattle.run_safety.specs.ViewOrder.{is_before, Lt}
 use Rattle.row_laws.specs.hearing.Changes.{Same, Does, Stays, Then, entering}
-use Rattle.row_laws.proofs.hearing.Changes.{Sends, sends_fold, sends_one, Onward, same_sends, put_handed_onward}
-use Rattle.row_laws.proofs.hearing.Rules.{onward_fold, rings_onward}
-use Rattle.row_laws.proofs.hearing.Viewing.{Fit, sides_stand}
-use Rattle.row_laws.proofs.hearing.Whose.{whose_asks, whose_prepares, whose_answers, whose_refuses, whose_installs, whose_takes, whose_ticks}
+use Rattle.row_laws.proofs.hearing.Changes.{Sends, sends_fold, sends_one, same_sends}
+use Rattle.row_laws.proofs.hearing.Rules.{rings_onward}
+use Rattle.row_laws.proofs.hearing.Viewing.{Fit, sides_stand, filled_onward, reminds_only}
+use Rattle.row_laws.proofs.hearing.InView.{stay_asks, stay_prepares, stay_answers, stay_refuses, stay_installs, stay_takes, stay_ticks}
 use Rattle.step_walk.proofs.Changes.{Fairly}
 use Rattle.step_walk.proofs.Ending.{on_ended}
 use Rattle.step_walk.proofs.Rules.{on_owed_part, on_led_part}
@@ -86,11 +84,6 @@ entering_speaks t i k =
 
     bare : (row : GroupRow) → Has row (map base_row bs) → (d : Decision) → Has d row.led.decided → Fairly d.why
     bare row h d j = let q = has_map base_row row bs h in absurd (subst (λ (z : GroupRow). Has d z.led.decided) q.2 j)
-
-filled_onward : (f : Answering) (xs : List Lacking) (c : Core) → Onward c (fill_lists f c xs)
-unfolding fill_lists
-filled_onward f xs c =
-    onward_fold (λ t (x : Lacking). fold (λ u e. put_and_hand f u None x.name e) t x.entries) (λ t x. onward_fold (λ u (e : Entry). put_and_hand f u None x.name e) (λ u e. put_handed_onward f u None x.name e) x.entries t) xs c
 
 -- ---- rules of views
 
@@ -138,8 +131,8 @@ module _ (Q : Core → Type 0) (X : Type 0) (x : X) (f : Answering) (carries : C
   ask_moves : (mask : Mask) → Moves Q X c (views_taken f c (ask_rule (views_at_work c.views) mask (own_parts c)))
   unfolding view_stepped steps.view_rule
   ask_moves mask =
-      let k = whose_asks (views_at_work c.views) mask (own_parts c) in
-      taken_moves (ask_rule (views_at_work c.views) mask (own_parts c)) (promises_stand c.views (event.Ask mask) (own_parts c) views) k.0 k.1
+      let k = stay_asks (views_at_work c.views) mask (own_parts c) in
+      taken_moves (ask_rule (views_at_work c.views) mask (own_parts c)) (promises_stand c.views (event.Ask mask) (own_parts c) views) k.0 k.2
 
   order_moves : (mask : Mask) → Moves Q X c (take_order f c mask)
   unfolding take_order
@@ -152,27 +145,27 @@ module _ (Q : Core → Type 0) (X : Type 0) (x : X) (f : Answering) (carries : C
   view_moves : (from inc : ℕ) (y : ViewPacket) → Moves Q X c (view_rule f c from inc y)
   unfolding view_rule view_stepped steps.view_rule
   view_moves from inc (packet.Prepare v mask) =
-      let k = whose_prepares (views_at_work c.views) from inc v mask (own_parts c) in
-      taken_moves (prepare_rule (views_at_work c.views) from inc v mask (own_parts c)) (promises_stand c.views (event.Prepare from inc v mask) (own_parts c) views) k.0 k.1
+      let k = stay_prepares (views_at_work c.views) from inc v mask (own_parts c) in
+      taken_moves (prepare_rule (views_at_work c.views) from inc v mask (own_parts c)) (promises_stand c.views (event.Prepare from inc v mask) (own_parts c) views) k.0 k.2
   view_moves from inc (packet.Answer v old parts) =
       let a : Answer = record { node = from; inc = inc; view = old; parts = parts } in
-      let k = whose_answers (views_at_work c.views) v a in
-      taken_moves (answer_rule (views_at_work c.views) v a) (promises_stand c.views (event.Answer from inc v (record { view = old; parts = parts })) (own_parts c) views) k.0 k.1
+      let k = stay_answers (views_at_work c.views) v a in
+      taken_moves (answer_rule (views_at_work c.views) v a) (promises_stand c.views (event.Answer from inc v (record { view = old; parts = parts })) (own_parts c) views) k.0 k.2
   view_moves from inc (packet.Refuse v n) =
-      let k = whose_refuses (views_at_work c.views) v n in
-      taken_moves (refuse_rule (views_at_work c.views) v n) (promises_stand c.views (event.Refuse v n) (own_parts c) views) k.0 k.1
+      let k = stay_refuses (views_at_work c.views) v n in
+      taken_moves (refuse_rule (views_at_work c.views) v n) (promises_stand c.views (event.Refuse v n) (own_parts c) views) k.0 k.2
   view_moves from inc (packet.Install i) =
-      let k = whose_installs (views_at_work c.views) i in
-      taken_moves (install_rule (views_at_work c.views) i) (promises_stand c.views (event.Install i) (own_parts c) views) k.0 k.1
+      let k = stay_installs (views_at_work c.views) i in
+      taken_moves (install_rule (views_at_work c.views) i) (promises_stand c.views (event.Install i) (own_parts c) views) k.0 k.2
   view_moves from inc (packet.Taken v) =
-      let k = whose_takes (views_at_work c.views) from v in
-      taken_moves (taken_rule (views_at_work c.views) from v) (promises_stand c.views (event.Taken from v) (own_parts c) views) k.0 k.1
+      let k = stay_takes (views_at_work c.views) from v in
+      taken_moves (taken_rule (views_at_work c.views) from v) (promises_stand c.views (event.Taken from v) (own_parts c) views) k.0 k.2
 
   tick_moves : Moves Q X c (views_taken f c (gathering_ticks (views_at_work c.views) (ring_ask c) (own_parts c)))
   unfolding view_stepped steps.view_rule
   tick_moves =
-      let k = whose_ticks (views_at_work c.views) (ring_ask c) (own_parts c) in
-      taken_moves (gathering_ticks (views_at_work c.views) (ring_ask c) (own_parts c)) (promises_stand c.views (event.Tick (ring_ask c)) (own_parts c) views) k.0 k.1
+      let k = stay_ticks (views_at_work c.views) (ring_ask c) (own_parts c) in
+      taken_moves (gathering_ticks (views_at_work c.views) (ring_ask c) (own_parts c)) (promises_stand c.views (event.Tick (ring_ask c)) (own_parts c) views) k.0 k.2
 
   -- ---- packets
 
@@ -195,26 +188,11 @@ module _ (Q : Core → Type 0) (X : Type 0) (x : X) (f : Answering) (carries : C
 
 -- INSTALL that is sent again applies nothing
 module _ (f : Answering) (c : Core) where
-  reminds_only : (install_again (views_at_work c.views)).install ≡ None
-  unfolding install_again install_again_of view_sent_all
-  reminds_only = by (is_coordinator c.views && not (is_frozen c.views))
-    where
-      w : ViewWork
-      w = views_at_work c.views
-
-      at : (o : Option Install) → (install_again_of w o).install ≡ None
-      at None = refl
-      at (Some i) = refl
-
-      by : (b : Bool) → (elim b as (λ _. ViewWork) [ true ↦ install_again_of w c.views.install | false ↦ w ]).install ≡ None
-      by true = at c.views.install
-      by false = refl
-
   remind_fair : (r : Core) → Fair r c → Fair r (views_taken f c (install_again (views_at_work c.views)))
   unfolding views_taken apply_install
   remind_fair r k =
       let w : ViewWork = install_again (views_at_work c.views) in
-      subst (λ o. Fair r (apply_install f (fold (λ t (y : ViewSend). sent t y.to (body.View y.packet)) (record c { views = w.views }) w.sends) o)) (sym reminds_only) (on_views_sent (Fair r) FairGiven (fair_rules r) w.sends (fair_views r c w.views k))
+      subst (λ o. Fair r (apply_install f (fold (λ t (y : ViewSend). sent t y.to (body.View y.packet)) (record c { views = w.views }) w.sends) o)) (sym (reminds_only f c)) (on_views_sent (Fair r) FairGiven (fair_rules r) w.sends (fair_views r c w.views k))
 
 -- ---- a whole step
 

@@ -11,18 +11,7 @@ use Rattle.run_laws.proofs.gapless.Fair.{Mild}
 -- no view is entered
 mild_none : (n : ℕ) (r : Happened) → Mild r → enters n r ≡ true → ⊥
 mild_none n (happened.In m v ms) a q = a
-mild_none n (happened.Up m j) a q = a
-mild_none n (happened.Down m) a q = a
-mild_none n (happened.Ring m k i ms y) a q = cc
-mild_none n (happened.Base m u g old len st) a q = a
-mild_none n (happened.Put m u g k y) a q = cc
-mild_none n (happened.Heard p u g k y ms value) a q = cc
-mild_none n (happened.Cast p proto phase vote value message) a q = cc
-mild_none n (happened.Asked p r g y) a q = cc
-mild_none n (happened.Told p r why) a q = cc
-mild_none n (happened.Noted m c u k told) a q = cc
-mild_none n (happened.Refused m c fault) a q = cc
-mild_none n (happened.Shown m line) a q = cc
+mild_none n _ a q = cc
 
 pub none_entered : (n : ℕ) (rs : List Happened) → ((r : Happened) → Has r rs → Mild r) → list_any (enters n) rs ≡ true → ⊥
 none_entered n rs mild k = let z = any_has (enters n) rs k in mild_none n z.0 (mild z.0 z.1) z.2

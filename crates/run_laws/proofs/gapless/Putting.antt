@@ -1,5 +1,5 @@
 -- An entry is put and handed on: a provider that takes part hears it, and stands then where its node's stay has it.
-use Rattle.std.proofs.Common.{◌≡◌, ◌⊎◌, ℕ, ◌+◌, List, [], ◌∷◌, ◌++◌, length, Option, Some, None, Bool, true, false, refl, sym, ap, ◌∙◌, subst, inl, inr, ⊎_elim}
+use Rattle.std.proofs.Common.{◌≡◌, ◌⊎◌, ℕ, ◌+◌, List, [], ◌∷◌, ◌++◌, length, Option, Some, None, Bool, true, false, refl, sym, ap, ◌∙◌, subst, inl, inr}
 use Rattle.std.specs.Prelude.{reverse, flat_map, IsTrue}
 use Rattle.std.proofs.lemmas.List.{reverse-append}
 use Rattle.rsct_packet.specs.declared.ids.ViewId.{ViewId}
@@ -8,7 +8,7 @@ use Rattle.rsct_packet.specs.Providers.{among}
 use Rattle.rsct_packet.specs.Search.{Has}
 use Rattle.rsct_packet.proofs.HasLaws.{append_has_right}
 use Rattle.proposal_core.specs.declared.entry.Entry.{Entry}
-use Rattle.proposal_core.specs.declared.entry.Entry.TheVariants.{Once, Begin, Phase, Approve, Reject, Late}
+use Rattle.proposal_core.specs.declared.entry.Entry.TheVariants.{Once, Begin}
 use Rattle.proposal_core.specs.declared.proposal.Proposal.{Proposal}
 use Rattle.proposal_core.specs.declared.group_state.GroupState.{GroupState}
 use Rattle.proposal_core.specs.Fold.{after, joins_of, present}
@@ -18,16 +18,13 @@ use Rattle.session_state.specs.declared.state.SessionState.{SessionState}
 use Rattle.session_state.specs.HandOn.{beginners, hearers, casts_of, handed_on}
 use Rattle.node_state.specs.declared.happened.Happened.{Happened}
 use Rattle.node_state.specs.declared.happened.Happened.TheVariants as happened
-use Rattle.node_state.specs.HandOn.{cast_record, cast_records}
-use Rattle.client_callbacks.specs.Ballots.{BallotView}
-use Rattle.rsct_packet.specs.declared.ids.ProtoId.{ProtoId}
+use Rattle.node_state.specs.HandOn.{cast_records}
 use Rattle.run_safety.specs.Past.{History, earlier, fold_from}
 use Rattle.run_safety.specs.Requests.{proposal_of, IsJoin}
 use Rattle.run_safety.specs.Stays.{Stay, stays, is_join_of, part, takes_part}
 use Rattle.node_state.proofs.NameOrder.{cases_text}
 use Rattle.row_laws.proofs.hearing.Attending.{heard_at, has_cast}
-use Rattle.row_laws.proofs.hearing.Handing.{among_is, new_hears, present_hears}
-use Rattle.provider_laws.proofs.attending.Fresh.{join_carried}
+use Rattle.row_laws.proofs.hearing.Handing.{among_is, new_hears, present_hears, some_is}
 use Rattle.provider_laws.proofs.attending.Parts.{pushed_stay}
 use Rattle.provider_laws.proofs.attending.Turns.{begins_by_join}
 use Rattle.provider_laws.proofs.attending.Staying.{InStay, join_begins, put_here, put_there, stay_pushed}
@@ -37,48 +34,33 @@ use Rattle.run_laws.proofs.gapless.Firsts.{taker_present, taker_came, part_came}
 use Rattle.run_laws.proofs.gapless.Forward.{begins_group, stood_takes, stood_begins, stood_waits}
 use Rattle.run_laws.proofs.gapless.Growing.{asked_back, Over, over_more, dissolving_more, Inert}
 use Rattle.run_laws.proofs.gapless.Standing.{handed_joins, Heard_at, Law, Inv, inv_records}
+use Rattle.provider_laws.proofs.single_casts.Adding.{Voiced, all_voiced}
+use Rattle.row_laws.proofs.failed_rows.Asked.{join_carried}
 
-pub join_named : (p : ProviderId) (e : Entry) (y : Proposal) → proposal_of e ≡ Some y → is_join_of p e ≡ true → among (joins_of y) p ≡ true
-join_named p (Once x) y q j = ap (λ z. among (joins_of z) p) (some_was q) ∙ j
+join_named : (p : ProviderId) (e : Entry) (y : Proposal) → proposal_of e ≡ Some y → is_join_of p e ≡ true → among (joins_of y) p ≡ true
+join_named p (Once x) y q j = ap (λ z. among (joins_of z) p) (sym (some_is q)) ∙ j
+join_named p (Begin x) y q j = ap (λ z. among (joins_of z) p) (sym (some_is q)) ∙ j
+join_named p _ y q j = absurd (cc)
+
+-- so whoever it lets join is named by what was asked
+pub asked_named : (rs : List Happened) (n : ℕ) (h : List ℕ) (p : ProviderId) (e : Entry) (once : BeginsOnce rs n h e p p.join) → is_join_of p e ≡ true → among (joins_of once.asked.0) p ≡ true
+asked_named rs n h p e once join = meets once.asked.2.2
   where
-    some_was : {a b : Proposal} → Some a ≡ Some b → b ≡ a
-    some_was e = cc
-join_named p (Begin x) y q j = ap (λ z. among (joins_of z) p) (some_was q) ∙ j
-  where
-    some_was : {a b : Proposal} → Some a ≡ Some b → b ≡ a
-    some_was e = cc
-join_named p (Phase c) y q j = absurd (cc)
-join_named p (Approve c) y q j = absurd (cc)
-join_named p (Reject c) y q j = absurd (cc)
-join_named p (Late proto phase ps) y q j = absurd (cc)
+    y : Proposal
+    y = once.asked.2.0
+
+    meets : ((y ≡ once.asked.0) ⊎ (IsJoin p once.asked.0 × IsJoin p y)) → among (joins_of once.asked.0) p ≡ true
+    meets (inl q) = ap (λ (z : Proposal). among (joins_of z) p) (sym q) ∙ join_named p e y once.asked.2.1 join
+    meets (inr q) = q.0
 
 -- what is heard and cast
+voiced_inert : (r : Happened) → Voiced r → Inert r
+voiced_inert (happened.Heard p v g i e ms value) a = tt
+voiced_inert (happened.Cast p proto phase vote value message) a = tt
+voiced_inert _ a = absurd a
+
 pub heards_inert : (v : ViewId) (h : List ℕ) (i : ℕ) (e : Entry) (st : GroupState) (cs : List Cast) (r : Happened) → Has r (flat_map (heard_at v h i e st) cs) → Inert r
-unfolding cast_records cast_record
-heards_inert v h i e st [] r k = absurd k
-heards_inert v h i e st (x ∷ cs) r (inl q) = subst Inert (sym q) tt
-heards_inert v h i e st (x ∷ cs) r (inr k) = by (has_or x.cast k) (heards_inert v h i e st cs r)
-  where
-    filled : (y : ProtoId × ℕ × BallotView) (b : Option Filled) → Has r (cast_record x.p y.0 y.1 b) → Inert r
-    filled y None j = absurd j
-    filled y (Some b) (inl q) = subst Inert (sym q) tt
-    filled y (Some b) (inr z) = absurd z
-
-    casts : (o : Option (ProtoId × ℕ × BallotView)) → Has r (cast_records x.p o) → Inert r
-    casts None j = absurd j
-    casts (Some y) j = filled y (y.2).filled j
-
-    split : (xs : List Happened) → Has r (xs ++ flat_map (heard_at v h i e st) cs) → Has r xs ⊎ Has r (flat_map (heard_at v h i e st) cs)
-    split [] j = inr j
-    split (y ∷ ys) (inl q) = inl (inl q)
-    split (y ∷ ys) (inr j) = ⊎_elim (λ (a : Has r ys). inl (inr a)) (λ (b : Has r (flat_map (heard_at v h i e st) cs)). inr b) (split ys j)
-
-    has_or : (o : Option (ProtoId × ℕ × BallotView)) → Has r (cast_records x.p o ++ flat_map (heard_at v h i e st) cs) → Inert r ⊎ Has r (flat_map (heard_at v h i e st) cs)
-    has_or o j = ⊎_elim (λ (a : Has r (cast_records x.p o)). inl (casts o a)) (λ (b : Has r (flat_map (heard_at v h i e st) cs)). inr b) (split (cast_records x.p o) j)
-
-    by : Inert r ⊎ Has r (flat_map (heard_at v h i e st) cs) → (Has r (flat_map (heard_at v h i e st) cs) → Inert r) → Inert r
-    by (inl a) rest = a
-    by (inr b) rest = rest b
+heards_inert v h i e st cs r k = voiced_inert r (all_voiced v h i e st cs r k)
 
 -- who casts is heard
 heard_has : (v : ViewId) (h : List ℕ) (i : ℕ) (e : Entry) (st : GroupState) (cs : List Cast) (c : Cast) → Has c cs → Has (happened.Heard c.p v h i e st.members st.value) (flat_map (heard_at v h i e st) cs)
@@ -161,14 +143,7 @@ module _ (n : ℕ) (before : History) (p : ProviderId) (node : p.node ≡ n) (fi
       once = at.once p p.join node (join_carried p e join)
 
       asks : AskedJoin h p rs
-      asks = record { proposal = once.asked.0; there = once.asked.1; joins = meets once.asked.2.2 }
-        where
-          y : Proposal
-          y = once.asked.2.0
-
-          meets : ((y ≡ once.asked.0) ⊎ (IsJoin p once.asked.0 × IsJoin p y)) → among (joins_of once.asked.0) p ≡ true
-          meets (inl q) = ap (λ (z : Proposal). among (joins_of z) p) (sym q) ∙ join_named p e y once.asked.2.1 join
-          meets (inr q) = q.0
+      asks = record { proposal = once.asked.0; there = once.asked.1; joins = asked_named rs n h p e once join }
 
       by : Stood t p h false ⊎ Over n h p rs → Stood t p h false ⊎ Dissolving p rs
       by (inl s) = inl s

@@ -40,18 +40,7 @@ module _ (event : Happening) (before : History) (quiet : GoodbyePutsNothing even
       by p own takes was false a = k p own takes was a
       by p own takes was true a =
           let b = and_parts (goodbye_of p.node (client_of p before) event.event) (not (list_any is_refused event.records)) a in absurd (said p event.event refl b.0 b.1)
-  one xs (happened.Up m j) now q k = tt
-  one xs (happened.Down m) now q k = tt
-  one xs (happened.Ring m z i ms o) now q k = tt
-  one xs (happened.In m u ms) now q k = tt
-  one xs (happened.Base m u g o len x) now q k = tt
-  one xs (happened.Heard p u g i x ms value) now q k = tt
-  one xs (happened.Cast p proto phase vote value message) now q k = tt
-  one xs (happened.Asked p r g x) now q k = tt
-  one xs (happened.Told p r why) now q k = tt
-  one xs (happened.Noted m d u i told) now q k = tt
-  one xs (happened.Refused m d fault) now q k = tt
-  one xs (happened.Shown m line) now q k = tt
+  one xs _ now q k = tt
 
   within : (xs now : List Happened) → event.records ≡ xs ++ now → Within (AllHearUnlessLeaving event) now before → Within (AllHear event) now before
   within xs [] q k = tt

@@ -1,6 +1,6 @@
 -- What is kept between events: whose join waits by the records, and was not let go, waits at its node; and who takes part does there.
-use Rattle.std.proofs.Common.{◌≡◌, ◌⊎◌, ℕ, List, [], ◌∷◌, ◌++◌, Option, Some, None, Bool, true, false, refl, sym, ap, ◌∙◌, subst, inl, inr, ⊎_elim}
-use Rattle.std.specs.Prelude.{◌&&◌, ◌||◌, not}
+use Rattle.std.proofs.Common.{◌≡◌, ◌⊎◌, ℕ, List, [], ◌∷◌, ◌++◌, Option, Some, None, true, false, refl, sym, ap, ◌∙◌, subst, inl, inr, ⊎_elim}
+use Rattle.std.specs.Prelude.{◌&&◌, not}
 use Rattle.std.specs.List.{list_any}
 use Rattle.rsct_packet.specs.declared.ids.ProviderId.{ProviderId}
 use Rattle.rsct_packet.specs.Providers.{among}
@@ -17,12 +17,12 @@ use Rattle.run_safety.specs.Stays.{Stay, stays, ends, client_of, goodbye_of, is_
 use Rattle.step_refinement.specs.Tied.{Scene}
 use Rattle.step_refinement.proofs.SessionLaws.{provider_self}
 use Rattle.provider_laws.proofs.attending.Staying.{InStay}
-use Rattle.provider_laws.proofs.leaving.Events.{any_one}
 use Rattle.run_laws.specs.gapless.Takers.{Taker, Stood, AskedJoin, Dissolving}
-use Rattle.run_laws.specs.gapless.Hears.{EachHears}
 use Rattle.run_laws.proofs.gapless.Firsts.{taker_present}
 use Rattle.run_laws.proofs.gapless.Growing.{Over, Unasked, asked_back, over_more}
 use Rattle.run_laws.proofs.gapless.Standing.{JoinWaits}
+use Rattle.run_safety.proofs.Tests.{has_any}
+use Rattle.std.proofs.lemmas.Bool.{or_parts}
 
 -- how the provider stands at its node, by the history
 pub record Known (p : ProviderId) (h : History) (s : Core) : Type 0 where
@@ -40,16 +40,11 @@ WaitsIf (Some s) = JoinWaits s.sessions
 pub record Rested (w : Scene) : Type 0 where
   pub known : (p : ProviderId) → was_let_go p w.before ≡ false → KnownIf p w.before (w.cores p.node)
   pub joins : (m : ℕ) → WaitsIf (w.cores m)
-  pub law : EachHears w.before
 
 -- ---- who was let go
 
-pub or_false : (a b : Bool) → (a || b) ≡ false → (a ≡ false) × (b ≡ false)
-or_false true b e = absurd (cc)
-or_false false b e = (refl, e)
-
 pub spared_before : (p : ProviderId) (e : Happening) (h : History) → was_let_go p (e ∷ h) ≡ false → (lets_go p e h ≡ false) × (was_let_go p h ≡ false)
-spared_before p e h k = or_false (lets_go p e h) (was_let_go p h) k
+spared_before p e h k = or_parts (lets_go p e h) (was_let_go p h) k
 
 -- who was told that its group is dissolved
 pub dissolving_gone : (p : ProviderId) (h : History) → Dissolving p (records_of h) → was_let_go p h ≡ false → ⊥
@@ -61,8 +56,8 @@ dissolving_gone p (x ∷ h) k e = by (has_append (happened.Told p k.number k.why
 
     now : Has (happened.Told p k.number k.why) x.records → lets_go p x h ≡ false → ⊥
     now i q =
-        let a = any_one (ends p (inc_now p.node (records_of h))) (happened.Told p k.number k.why) x.records i test in
-        let b = (or_false (list_any (ends p (inc_now p.node (records_of h))) x.records) (goodbye_of p.node (client_of p h) x.event && not (list_any is_refused x.records)) q).0 in
+        let a = has_any (ends p (inc_now p.node (records_of h))) x.records (happened.Told p k.number k.why) i test in
+        let b = (or_parts (list_any (ends p (inc_now p.node (records_of h))) x.records) (goodbye_of p.node (client_of p h) x.event && not (list_any is_refused x.records)) q).0 in
         let z : true ≡ false = sym a ∙ b in cc
 
     by : Has (happened.Told p k.number k.why) x.records ⊎ Has (happened.Told p k.number k.why) (records_of h) → (lets_go p x h ≡ false) × (was_let_go p h ≡ false) → (Dissolving p (records_of h) → was_let_go p h ≡ false → ⊥) → ⊥

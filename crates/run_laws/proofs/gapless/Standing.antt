@@ -21,12 +21,11 @@ use Rattle.node_state.specs.declared.happened.Happened.{Happened}
 use Rattle.node_state.specs.declared.happened.Happened.TheVariants as happened
 use Rattle.run_safety.specs.Past.{History, Within, earlier}
 use Rattle.run_safety.specs.Requests.{carried}
-use Rattle.run_safety.specs.Stays.{Stay, stays, is_join_of, part, takes_part}
+use Rattle.run_safety.specs.Stays.{stays, part, takes_part}
 use Rattle.run_safety.specs.Stays as stay
 use Rattle.step_refinement.proofs.SessionLaws.{handed_later, handed_gone}
 use Rattle.row_laws.proofs.hearing.Handing.{handed_kept}
 use Rattle.row_laws.proofs.hearing.Sessions.{fewer_told}
-use Rattle.provider_laws.proofs.attending.Fresh.{join_carried}
 use Rattle.provider_laws.proofs.attending.Turns.{begins_by_join}
 use Rattle.provider_laws.proofs.attending.Staying.{InStay}
 use Rattle.run_laws.specs.seen_runs.Seen.{WasTold}
@@ -34,6 +33,7 @@ use Rattle.provider_laws.proofs.leaving.Left.{told_kept}
 use Rattle.run_laws.specs.gapless.Takers.{Taker, Stood, AskedJoin, Dissolving}
 use Rattle.run_laws.proofs.gapless.Forward.{Drops, told_stands, asked_own}
 use Rattle.run_laws.proofs.gapless.Growing.{asked_back, Over, over_more, dissolving_more, Inert, inert_unasked, inert_stays}
+use Rattle.row_laws.proofs.failed_rows.Asked.{join_carried}
 
 -- a request for a join has the number of its provider, which does not take part
 abbrev pub JoinWaits : SessionState → Type 0
@@ -53,15 +53,8 @@ handed_joins t h before after e bs k q there j =
         absurd (⊎_elim (λ (u : (b.0).takes_part ≡ true). let x : true ≡ false = sym u ∙ none b.0 b.1 in cc) (λ (u : Has q.p (beginners t h e)). handed_gone t h before after e bs q there (subst (λ r. Has {A = ProviderId × ℕ} (q.p, r) (carried e)) (sym number) (join_carried q.p e (begins_by_join t h e q.p u)))) (b.4 z))
 
 dissolved_so : (y : Why) → is_dissolved y ≡ true → stay.is_dissolved y ≡ true
-dissolved_so (why.Collide a) e = absurd (cc)
-dissolved_so why.DuplicateInstance e = absurd (cc)
-dissolved_so (why.NoSource a) e = absurd (cc)
-dissolved_so why.BadAttributes e = absurd (cc)
-dissolved_so why.NotAMember e = absurd (cc)
-dissolved_so (why.ListFull a b) e = absurd (cc)
-dissolved_so (why.GroupFull a) e = absurd (cc)
-dissolved_so (why.GroupsFull a) e = absurd (cc)
 dissolved_so why.Dissolved e = refl
+dissolved_so _ e = absurd (cc)
 
 -- final: what the event records in all
 module _ (n : ℕ) (before : History) (p : ProviderId) (node : p.node ≡ n) (final : List Happened) where
@@ -82,19 +75,8 @@ module _ (n : ℕ) (before : History) (p : ProviderId) (node : p.node ≡ n) (fi
     pub law : Within Law now before
 
   inert_law : (now : List Happened) (r : Happened) → Inert r → Law now before r
-  inert_law now (happened.Up m j) a = tt
-  inert_law now (happened.Down m) a = tt
-  inert_law now (happened.Ring m k i ms o) a = tt
-  inert_law now (happened.In m v ms) a = tt
-  inert_law now (happened.Base m v g u len s) a = tt
   inert_law now (happened.Put m v g i e) a = absurd a
-  inert_law now (happened.Heard q v g i e ms value) a = tt
-  inert_law now (happened.Cast q proto phase vote value message) a = tt
-  inert_law now (happened.Asked q r g x) a = tt
-  inert_law now (happened.Told q r why) a = tt
-  inert_law now (happened.Noted m c v i told) a = tt
-  inert_law now (happened.Refused m c fault) a = tt
-  inert_law now (happened.Shown m line) a = tt
+  inert_law now _ a = tt
 
   module _ (v : ViewId) (lens : List ℕ → ℕ) (states : List ℕ → GroupState) where
     -- a record of which nothing depends

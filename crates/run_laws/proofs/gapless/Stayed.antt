@@ -19,7 +19,6 @@ pub record LastStay (xs : List Stay) (x : Stay) (older : List Stay) : Type 0 whe
 mild_one : (n : ℕ) (g : List ℕ) (r : Happened) (rs : List Happened) (x : Stay) (older : List Stay) → Mild r → stays n g rs ≡ x ∷ older → LastStay (stays n g (r ∷ rs)) x older
 mild_one n g (happened.Up m j) rs x older a q = absurd a
 mild_one n g (happened.Down m) rs x older a q = absurd a
-mild_one n g (happened.Ring m k i ms o) rs x older a q = record { now = x; is = q; base = refl }
 mild_one n g (happened.In m v ms) rs x older a q = absurd a
 mild_one n g (happened.Base m v h u len s) rs x older a q = absurd a
 mild_one n g (happened.Put m v h i e) rs x older a q = by (m == n && bytes_eq h g)
@@ -27,13 +26,7 @@ mild_one n g (happened.Put m v h i e) rs x older a q = by (m == n && bytes_eq h 
     by : (b : Bool) → LastStay (if b then with_entry e (stays n g rs) else stays n g rs) x older
     by true = record { now = record x { entries = x.entries ++ e ∷ [] }; is = ap (with_entry e) q; base = refl }
     by false = record { now = x; is = q; base = refl }
-mild_one n g (happened.Heard p v h i e ms value) rs x older a q = record { now = x; is = q; base = refl }
-mild_one n g (happened.Cast p proto phase vote value message) rs x older a q = record { now = x; is = q; base = refl }
-mild_one n g (happened.Asked p r h y) rs x older a q = record { now = x; is = q; base = refl }
-mild_one n g (happened.Told p r why) rs x older a q = record { now = x; is = q; base = refl }
-mild_one n g (happened.Noted m c v i told) rs x older a q = record { now = x; is = q; base = refl }
-mild_one n g (happened.Refused m c fault) rs x older a q = record { now = x; is = q; base = refl }
-mild_one n g (happened.Shown m line) rs x older a q = record { now = x; is = q; base = refl }
+mild_one n g _ rs x older a q = record { now = x; is = q; base = refl }
 
 pub mild_stays : (n : ℕ) (g : List ℕ) (rs now : List Happened) (before : History) (x : Stay) (older : List Stay) → ((r : Happened) → Has r rs → Mild r) → stays n g (earlier now before) ≡ x ∷ older → LastStay (stays n g (earlier (pushed rs now) before)) x older
 mild_stays n g [] now before x older all q = record { now = x; is = q; base = refl }

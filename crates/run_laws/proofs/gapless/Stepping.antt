@@ -1,12 +1,12 @@
 -- A step leaves whoever takes part by the records a provider that takes part, and lets it hear each put.
-use Rattle.std.proofs.Common.{◌≡◌, ◌≢◌, ◌⊎◌, ℕ, List, [], ◌∷◌, ◌++◌, Some, Bool, true, false, refl, sym, ap, ◌∙◌, subst, inl, inr, append_assoc, append-nil, arith}
-use Rattle.std.specs.Prelude.{◌&&◌, ◌||◌, not, reverse, IsTrue}
+use Rattle.std.proofs.Common.{◌≡◌, ◌≢◌, ◌⊎◌, ℕ, List, [], ◌∷◌, ◌++◌, Some, Bool, true, false, refl, sym, ap, ◌∙◌, subst, inl, inr, append-nil}
+use Rattle.std.specs.Prelude.{◌&&◌, not, reverse}
 use Rattle.std.specs.List.{list_any}
-use Rattle.std.proofs.lemmas.Bool.{eq-eqb}
+use Rattle.std.proofs.lemmas.Bool.{eq-eqb, or_parts}
 use Rattle.rsct_packet.specs.declared.ids.ProviderId.{ProviderId}
 use Rattle.rsct_packet.specs.declared.ids.ViewId.{ViewId}
 use Rattle.rsct_packet.specs.Search.{Has}
-use Rattle.rsct_packet.proofs.HasLaws.{has_append, append_has_right, find_has, has_reverse, reverse_has}
+use Rattle.rsct_packet.proofs.HasLaws.{has_append, find_has, has_reverse}
 use Rattle.proposal_core.specs.declared.proposal.Proposal.{Proposal}
 use Rattle.proposal_core.specs.declared.group_state.GroupState.{GroupState}
 use Rattle.session_state.specs.declared.state.Provider.{Provider}
@@ -27,7 +27,7 @@ use Rattle.view_state.specs.declared.views.Views.{Views}
 use Rattle.world_model.specs.declared.event.Event.{Event}
 use Rattle.world_model.specs.declared.event.Event.TheVariants as event
 use Rattle.run_safety.specs.Past.{History, Within, earlier, records_of, inc_now}
-use Rattle.run_safety.specs.Stays.{Stay, stays, part, takes_part, client_of, is_named, goodbye_of, is_refused, ends, lets_go, was_let_go}
+use Rattle.run_safety.specs.Stays.{Stay, stays, client_of, is_named, goodbye_of, is_refused, ends, was_let_go}
 use Rattle.step_refinement.specs.Tied.{Scene, NodeIsIf, Rests, InTurn}
 use Rattle.step_refinement.specs.Rules.{over, ended, Arises}
 use Rattle.step_refinement.specs.Runs.{Reached}
@@ -37,13 +37,11 @@ use Rattle.step_refinement.proofs.Calls.{call_is_tied}
 use Rattle.step_refinement.proofs.Changed.{each_set}
 use Rattle.step_refinement.proofs.RunLaw.{reached_rests}
 use Rattle.step_refinement.proofs.SessionLaws.{provider_same}
-use Rattle.step_refinement.proofs.Turns.{has_turned}
 use Rattle.row_laws.proofs.hearing.Listening.{steps_change}
-use Rattle.provider_laws.proofs.attending.Law.{begin_strict, step_fine}
-use Rattle.row_laws.proofs.hearing.Incarnations.{incs_of}
+use Rattle.provider_laws.proofs.attending.Law.{step_fine}
 use Rattle.provider_laws.proofs.attending.Staying.{InStay}
 use Rattle.provider_laws.proofs.attending.Ordering.{Ordered, ordered_does}
-use Rattle.provider_laws.proofs.attending.OrderLaw.{node_placed}
+use Rattle.provider_laws.proofs.attending.OrderLaw.{node_placed, begin_ordered}
 use Rattle.provider_laws.proofs.attending.Fresh.{fresh_now}
 use Rattle.provider_laws.proofs.attending.Living.{lively_now}
 use Rattle.run_laws.specs.seen_runs.Seen.{Seen}
@@ -55,29 +53,17 @@ use Rattle.provider_laws.specs.leaving.Scenes.{IsCall}
 use Rattle.provider_laws.proofs.leaving.Events.{any_none}
 use Rattle.provider_laws.proofs.leaving.Keeping.{KeptIf, Clean}
 use Rattle.run_laws.specs.gapless.Takers.{Taker, Stood, AskedJoin, Dissolving}
-use Rattle.run_laws.specs.gapless.Hears.{AllHearUnlessLetGo}
 use Rattle.run_laws.proofs.gapless.Growing.{Over}
-use Rattle.run_laws.proofs.gapless.Standing.{JoinWaits, Heard_at, Law}
+use Rattle.run_laws.proofs.gapless.Standing.{JoinWaits, Law}
 use Rattle.run_laws.proofs.gapless.Keeping.{Standing, Inv_at, standing_keeps}
 use Rattle.run_laws.proofs.gapless.TakerWalk.{on_stepped}
 use Rattle.run_laws.proofs.gapless.Calls.{CallRecord, Leaves, Made, call_made}
 use Rattle.run_laws.proofs.gapless.Adding.{Walked, Added, added_keeps}
-use Rattle.run_laws.proofs.gapless.Resting.{Known, KnownIf, WaitsIf, Rested, or_false, spared_before, dissolving_gone, over_all, known_on}
+use Rattle.run_laws.proofs.gapless.Resting.{Known, KnownIf, WaitsIf, Rested, spared_before, dissolving_gone, over_all, known_on}
 
 walked_taken : (n : ℕ) (r : Happened) → Walked n r → is_refused r ≡ false
-walked_taken n (happened.Up m j) a = absurd a
-walked_taken n (happened.Down m) a = absurd a
-walked_taken n (happened.Ring m k i ms o) a = refl
-walked_taken n (happened.In m v ms) a = refl
-walked_taken n (happened.Base m v g u len s) a = refl
-walked_taken n (happened.Put m v g i e) a = refl
-walked_taken n (happened.Heard p v g i e ms value) a = refl
-walked_taken n (happened.Cast p proto phase vote value message) a = refl
-walked_taken n (happened.Asked p r g x) a = absurd a
-walked_taken n (happened.Told p r why) a = refl
-walked_taken n (happened.Noted m c v i told) a = refl
 walked_taken n (happened.Refused m c fault) a = absurd a
-walked_taken n (happened.Shown m line) a = refl
+walked_taken n _ a = refl
 
 -- ---- what a call records leaves the stays, and puts nothing
 
@@ -85,33 +71,15 @@ call_stays : (u : SessionState) (n : ℕ) (g : List ℕ) (rs xs : List Happened)
 call_stays u n g [] xs all = refl
 call_stays u n g (happened.Up m j ∷ rs) xs all = absurd (all (happened.Up m j) (inl refl))
 call_stays u n g (happened.Down m ∷ rs) xs all = absurd (all (happened.Down m) (inl refl))
-call_stays u n g (happened.Ring m k i ms o ∷ rs) xs all = absurd (all (happened.Ring m k i ms o) (inl refl))
 call_stays u n g (happened.In m v ms ∷ rs) xs all = absurd (all (happened.In m v ms) (inl refl))
 call_stays u n g (happened.Base m v h w len s ∷ rs) xs all = absurd (all (happened.Base m v h w len s) (inl refl))
 call_stays u n g (happened.Put m v h i e ∷ rs) xs all = absurd (all (happened.Put m v h i e) (inl refl))
-call_stays u n g (happened.Heard p v h i e ms value ∷ rs) xs all = absurd (all (happened.Heard p v h i e ms value) (inl refl))
-call_stays u n g (happened.Cast p proto phase vote value message ∷ rs) xs all = call_stays u n g rs xs (λ r i. all r (inr i))
-call_stays u n g (happened.Asked p r h x ∷ rs) xs all = call_stays u n g rs xs (λ r i. all r (inr i))
-call_stays u n g (happened.Told p r why ∷ rs) xs all = absurd (all (happened.Told p r why) (inl refl))
-call_stays u n g (happened.Noted m c v i told ∷ rs) xs all = absurd (all (happened.Noted m c v i told) (inl refl))
-call_stays u n g (happened.Refused m c fault ∷ rs) xs all = call_stays u n g rs xs (λ r i. all r (inr i))
-call_stays u n g (happened.Shown m line ∷ rs) xs all = absurd (all (happened.Shown m line) (inl refl))
+call_stays u n g (r ∷ rs) xs all = call_stays u n g rs xs (λ q i. all q (inr i))
 
 module _ (n : ℕ) (before : History) (p : ProviderId) (node : p.node ≡ n) (final : List Happened) (u : SessionState) where
   call_law : (now : List Happened) (r : Happened) → CallRecord u r → Law n before p node final now before r
-  call_law now (happened.Up m j) a = tt
-  call_law now (happened.Down m) a = tt
-  call_law now (happened.Ring m k i ms o) a = tt
-  call_law now (happened.In m v ms) a = tt
-  call_law now (happened.Base m v g w len s) a = tt
   call_law now (happened.Put m v g i e) a = absurd a
-  call_law now (happened.Heard q v g i e ms value) a = tt
-  call_law now (happened.Cast q proto phase vote value message) a = tt
-  call_law now (happened.Asked q r g x) a = tt
-  call_law now (happened.Told q r why) a = tt
-  call_law now (happened.Noted m c v i told) a = tt
-  call_law now (happened.Refused m c fault) a = tt
-  call_law now (happened.Shown m line) a = tt
+  call_law now _ a = tt
 
   call_within : (rs : List Happened) → ((r : Happened) → Has r rs → CallRecord u r) → Within (Law n before p node final) rs before
   call_within [] all = tt
@@ -202,17 +170,8 @@ module _ (c : Config) (w : Scene) (n : ℕ) (f : Answering) (s : Core) (e : Node
       by (inr z) = absurd z
 
   ordered : Ordered n (w.incs n) w.before s.views.view s.sessions.last_request t
-  unfolding len_of state_of list_of row_of
   ordered =
-      ordered_does n (w.incs n) w.before s.views.view s.sessions.last_request (at_work s) t (steps_change c w reached n s up f e) t.records (λ r h. h) (step_fine c w n s reached up f e v arises) (lively_now c w n f s e v reached up arises) (fresh_now c w reached n s up) (record {
-        strict = begin_strict c w n s reached up (incs_of c w reached n);
-        place = (node_placed c w reached n s up).0;
-        law = tt;
-        others = λ m g ne. refl;
-        counts = λ p u g ne. refl;
-        begins = λ all. refl;
-        numbers = λ q. omega arith;
-      })
+      ordered_does n (w.incs n) w.before s.views.view s.sessions.last_request (at_work s) t (steps_change c w reached n s up f e) t.records (λ r h. h) (step_fine c w n s reached up f e v arises) (lively_now c w n f s e v reached up arises) (fresh_now c w reached n s up) (begin_ordered c w reached n s up (node_placed c w reached n s up).0)
 
   -- ---- a provider of this node
 
@@ -329,7 +288,7 @@ module _ (c : Config) (w : Scene) (n : ℕ) (f : Answering) (s : Core) (e : Node
   -- whom the event does not let go
   stays_of : (p : ProviderId) → was_let_go p after ≡ false → Stays p
   stays_of p spared =
-      (or_false (list_any (ends p (inc_now p.node (records_of w.before))) (reverse t.records)) (goodbye_of p.node (client_of p w.before) (Some v) && not (list_any is_refused (reverse t.records))) (spared_before p (over v t) w.before spared).0).1
+      (or_parts (list_any (ends p (inc_now p.node (records_of w.before))) (reverse t.records)) (goodbye_of p.node (client_of p w.before) (Some v) && not (list_any is_refused (reverse t.records))) (spared_before p (over v t) w.before spared).0).1
 
   module _ (p : ProviderId) (node : p.node ≡ n) (spared : was_let_go p after ≡ false) where
     last : Inv_at n w.before p node t.records t
@@ -352,56 +311,9 @@ module _ (c : Config) (w : Scene) (n : ℕ) (f : Answering) (s : Core) (e : Node
       back g (inl a) = absurd (ne (asks_here p p.join g a.proposal (has_reverse _ t.records a.there)))
       back g (inr a) = a
 
-  -- ---- who hears
-
-  suffix : (p : ProviderId) (xs now : List Happened) → reverse t.records ≡ xs ++ now → Dissolving p (earlier now w.before) → Dissolving p (records_of after)
-  suffix p xs now q d =
-      record { number = d.number; why = d.why; told = subst (Has _) (sym (ap (λ z. z ++ records_of w.before) q ∙ append_assoc xs now (records_of w.before))) (append_has_right _ xs (earlier now w.before) d.told); is = d.is }
-
-  abbrev Laws : List Happened → Type 0
-  Laws now = (p : ProviderId) (node : p.node ≡ n) → was_let_go p after ≡ false → Within (Law n w.before p node t.records) now w.before
-
-  one_hears : (xs : List Happened) (r : Happened) (now : List Happened) → reverse t.records ≡ xs ++ r ∷ now → Laws (r ∷ now) → AllHearUnlessLetGo (over v t) now w.before r
-  one_hears xs (happened.Put m u g i x) now q laws = λ p own takes was lets. hears p own takes was lets (by (added.all r (has_reverse r t.records (subst (Has r) (sym q) (append_has_right r xs (r ∷ now) (inl refl))))))
-    where
-      r : Happened
-      r = happened.Put m u g i x
-
-      by : Has r root.records ⊎ Walked n r → m ≡ n
-      by (inl j) = absurd ((root_said e r j).1)
-      by (inr z) = z
-
-      hears : (p : ProviderId) → p.node ≡ m → IsTrue (takes_part i (part p (stays m g (r ∷ earlier now w.before)))) → was_let_go p w.before ≡ false → lets_go p (over v t) w.before ≡ false → m ≡ n → (ms : List ProviderId) × (value : List ℕ) × Has (happened.Heard p u g i x ms value) (reverse t.records)
-      hears p own takes was lets at = said ((laws p (own ∙ at) spared).0 own takes)
-        where
-          spared : was_let_go p after ≡ false
-          spared = (λ j. lets j || was j)
-
-          said : Dissolving p (earlier now w.before) ⊎ Heard_at n w.before p (own ∙ at) t.records u g i x → (ms : List ProviderId) × (value : List ℕ) × Has (happened.Heard p u g i x ms value) (reverse t.records)
-          said (inl d) = absurd (dissolving_gone p after (suffix p (xs ++ r ∷ []) now (q ∙ sym (append_assoc xs (r ∷ []) now)) d) spared)
-          said (inr h) = (h.0, h.1, reverse_has _ t.records h.2)
-  one_hears xs (happened.Up m j) now q laws = tt
-  one_hears xs (happened.Down m) now q laws = tt
-  one_hears xs (happened.Ring m z i ms o) now q laws = tt
-  one_hears xs (happened.In m u ms) now q laws = tt
-  one_hears xs (happened.Base m u g o len x) now q laws = tt
-  one_hears xs (happened.Heard p u g i x ms value) now q laws = tt
-  one_hears xs (happened.Cast p proto phase vote value message) now q laws = tt
-  one_hears xs (happened.Asked p r g x) now q laws = tt
-  one_hears xs (happened.Told p r why) now q laws = tt
-  one_hears xs (happened.Noted m d u i told) now q laws = tt
-  one_hears xs (happened.Refused m d fault) now q laws = tt
-  one_hears xs (happened.Shown m line) now q laws = tt
-
-  all_hear : (xs now : List Happened) → reverse t.records ≡ xs ++ now → Laws now → Within (AllHearUnlessLetGo (over v t)) now w.before
-  all_hear xs [] q laws = tt
-  all_hear xs (r ∷ now) q laws =
-      (one_hears xs r now q laws, all_hear (xs ++ r ∷ []) now (q ∙ sym (append_assoc xs (r ∷ []) now)) (λ p node spared. (laws p node spared).1))
-
   pub step_rested : Rested (ended w n v t)
   step_rested =
       record {
         known = λ p spared. each_set (λ m o. p.node ≡ m → KnownIf p after o) w.cores n (Some t) (λ q. known_own p q spared) (λ m ne q. subst (λ z. KnownIf p after (w.cores z)) q (away p (λ z. ne (sym q ∙ z)) spared)) p.node refl;
         joins = each_set (λ m o. WaitsIf o) w.cores n (Some t) added.joins (λ m ne. k.joins m);
-        law = (all_hear [] (reverse t.records) refl (λ p node spared. (last p node spared).law), k.law);
       }

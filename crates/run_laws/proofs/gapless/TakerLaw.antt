@@ -1,7 +1,7 @@
--- In each scene whose history names calls, and calls alone, as calls: whoever takes part hears each put.
+-- In each scene whose history names calls, and calls alone, as calls: whoever takes part by the records is a provider that does.
 use Rattle.std.proofs.Common.{◌≡◌, ◌⊎◌, ℕ, ◌+◌, List, [], ◌∷◌, ◌++◌, Option, Some, None, true, false, refl, sym, ap, ◌∙◌, subst, inl, inr}
 use Rattle.std.specs.Prelude.{◌==◌, ◌&&◌, ◌||◌, not}
-use Rattle.std.proofs.lemmas.Bool.{eq-eqb}
+use Rattle.std.proofs.lemmas.Bool.{eq-eqb, or_parts}
 use Rattle.rsct_packet.specs.declared.ids.ProviderId.{ProviderId}
 use Rattle.rsct_packet.specs.Search.{Has}
 use Rattle.rsct_packet.proofs.HasLaws.{find_has}
@@ -17,7 +17,7 @@ use Rattle.node_state.specs.Applying.{level_set}
 use Rattle.node_state.specs.Step.{started, stepped}
 use Rattle.world_model.specs.declared.event.Event.{Event}
 use Rattle.world_model.specs.Run.{Happening}
-use Rattle.run_safety.specs.Past.{History, records_of, inc_now}
+use Rattle.run_safety.specs.Past.{records_of, inc_now}
 use Rattle.run_safety.specs.Stays.{stays, client_of, goodbye_of, lets_go, was_let_go}
 use Rattle.step_refinement.specs.Tied.{Scene, NodeIsIf}
 use Rattle.step_refinement.specs.Rules.{at_node, over, ended}
@@ -25,7 +25,7 @@ use Rattle.step_refinement.specs.Runs.{Reached}
 use Rattle.step_refinement.proofs.Changed.{set_here, set_there}
 use Rattle.step_refinement.proofs.RunLaw.{reached_rests}
 use Rattle.step_refinement.proofs.SessionLaws.{provider_same}
-use Rattle.run_induction.proofs.Idle.{Idle, AllElsewhere, within_idle, stays_elsewhere, Came}
+use Rattle.run_induction.proofs.Idle.{Idle, AllElsewhere, stays_elsewhere, Came}
 use Rattle.run_induction.proofs.Ran.{Ran, Outer}
 use Rattle.run_induction.proofs.Laws.{Claim, Holds, Done, Law, ran_holds}
 use Rattle.row_laws.proofs.hearing.Incarnations.{incs_of}
@@ -33,10 +33,9 @@ use Rattle.provider_laws.proofs.attending.Staying.{InStay}
 use Rattle.provider_laws.proofs.attending.OrderLaw.{came_placed}
 use Rattle.provider_laws.proofs.leaving.Law.{recounting, recounted_ran, reached, clean}
 use Rattle.run_laws.specs.gapless.Takers.{Taker, Stood, AskedJoin, TakersTakePart}
-use Rattle.run_laws.specs.gapless.Hears.{AllHearUnlessLetGo, EachHears, TakersHear}
 use Rattle.run_laws.proofs.gapless.Growing.{Unasked, asked_back, Over, over_more}
 use Rattle.run_laws.proofs.gapless.Standing.{JoinWaits}
-use Rattle.run_laws.proofs.gapless.Resting.{Known, KnownIf, WaitsIf, Rested, or_false, spared_before, nobody_takes, asked_all, over_all, known_on}
+use Rattle.run_laws.proofs.gapless.Resting.{Known, KnownIf, WaitsIf, Rested, spared_before, nobody_takes, asked_all, over_all, known_on}
 use Rattle.run_laws.proofs.gapless.Stepping.{step_rested}
 
 -- ---- records of no step
@@ -45,17 +44,13 @@ idle_unasked : (r : Happened) → Idle r → Unasked r
 idle_unasked (happened.Asked p r g x) a = a
 idle_unasked _ a = tt
 
-idle_hears : (x : Happening) (r : Happened) (now : List Happened) (h : History) → Idle r → AllHearUnlessLetGo x now h r
-idle_hears x (happened.Put n v g i e) now h a = absurd a
-idle_hears x _ now h a = tt
-
 -- ---- what is said of a number
 
 abbrev standing : Claim
-standing = record { sent = λ h x. Unit {0}; node = λ m inc ps h o. ((p : ProviderId) → p.node ≡ m → was_let_go p h ≡ false → KnownIf p h o) × WaitsIf o; lines = EachHears }
+standing = record { sent = λ h x. Unit {0}; node = λ m inc ps h o. ((p : ProviderId) → p.node ≡ m → was_let_go p h ≡ false → KnownIf p h o) × WaitsIf o; lines = λ h. Unit {0} }
 
 rested_of : (w : Scene) → Holds standing w → Rested w
-rested_of w h = record { known = λ p spared. (h.nodes p.node).0 p refl spared; joins = λ m. (h.nodes m).1; law = h.lines }
+rested_of w h = record { known = λ p spared. (h.nodes p.node).0 p refl spared; joins = λ m. (h.nodes m).1 }
 
 done_of : (w : Scene) (n : ℕ) (v : Event) (t : Core) → Rested (ended w n v t) → Done standing w n v t
 done_of w n v t k =
@@ -63,7 +58,7 @@ done_of w n v t k =
       sends = λ x i. tt;
       node = (λ p at spared. there n (Some t) (set_here w.cores n (Some t)) p at spared, subst WaitsIf (set_here w.cores n (Some t)) (k.joins n));
       others = λ m ne a. (λ p at spared. there m (w.cores m) (set_there w.cores n (Some t) m ne) p at spared, subst WaitsIf (set_there w.cores n (Some t) m ne) (k.joins m));
-      lines = k.law;
+      lines = tt;
     }
   where
     there : (m : ℕ) (o : Option Core) → at_node w.cores n (Some t) m ≡ o → (p : ProviderId) → p.node ≡ m → was_let_go p (over v t ∷ w.before) ≡ false → KnownIf p (over v t ∷ w.before) o
@@ -128,7 +123,7 @@ stop_known c w o m s reach up k p at spared g a = by (was.waits g (asked_back g 
     was = k p at before.1
 
     gone : Stood s.sessions p g false → ⊥
-    gone x = absurd (let u : true ≡ false = sym test ∙ (or_false (m == p.node && inc_now p.node (records_of w.before) == p.inc) false (or_false ((m == p.node && inc_now p.node (records_of w.before) == p.inc) || false) (goodbye_of p.node (client_of p w.before) o && not false) before.0).0).0 in cc)
+    gone x = absurd (let u : true ≡ false = sym test ∙ (or_parts (m == p.node && inc_now p.node (records_of w.before) == p.inc) false (or_parts ((m == p.node && inc_now p.node (records_of w.before) == p.inc) || false) (goodbye_of p.node (client_of p w.before) o && not false) before.0).0).0 in cc)
       where
         there : Has x.provider s.sessions.providers × (x.provider.p ≡ p)
         there = found_in s p x.provider x.found
@@ -154,7 +149,7 @@ standing_law c =
       stays = λ w e t o m all k. (λ p at spared. stay_known c w e t o m all k.0 p at spared, k.1);
       comes = λ w e t o m came down k. (λ p at spared. come_known c w e t o m came k.0 p at spared, started_waits c m (w.incs m + 1));
       goes = λ w e t o m s down up k. (λ p at spared. subst (λ rs. was_let_go p (record { event = e.event; records = rs } ∷ w.before) ≡ false → (g : List ℕ) → AskedJoin g p (rs ++ records_of w.before) → Over p.node g p (rs ++ records_of w.before)) (sym down) (λ spared. stop_known c w e.event m s (reached c w o.from) up k.0 p at spared) spared, tt);
-      lines_on = λ w e t o k. (within_idle (AllHearUnlessLetGo e) (idle_hears e) e.records w.before o.idle, k);
+      lines_on = λ w e t o k. tt;
       steps = λ w n f s e v r next up arises told h. done_of w n v (stepped f s e) (step_rested c w n f s e v (reached c w r) up arises told.0 told.1 (clean c w r) (rested_of w h));
     }
 
@@ -165,6 +160,3 @@ pub takers_take_part : TakersTakePart
 takers_take_part c w k n s up p node spared g a =
     let z : Known p w.before s = subst (KnownIf p w.before) (ap w.cores node ∙ up) ((rested c w (recounted_ran c w k)).known p spared) in
     z.takes g (subst (λ m. Taker p (stays m g (records_of w.before))) (sym node) a)
-
-pub takers_hear : TakersHear
-takers_hear c w k = (rested c w (recounted_ran c w k)).law

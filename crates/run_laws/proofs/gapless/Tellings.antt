@@ -1,13 +1,11 @@
 -- As a view is entered, just those are told DISSOLVED who took part and do not live in the base.
 use Rattle.std.proofs.Common.{◌≡◌, ◌⊎◌, ℕ, List, [], ◌∷◌, ◌++◌, Option, Some, None, Bool, true, false, refl, sym, ap, ◌∙◌, subst, inl, inr, ⊎_elim}
-use Rattle.std.specs.Prelude.{not, ◌&&◌, fold}
+use Rattle.std.specs.Prelude.{not, ◌&&◌}
 use Rattle.std.specs.Str.{bytes_eq}
 use Rattle.rsct_packet.specs.declared.ids.ProviderId.{ProviderId}
 use Rattle.rsct_packet.specs.declared.ids.ViewId.{ViewId}
 use Rattle.rsct_packet.specs.Search.{Has}
 use Rattle.rsct_packet.proofs.HasLaws.{has_append, append_has_left, append_has_right}
-use Rattle.proposal_core.specs.Fold.{present}
-use Rattle.proposal_core.specs.Lists.{state_in}
 use Rattle.client_callbacks.specs.declared.told.Why.TheVariants.{Dissolved}
 use Rattle.session_state.specs.declared.state.Provider.{Provider}
 use Rattle.session_state.specs.declared.state.SessionState.{SessionState}
@@ -20,22 +18,11 @@ use Rattle.node_state.specs.declared.happened.Happened.{Happened}
 use Rattle.node_state.specs.declared.happened.Happened.TheVariants as happened
 use Rattle.node_state.specs.declared.state.Core.{Core}
 use Rattle.node_state.specs.State.{recorded, with_sessions}
-use Rattle.node_state.specs.Applying.{is_in_base, number_of, dissolved, dissolved_if, group_dissolved, sides_dissolved}
+use Rattle.node_state.specs.Applying.{is_in_base, number_of, dissolved, dissolved_if, sides_dissolved}
 use Rattle.node_state.proofs.NameOrder.{text_same}
 use Rattle.row_laws.proofs.hearing.Sessions.{found_is, fewer_told}
 use Rattle.row_laws.proofs.failed_rows.Living.{IsLive, told_lives}
-
--- ---- what each turn keeps, all keep
-
-module _ (P : Core → Type 0) (old : ViewId) (bs : List Base) (one : (c : Core) (g : List ℕ) (p : ProviderId) → P c → P (dissolved_if c g old (base_named bs g) (provider_of c.sessions p))) where
-  fold_keep : {A : Type 0} (f : Core → A → Core) → ((c : Core) (x : A) → P c → P (f c x)) → (xs : List A) (c : Core) → P c → P (fold f c xs)
-  fold_keep f each [] c k = k
-  fold_keep f each (x ∷ xs) c k = fold_keep f each xs (f c x) (each c x k)
-
-  pub sides_keep : (rows : List GroupRow) (c : Core) → P c → P (sides_dissolved c rows old bs)
-  unfolding sides_dissolved group_dissolved
-  sides_keep rows c k =
-      fold_keep (group_dissolved old bs) (λ t row j. fold_keep (λ (u : Core) p. dissolved_if u row.name old (base_named bs row.name) (provider_of u.sessions p)) (λ u p i. one u row.name p i) (present (state_in row.list)) t j) rows c k
+use Rattle.provider_laws.proofs.attending.Sides.{each_keep}
 
 -- ---- who is told
 
@@ -106,7 +93,7 @@ told_one root old bs c g q k = by (provider_of c.sessions q) refl
 module _ (root : Core) (old : ViewId) (bs : List Base) (rows : List GroupRow) where
   all_told : Told root old bs (sides_dissolved root rows old bs)
   all_told =
-      sides_keep (Told root old bs) old bs (told_one root old bs) rows root (record { back = λ p x f. f; told = λ p r h. inl h; sends = refl })
+      each_keep (Told root old bs) old bs (told_one root old bs) rows root (record { back = λ p x f. f; told = λ p r h. inl h; sends = refl })
 
   pub told_leaves : (p : ProviderId) (r : ℕ) → Has (happened.Told p r Dissolved) (sides_dissolved root rows old bs).records → Has (happened.Told p r Dissolved) root.records ⊎ Leaves root.sessions old bs p
   told_leaves p r h = all_told.told p r h
@@ -150,4 +137,4 @@ stays_one p old bs c g q k = by (provider_of c.sessions q)
             turn (inr a) = inr (r, here a.0)
 
 pub stays_or_told : (p : ProviderId) (old : ViewId) (bs : List Base) (rows : List GroupRow) (c : Core) → IsLive c.sessions p → Stayed p (sides_dissolved c rows old bs)
-stays_or_told p old bs rows c l = sides_keep (Stayed p) old bs (stays_one p old bs) rows c (inl l)
+stays_or_told p old bs rows c l = each_keep (Stayed p) old bs (stays_one p old bs) rows c (inl l)

@@ -11,9 +11,8 @@ use Rattle.rsct_packet.specs.Search.{Has}
 use Rattle.rsct_packet.proofs.HasLaws.{has_append, append_has_right, has_reverse}
 use Rattle.rsct_packet.proofs.SearchLaws.{place_has}
 use Rattle.proposal_core.specs.declared.entry.Entry.{Entry}
-use Rattle.proposal_core.specs.declared.proposal.Proposal.{Proposal}
 use Rattle.proposal_core.specs.declared.group_state.GroupState.{GroupState}
-use Rattle.proposal_core.specs.Fold.{joins_of, present}
+use Rattle.proposal_core.specs.Fold.{present}
 use Rattle.client_callbacks.specs.declared.told.Why.{Why}
 use Rattle.client_callbacks.specs.declared.told.Why.TheVariants as why
 use Rattle.session_state.specs.declared.state.Provider.{Provider}
@@ -30,7 +29,6 @@ use Rattle.node_state.specs.Applying.{level_set, view_entered, is_in_base}
 use Rattle.node_state.specs.Step.{NodeEvent, Ticks, Asks, Given, Calls, Garbage, at_work, stepped}
 use Rattle.world_model.specs.declared.event.Event.{Event}
 use Rattle.run_safety.specs.Past.{earlier, records_of}
-use Rattle.run_safety.specs.Requests.{IsJoin}
 use Rattle.run_safety.specs.Stays.{Stay, stays, is_join_of, is_dissolved, passes, first_in, last_in, part, from_first, up_to_last, takes_part, was_let_go}
 use Rattle.run_safety.specs.ViewOrder.{Lt}
 use Rattle.step_refinement.specs.Tied.{Scene}
@@ -38,8 +36,7 @@ use Rattle.step_refinement.specs.Rules.{Arises}
 use Rattle.step_refinement.specs.Runs.{Reached}
 use Rattle.row_laws.specs.hearing.Changes.{Aside, entering, Does}
 use Rattle.row_laws.proofs.hearing.Added.{Adds, enters_add}
-use Rattle.provider_laws.proofs.attending.Entering.{base_is, new_stay, entered_stays}
-use Rattle.provider_laws.proofs.attending.Fresh.{join_carried}
+use Rattle.provider_laws.proofs.attending.Entering.{entered_stays}
 use Rattle.run_laws.specs.seen_runs.Seen.{Seen, BeginsOnce, WasTold}
 use Rattle.row_laws.specs.failed_rows.Scenes.{Names}
 use Rattle.row_laws.proofs.failed_rows.Origin.{root_of}
@@ -47,10 +44,8 @@ use Rattle.provider_laws.specs.leaving.Scenes.{IsCall}
 use Rattle.provider_laws.proofs.leaving.Keeping.{Clean}
 use Rattle.run_laws.specs.gapless.Takers.{Taker, Stood, AskedJoin, Dissolving}
 use Rattle.run_laws.proofs.gapless.Firsts.{taker_passed}
-use Rattle.run_laws.proofs.gapless.Forward.{some_is}
 use Rattle.run_laws.proofs.gapless.Growing.{Over}
-use Rattle.run_laws.proofs.gapless.Putting.{join_named}
-use Rattle.run_laws.proofs.gapless.Keeping.{Inv_at, seen_back}
+use Rattle.run_laws.proofs.gapless.Keeping.{Inv_at}
 use Rattle.run_laws.proofs.gapless.Adding.{Walked}
 use Rattle.run_laws.proofs.gapless.Resting.{Rested, dissolving_gone}
 use Rattle.run_laws.proofs.gapless.Stepping as stepping
@@ -61,17 +56,15 @@ use Rattle.run_laws.proofs.gapless.Tellings.{Leaves}
 use Rattle.run_laws.proofs.gapless.Entered.{o, untold, told_left, not_passing}
 use Rattle.run_laws.proofs.gapless.LeftTakers.{Stands, carries}
 use Rattle.run_laws.proofs.gapless.Later.{Cut, cut_at, Later, Grown, grown}
+use Rattle.row_laws.proofs.hearing.Handing.{some_is}
+use Rattle.run_laws.proofs.seen_runs.Law.{seen_after}
+use Rattle.run_laws.proofs.gapless.Putting.{asked_named}
+use Rattle.row_laws.proofs.failed_rows.Asked.{join_carried}
+use Rattle.row_laws.proofs.failed_rows.Bases.{base_is, new_stay}
 
 dissolved_is : (y : Why) → is_dissolved y ≡ true → y ≡ why.Dissolved
-dissolved_is (why.Collide a) e = absurd (cc)
-dissolved_is why.DuplicateInstance e = absurd (cc)
-dissolved_is (why.NoSource a) e = absurd (cc)
-dissolved_is why.BadAttributes e = absurd (cc)
-dissolved_is why.NotAMember e = absurd (cc)
-dissolved_is (why.ListFull a b) e = absurd (cc)
-dissolved_is (why.GroupFull a) e = absurd (cc)
-dissolved_is (why.GroupsFull a) e = absurd (cc)
 dissolved_is why.Dissolved e = refl
+dissolved_is _ e = absurd (cc)
 
 told_all : (p : ProviderId) (r : ℕ) (xs rs : List Happened) → WasTold p r rs → WasTold p r (xs ++ rs)
 told_all p r [] rs k = k
@@ -219,7 +212,7 @@ module _ (c : Config) (w : Scene) (n : ℕ) (f : Answering) (s : Core) (e : Node
                 past = l.older ++ Y
 
                 once : BeginsOnce past n g z p p.join
-                once = (seen_back (xs ++ l.newer) (happened.Put n l.view g l.place z) past (subst Seen (ap (λ y. y ++ records_of w.before) (whole ∙ ap (λ y. y ++ reverse (entering t i).records) (cut ∙ ap (λ y. xs ++ y) l.is)) ∙ regroup xs l.newer (happened.Put n l.view g l.place z) l.older (reverse (entering t i).records) (records_of w.before)) (stepping.seen c w n f s e v reached up arises says is clean k))).once p p.join node (join_carried p z join)
+                once = (seen_after (xs ++ l.newer) (happened.Put n l.view g l.place z ∷ past) (subst Seen (ap (λ y. y ++ records_of w.before) (whole ∙ ap (λ y. y ++ reverse (entering t i).records) (cut ∙ ap (λ y. xs ++ y) l.is)) ∙ regroup xs l.newer (happened.Put n l.view g l.place z) l.older (reverse (entering t i).records) (records_of w.before)) (stepping.seen c w n f s e v reached up arises says is clean k))).0.once p p.join node (join_carried p z join)
 
                 -- what was then is past
                 past_has : (y : Happened) → Has y then → Has y past
@@ -243,14 +236,7 @@ module _ (c : Config) (w : Scene) (n : ℕ) (f : Answering) (s : Core) (e : Node
                     old (inr a) = a
 
                 asks : AskedJoin g p then
-                asks = record { proposal = once.asked.0; there = append_has_right (happened.Asked p p.join g once.asked.0) (reverse t.records) (records_of w.before) asked_before; joins = meets once.asked.2.2 }
-                  where
-                    y : Proposal
-                    y = once.asked.2.0
-
-                    meets : ((y ≡ once.asked.0) ⊎ (IsJoin p once.asked.0 × IsJoin p y)) → among (joins_of once.asked.0) p ≡ true
-                    meets (inl a) = ap (λ (b : Proposal). among (joins_of b) p) (sym a) ∙ join_named p z y once.asked.2.1 join
-                    meets (inr a) = a.0
+                asks = record { proposal = once.asked.0; there = append_has_right (happened.Asked p p.join g once.asked.0) (reverse t.records) (records_of w.before) asked_before; joins = asked_named past n g p z once join }
 
                 by : Stood t.sessions p g false ⊎ Over n g p then → ⊥
                 by (inl a) = not_waits g a

@@ -29,7 +29,7 @@ use Rattle.client_callbacks.specs.declared.told.Why.TheVariants.{Dissolved}
 use Rattle.session_state.specs.declared.state.SessionState.{SessionState}
 use Rattle.session_state.specs.State.{outstanding}
 use Rattle.session_state.specs.HandOn.{take_telling, handed_on}
-use Rattle.view_state.specs.Views.{views_entered, views_at_work}
+use Rattle.view_state.specs.Views.{views_entered}
 use Rattle.node_state.specs.Leading.{put}
 use Rattle.node_state.specs.Deciding.{keep_decision, is_idle_empty, wait_join}
 use Rattle.node_state.specs.Applying.{number_of, dissolved}

@@ -14,7 +14,7 @@ use Rattle.node_state.specs.Settings.{addresses_on, address_at}
 use Rattle.world_model.specs.declared.script.Aim.{Aim}
 use Rattle.world_model.specs.declared.script.Aim.TheVariants.{Plays}
 use Rattle.world_model.specs.declared.script.Script.{Script}
-use Rattle.world_model.specs.Lines.{Said, SaysMode, SaysNode, SaysAdapter, SaysHb, SaysPort, SaysLevel, SaysDomain, SaysBegin, SaysLine, SaysClient, SaysCall}
+use Rattle.world_model.specs.Lines.{Said, SaysAdapter}
 use Rattle.world_model.specs.Reading.{Reading, nothing_read, plain_address, settled_if, settled, is_second_adapter, misplaced, with_line, with_call, with_client, with_config, with_address, taken, with_text, IsScript, script_in, read_for, script_of}
 use Rattle.world_model.proofs.ReadingLaws.{reasonless, Keeps, EndsWith, read_keeps}
 use Rattle.run_laws.specs.ring_runs.Rings.{AddressesFit, ScriptAddressesFit}
@@ -125,18 +125,9 @@ adapter_fine r n network address f place row h =
 
 taken_fine : (r : Reading) (x : Said) → Fine r → misplaced r x ≡ false → Fine (taken r x)
 unfolding taken misplaced with_config with_line with_call with_client with_address
-taken_fine r (SaysMode m) f place = record { rows = f.rows }
-taken_fine r (SaysNode n) f place = record { rows = f.rows }
 taken_fine r (SaysAdapter n network address) f place =
     record { rows = adapter_fine r n network address f (or_parts r.begun (is_second_adapter r.config n network address) place).1 }
-taken_fine r (SaysHb a b) f place = record { rows = f.rows }
-taken_fine r (SaysPort p) f place = record { rows = f.rows }
-taken_fine r (SaysLevel n inc) f place = record { rows = f.rows }
-taken_fine r (SaysDomain d) f place = record { rows = f.rows }
-taken_fine r SaysBegin f place = record { rows = f.rows }
-taken_fine r (SaysLine ns l) f place = record { rows = f.rows }
-taken_fine r (SaysClient n name votes) f place = record { rows = f.rows }
-taken_fine r (SaysCall client c) f place = record { rows = f.rows }
+taken_fine r _ f place = record { rows = f.rows }
 
 text_fine : (r : Reading) (bytes : List ℕ) → Fine r → Fine (with_text r bytes r.has_call)
 unfolding with_text

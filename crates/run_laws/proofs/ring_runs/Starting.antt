@@ -26,7 +26,7 @@ use Rattle.view_state.specs.Views.{views_new}
 use Rattle.step_refinement.specs.Rules.{at_node}
 use Rattle.step_refinement.proofs.Changed.{set_here, set_there, each_set}
 use Rattle.run_laws.specs.ring_runs.Rings.{ring_settings}
-use Rattle.run_laws.proofs.ring_runs.Finding.{is_on, is_of, nets_of, Differ, first_here, first_there}
+use Rattle.run_laws.proofs.ring_runs.Finding.{is_on, is_of, nets_of, Differ, first_here, first_there, me_of}
 use Rattle.run_laws.proofs.ring_runs.Playing.{ring_on, Own, Carried, Tells, Comes, comes_on, Grows, carried_on, tells_on}
 
 -- between two events: nodes, incarnations, what was sent and what was recorded
@@ -242,7 +242,7 @@ module _ (net : ℕ) (c : Config) (cores : ℕ → Option Core) (incs : ℕ → 
         net_is = k.net_is;
         settings = k.settings;
         own = own_after v k;
-        rings = each_set (λ m o. ring_on net o ≡ find (is_of m) (r ∷ v.rings)) cores n (Some s) (ap (find (is_on net)) (start_rings c n j) ∙ found ∙ sym (first_here n r v.rings mine)) (λ m ne. k.rings m ∙ sym (first_there m r v.rings (λ e. ne (sym e ∙ mine))));
+        rings = each_set (λ m o. ring_on net o ≡ find (is_of m) (r ∷ v.rings)) cores n (Some s) (ap (find (is_on net)) (start_rings c n j) ∙ found ∙ sym (first_here me_of n r v.rings mine)) (λ m ne. k.rings m ∙ sym (first_there me_of m r v.rings (λ e. ne (sym e ∙ mine))));
         sends = λ p h. carried_on net v (ring_started v r) grows p p.body (k.sends p h);
         records = λ q h. ⊎_elim (λ (a : Has q s.records). start_tells c n j net (ring_started v r) told q a) (λ (a : Has q rs). tells_on net v (ring_started v r) grows q (k.records q a)) (grown q h);
         starts = λ x h. ⊎_elim (λ (e : x ≡ record { node = r.me; inc = r.inc }). subst (λ (z : Started). z.inc ≤ at_node incs n j z.node) (sym e) here) (λ (i : Has x v.starts). later_inc x (k.starts x i)) h;

@@ -1,7 +1,7 @@
 -- A rule of views leaves the node in its view.
 use Rattle.view_state.specs.Views.{views_at_work}
 use Rattle.node_state.specs.declared.state.Core.{Core}
-use Rattle.row_laws.proofs.failed_rows.InView.{InView, stay_asks, stay_prepares, stay_answers, stay_refuses, stay_installs, stay_takes, stay_ticks, stay_reminds}
+use Rattle.row_laws.proofs.hearing.InView.{InView, stay_asks, stay_prepares, stay_answers, stay_refuses, stay_installs, stay_takes, stay_ticks, stay_reminds}
 use Rattle.step_walk.proofs.Changes.{Viewing, Asks, Prepares, Answers, Refuses, Installs, Takes, Gathers, Reminds, viewing}
 
 pub stays_in : (s : Core) (v : Viewing) → InView (views_at_work s.views) (viewing s v)

@@ -5,15 +5,14 @@ use Rattle.std.proofs.lemmas.Bool.{eqb-true, and_parts}
 use Rattle.std.proofs.lemmas.Bool.Decides.{nat_tests}
 use Rattle.rsct_packet.specs.declared.ids.ViewId.{ViewId}
 use Rattle.rsct_packet.specs.Search.{Has}
-use Rattle.rsct_packet.proofs.HasLaws.{has_append, append_has_left, append_has_right}
 use Rattle.proposal_core.specs.declared.group_state.GroupState.{GroupState}
 use Rattle.proposal_core.specs.Fold.{empty_state}
 use Rattle.run_safety.specs.ViewOrder.{is_same}
-use Rattle.run_safety.specs.Group.{Origin, Record, In, Put, Begins, Note, Based, Heard, Asked, Told, Line, Kept, Noted, kept}
+use Rattle.run_safety.specs.Group.{Origin, Note, Based, Heard, Asked, Told, Line, Kept, Noted, kept}
 use Rattle.run_safety.specs.Moves.{Inserted}
 use Rattle.run_safety.specs.Bases.{Bases, base_state}
 use Rattle.run_safety.proofs.Order.{eq_true, eq_same}
-use Rattle.run_laws.proofs.seen_runs.LineRules.{bare, without_heard, base_in, base_after, LinesSeen}
+use Rattle.run_laws.proofs.seen_runs.LineRules.{bare, base_in, base_after}
 
 pub kept_bare : (all : List Line) → kept (bare all) ≡ kept all
 kept_bare [] = refl

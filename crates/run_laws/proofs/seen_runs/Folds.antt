@@ -1,10 +1,9 @@
 -- What is heard carries the members and the value that the records make of the list up to its place.
-use Rattle.std.proofs.Common.{◌≡◌, ◌<◌, ℕ, ◌+◌, List, [], ◌∷◌, ◌++◌, length, take, Option, Some, None, Bool, true, false, refl, sym, ap, ◌∙◌, subst, inl, inr, arith}
+use Rattle.std.proofs.Common.{◌≡◌, ◌<◌, ℕ, ◌+◌, List, [], ◌∷◌, length, take, Some, Bool, true, false, refl, sym, ap, ◌∙◌, subst, inl, inr, arith}
 use Rattle.std.specs.Prelude.{◌==◌, ◌&&◌, if◌then◌else◌}
 use Rattle.std.specs.Str.{bytes_eq}
 use Rattle.std.proofs.lemmas.Bool.{eqb-true, and_parts}
 use Rattle.rsct_packet.specs.declared.ids.ViewId.{ViewId}
-use Rattle.rsct_packet.specs.declared.ids.ProviderId.{ProviderId}
 use Rattle.rsct_packet.specs.Ids.{same_view}
 use Rattle.rsct_packet.specs.Search.{Has}
 use Rattle.rsct_packet.proofs.HasLaws.{append_has_left, append_has_right}
@@ -12,7 +11,6 @@ use Rattle.view_state.proofs.ViewOrder.{same_view_is}
 use Rattle.proposal_core.specs.declared.entry.Entry.{Entry}
 use Rattle.proposal_core.specs.declared.group_state.GroupState.{GroupState}
 use Rattle.node_state.proofs.NameOrder.{text_same, text_self}
-use Rattle.node_state.specs.declared.config.Config.{Config}
 use Rattle.node_state.specs.declared.happened.Happened.{Happened}
 use Rattle.node_state.specs.declared.happened.Happened.TheVariants as happened
 use Rattle.run_safety.specs.Past.{History, earlier, records_of, Within, EachRecord, is_list, puts_of, base_of, fold_from, state_at}
@@ -60,18 +58,7 @@ latest_there n v g i e (r ∷ rs) q = by r q (latest_there n v g i e rs)
             let d : k ≡ i = ap (λ (y : ℕ × Entry). y.0) z in
             let l : f ≡ e = ap (λ (y : ℕ × Entry). y.1) z in
             inl (λ j. happened.Put (sym a j) (sym b j) (sym c j) (sym d j) (sym l j))
-    by (happened.Up m j) q old = inr (old q)
-    by (happened.Down m) q old = inr (old q)
-    by (happened.Ring m net id ms y) q old = inr (old q)
-    by (happened.In m u ms) q old = inr (old q)
-    by (happened.Base m u h o len s) q old = inr (old q)
-    by (happened.Heard p u h k f ms value) q old = inr (old q)
-    by (happened.Cast p proto phase vote value message) q old = inr (old q)
-    by (happened.Asked p r h y) q old = inr (old q)
-    by (happened.Told p r why) q old = inr (old q)
-    by (happened.Noted m c u k y) q old = inr (old q)
-    by (happened.Refused m c f) q old = inr (old q)
-    by (happened.Shown m l) q old = inr (old q)
+    by _ q old = inr (old q)
 
 -- ---- lines
 

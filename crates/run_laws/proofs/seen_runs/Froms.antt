@@ -1,5 +1,5 @@
 -- Where a node came from into a view, by the records and by the lines of a group.
-use Rattle.std.proofs.Common.{refl, ◌≡◌, ℕ, ◌⊎◌, ⊎_elim, inl, inr, sym, ◌∙◌, ap, subst, true, false, Bool, List, [], ◌∷◌, ◌++◌, Option, Some, None, arith}
+use Rattle.std.proofs.Common.{refl, ◌≡◌, ℕ, ◌⊎◌, ⊎_elim, inl, inr, sym, ◌∙◌, ap, subst, true, false, Bool, List, [], ◌∷◌, Option, Some, None, arith}
 use Rattle.std.specs.Prelude.{◌==◌, ◌&&◌, if◌then◌else◌}
 use Rattle.std.proofs.lemmas.Bool.{eqb-true, and_parts}
 use Rattle.std.proofs.lemmas.Bool.Decides.{nat_tests}
@@ -10,42 +10,25 @@ use Rattle.rsct_packet.specs.Search.{Has}
 use Rattle.node_state.specs.declared.happened.Happened.{Happened}
 use Rattle.node_state.specs.declared.happened.Happened.TheVariants as happened
 use Rattle.run_safety.specs.ViewOrder.{is_before, Lt, Le}
-use Rattle.run_safety.specs.Group.{In, Put, Begins, Note, Line, Kept, Noted, kept, Record}
+use Rattle.run_safety.specs.Group.{In, Line, Kept, kept}
 use Rattle.run_safety.specs.GroupLists.{WasIn, From}
 use Rattle.run_safety.specs.Past.{History, records_of}
 use Rattle.run_safety.specs.Sight.{inc_in, lines_at, lines_of}
 use Rattle.run_safety.proofs.Order.{lt_refl, le_lt_trans, lt_le, le_antisym}
 use Rattle.run_laws.specs.seen_runs.Seen.{greater, from_after, from_of}
-use Rattle.run_laws.proofs.seen_runs.Sights.{LineOf, Enters, Puts, Bases, Hears, Asks, Tells, Else, line_of, line_in, recorded}
+use Rattle.run_laws.proofs.seen_runs.Sights.{LineOf, Enters, Puts, Bases, Hears, Asks, Tells, Else, line_of, recorded}
+use Rattle.run_safety.proofs.SightLaws.{line_kept, kept_line, line_seen}
 
 -- ---- who entered which view
 
-has_kept : (r : Record) (all : List Line) → Has (Kept r) all → Has r (kept all)
-has_kept r [] h = h
-has_kept r (Kept q ∷ all) (inl e) = let z : r ≡ q = cc in inl z
-has_kept r (Kept q ∷ all) (inr h) = inr (has_kept r all h)
-has_kept r (Noted x ∷ all) (inl e) = absurd (cc)
-has_kept r (Noted x ∷ all) (inr h) = has_kept r all h
-
-kept_has : (r : Record) (all : List Line) → Has r (kept all) → Has (Kept r) all
-kept_has r [] h = h
-kept_has r (Kept q ∷ all) (inl e) = inl (ap (λ z. Kept z) e)
-kept_has r (Kept q ∷ all) (inr h) = inr (kept_has r all h)
-kept_has r (Noted x ∷ all) h = inr (kept_has r all h)
-
-pub line_kept : (r : Record) (all : List Line) → Has (Kept r) all → Has r (kept all)
-line_kept = has_kept
-
-pub kept_line : (r : Record) (all : List Line) → Has r (kept all) → Has (Kept r) all
-kept_line = kept_has
-
 pub in_kept : (g : List ℕ) (n : ℕ) (v : ViewId) (ms : List Member) (h : History) → Has (happened.In n v ms) (records_of h) → Has (In n (inc_in n ms) v ms) (kept (lines_of g h))
-in_kept g n v ms h k = has_kept (In n (inc_in n ms) v ms) (lines_of g h) ((line_in g (happened.In n v ms) h k).among (Kept (In n (inc_in n ms) v ms)) (inl refl))
+in_kept g n v ms h k =
+    line_kept (In n (inc_in n ms) v ms) (lines_of g h) (line_seen (Kept (In n (inc_in n ms) v ms)) g (happened.In n v ms) (λ rs. inl refl) h k)
 
 -- the record of a line of entering
 pub in_recorded : (g : List ℕ) (n j : ℕ) (v : ViewId) (ms : List Member) (h : History) → Has (In n j v ms) (kept (lines_of g h)) → Has (happened.In n v ms) (records_of h) × (j ≡ inc_in n ms)
 in_recorded g n j v ms h k =
-    let q = recorded g (Kept (In n j v ms)) h (λ e. cc) (kept_has (In n j v ms) (lines_of g h) k) in
+    let q = recorded g (Kept (In n j v ms)) h (λ e. cc) (kept_line (In n j v ms) (lines_of g h) k) in
     at q.of (lines_at g q.rs q.of) (line_of g q.rs q.of) q.there q.shows
   where
     at : {rs : List Happened} (r : Happened) (ls : List Line) → LineOf g rs r ls → Has r (records_of h) → Has (Kept (In n j v ms)) ls → Has (happened.In n v ms) (records_of h) × (j ≡ inc_in n ms)

@@ -1,13 +1,13 @@
 -- A node that was started is in the view that it entered last.
-use Rattle.std.proofs.Common.{refl, ◌≡◌, ℕ, ◌+◌, ◌<◌, ◌⊎◌, inl, inr, sym, ◌∙◌, ap, subst, true, false, Bool, List, [], ◌∷◌, length, Option, Some, None, arith}
-use Rattle.std.specs.Prelude.{◌==◌, ◌≢◌, drop}
+use Rattle.std.proofs.Common.{refl, ◌≡◌, ℕ, ◌+◌, ◌<◌, sym, ◌∙◌, ap, subst, List, ◌∷◌, length, Some, None, arith}
+use Rattle.std.specs.Prelude.{◌≢◌, drop}
 use Rattle.std.proofs.lemmas.Bool.Decides.{nat_tests}
 use Rattle.rsct_packet.specs.declared.ids.Member.{Member}
 use Rattle.rsct_packet.specs.declared.ids.ViewId.{ViewId}
 use Rattle.proposal_core.specs.declared.entry.Entry.{Entry}
-use Rattle.run_safety.specs.Group.{member, Standing, Reply, members_of, Origin, Packet, Record, In, Put, Begins, Line, Kept, kept, puts_from}
+use Rattle.run_safety.specs.Group.{Standing, members_of, Packet, Record, In, Line, kept, puts_from}
 use Rattle.run_safety.specs.Bases.{Bases}
-use Rattle.run_safety.specs.Moves.{Leads, Changes, Opening, entered, grown, Life, Dawn, NextEvent, Promises, Answers, Appends, Follows, Starts, Enters, Founds, Names, Hears, Asks, Requests, Refuses, IsTold, Acknowledges, Settles}
+use Rattle.run_safety.specs.Moves.{Leads, Changes, Opening, grown, Life, Dawn, NextEvent, Promises, Answers, Appends, Follows, Starts, Enters, Founds, Names, Hears, Asks, Requests, Refuses, IsTold, Acknowledges, Settles}
 use Rattle.run_safety.proofs.Keep.{each}
 use Rattle.run_safety.proofs.Lines.{kept_entered, kept_inserted}
 use Rattle.run_laws.proofs.seen_runs.LineRules.{Entered, last_in}

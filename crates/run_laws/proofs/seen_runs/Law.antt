@@ -1,5 +1,5 @@
 -- The law: what every run records shows itself.
-use Rattle.std.proofs.Common.{◌≡◌, ℕ, sym, inl, inr, subst, refl, Bool, true, false, List, [], ◌∷◌, ◌++◌, Option, Some, None}
+use Rattle.std.proofs.Common.{◌≡◌, ℕ, sym, inl, inr, subst, refl, Bool, true, false, List, [], ◌∷◌, ◌++◌, Some}
 use Rattle.std.specs.Prelude.{if◌then◌else◌}
 use Rattle.rsct_packet.specs.declared.ids.ViewId.{ViewId}
 use Rattle.rsct_packet.specs.declared.ids.ProviderId.{ProviderId}
@@ -7,7 +7,6 @@ use Rattle.rsct_packet.specs.Search.{Has}
 use Rattle.rsct_packet.proofs.HasLaws.{append_has_right}
 use Rattle.proposal_core.specs.declared.entry.Entry.{Entry}
 use Rattle.proposal_core.specs.declared.proposal.Proposal.{Proposal}
-use Rattle.node_state.specs.declared.config.Config.{Config}
 use Rattle.node_state.specs.declared.happened.Happened.{Happened}
 use Rattle.node_state.specs.declared.happened.Happened.TheVariants as happened
 use Rattle.run_safety.specs.Past.{History, records_of, earlier, Within, EachRecord, is_list}
@@ -25,8 +24,6 @@ use Rattle.provider_laws.specs.single_casts.Single.{CastAfterNotice, NotCastBefo
 use Rattle.provider_laws.proofs.single_casts.Law.{cast_after_notice}
 use Rattle.provider_laws.proofs.single_casts.Once.{cast_once}
 use Rattle.row_laws.proofs.honest_votes.Law.{recorded_votes}
-use Rattle.step_refinement.specs.Tied.{Scene}
-use Rattle.step_refinement.specs.Runs.{Reached}
 use Rattle.run_laws.specs.seen_runs.Seen.{SeenAt, Seen, VotesSeen, RowsSeen, HeardSeen, AskedInOne, BeginsOnce, OnceSeen}
 use Rattle.run_laws.specs.seen_runs.Law.{EveryTraceIsSeen}
 use Rattle.run_laws.proofs.seen_runs.Pairs.{Two, each_both}
@@ -38,18 +35,7 @@ use Rattle.run_laws.proofs.failed_causes.Renamed.{asked_in_one}
 
 votes_seen : (now : List Happened) (before : History) (r : Happened) → RecordCast now before r → VotesSeen (now ++ records_of before) r
 votes_seen now before (happened.Put n v g i e) k = k
-votes_seen now before (happened.Up n j) k = tt
-votes_seen now before (happened.Down n) k = tt
-votes_seen now before (happened.Ring n net id ms x) k = tt
-votes_seen now before (happened.In n v ms) k = tt
-votes_seen now before (happened.Base n v g u len s) k = tt
-votes_seen now before (happened.Heard p v g i e ms value) k = tt
-votes_seen now before (happened.Cast p proto phase vote value message) k = tt
-votes_seen now before (happened.Asked p r g x) k = tt
-votes_seen now before (happened.Told p r why) k = tt
-votes_seen now before (happened.Noted n c v i t) k = tt
-votes_seen now before (happened.Refused n c f) k = tt
-votes_seen now before (happened.Shown n l) k = tt
+votes_seen now before _ k = tt
 
 -- what was put last among some records was put last
 latest_more : (n : ℕ) (v : ViewId) (g : List ℕ) (x : ℕ × Entry) (now xs : List Happened) → latest_put n v g now ≡ Some x → latest_put n v g (now ++ xs) ≡ Some x
@@ -62,18 +48,7 @@ latest_more n v g x (r ∷ now) xs e = by r e (latest_more n v g x now xs)
         at : (b : Bool) → (if b then Some (i, f) else latest_put n v g now) ≡ Some x → (latest_put n v g now ≡ Some x → latest_put n v g (now ++ xs) ≡ Some x) → (if b then Some (i, f) else latest_put n v g (now ++ xs)) ≡ Some x
         at true e old = e
         at false e old = old e
-    by (happened.Up m j) e old = old e
-    by (happened.Down m) e old = old e
-    by (happened.Ring m net id ms y) e old = old e
-    by (happened.In m u ms) e old = old e
-    by (happened.Base m u h o len s) e old = old e
-    by (happened.Heard p u h i f ms value) e old = old e
-    by (happened.Cast p proto phase vote value message) e old = old e
-    by (happened.Asked p r h y) e old = old e
-    by (happened.Told p r why) e old = old e
-    by (happened.Noted m c u i y) e old = old e
-    by (happened.Refused m c f) e old = old e
-    by (happened.Shown m l) e old = old e
+    by _ e old = old e
 
 -- what laws of runs say of a record and its event
 record Said (now : List Happened) (before : History) (r : Happened) : Type 0 where
@@ -85,17 +60,7 @@ record Said (now : List Happened) (before : History) (r : Happened) : Type 0 whe
 said_rows : (now : List Happened) (before : History) (r : Happened) → Said now before r → RowsSeen (now ++ records_of before) r × HeardSeen (now ++ records_of before) r
 said_rows now before (happened.Put n v g i e) k = (k.rows, tt)
 said_rows now before (happened.Heard p v g i e ms value) k = (tt, (latest_more p.node v g (i, e) now (records_of before) k.put.0, k.next.0, k.next.1))
-said_rows now before (happened.Up n j) k = (tt, tt)
-said_rows now before (happened.Down n) k = (tt, tt)
-said_rows now before (happened.Ring n net id ms x) k = (tt, tt)
-said_rows now before (happened.In n v ms) k = (tt, tt)
-said_rows now before (happened.Base n v g u len s) k = (tt, tt)
-said_rows now before (happened.Cast p proto phase vote value message) k = (tt, tt)
-said_rows now before (happened.Asked p r g x) k = (tt, tt)
-said_rows now before (happened.Told p r why) k = (tt, tt)
-said_rows now before (happened.Noted n c v i t) k = (tt, tt)
-said_rows now before (happened.Refused n c f) k = (tt, tt)
-said_rows now before (happened.Shown n l) k = (tt, tt)
+said_rows now before _ k = (tt, tt)
 
 -- ---- requests, over all groups
 
@@ -106,6 +71,10 @@ OneGroup rs = (p : ProviderId) (r : ℕ) (g h : List ℕ) (x y : Proposal) → H
 asked_in_one_seen : (rs : List Happened) (r : Happened) → OneGroup (r ∷ rs) → AskedInOne rs r
 asked_in_one_seen rs (happened.Asked p r g x) one = λ h y i. one p r h g y x (inr i) (inl refl)
 asked_in_one_seen rs _ one = tt
+
+pub seen_after : (newer older : List Happened) → Seen (newer ++ older) → Seen older
+seen_after [] older k = k
+seen_after (r ∷ newer) older k = seen_after newer older k.1
 
 -- what a node put was asked in that group
 put_asked : (n : ℕ) (v : ViewId) (g : List ℕ) (i : ℕ) (e : Entry) (p : ProviderId) (r : ℕ) (rs : List Happened) → Seen rs → p.node ≡ n → Has (p, r) (carried e) → Has (happened.Put n v g i e) rs → (x : Proposal) × Has (happened.Asked p r g x) rs
@@ -127,18 +96,7 @@ once_seen rs (happened.Put n v g i e) seen one there = λ p r node c. at p r nod
             let a = put_asked n u h j f p r rs seen node d there in
             let same : h ≡ g = one p r h g a.0 (k.asked).0 a.1 (k.asked).1 in
             k.once u j f (subst (λ z. Has (happened.Put n u z j f) rs) same there) d
-once_seen rs (happened.Up n j) seen one there = tt
-once_seen rs (happened.Down n) seen one there = tt
-once_seen rs (happened.Ring n net id ms x) seen one there = tt
-once_seen rs (happened.In n v ms) seen one there = tt
-once_seen rs (happened.Base n v g u len s) seen one there = tt
-once_seen rs (happened.Heard p v g i e ms value) seen one there = tt
-once_seen rs (happened.Cast p proto phase vote value message) seen one there = tt
-once_seen rs (happened.Asked p r g x) seen one there = tt
-once_seen rs (happened.Told p r why) seen one there = tt
-once_seen rs (happened.Noted n c v i t) seen one there = tt
-once_seen rs (happened.Refused n c f) seen one there = tt
-once_seen rs (happened.Shown n l) seen one there = tt
+once_seen rs _ seen one there = tt
 
 -- all of it, of one record
 record All (now : List Happened) (before : History) (r : Happened) : Type 0 where

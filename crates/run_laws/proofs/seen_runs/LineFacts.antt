@@ -1,19 +1,18 @@
 -- Facts of a life's older lines: what a later line sees.
-use Rattle.std.proofs.Common.{refl, ◌≡◌, ℕ, ◌+◌, ◌≤◌, ◌<◌, ◌⊎◌, inl, inr, sym, ◌∙◌, ap, subst, true, false, Bool, List, [], ◌∷◌, ◌++◌, length, Option, Some, None, arith, length-append, append_assoc}
+use Rattle.std.proofs.Common.{refl, ◌≡◌, ℕ, ◌+◌, ◌≤◌, inl, inr, sym, ◌∙◌, subst, true, false, Bool, List, [], ◌∷◌, ◌++◌, length, Some, arith, length-append, append_assoc}
 use Rattle.std.specs.Prelude.{◌==◌, ◌&&◌, not, slice_get, if◌then◌else◌}
-use Rattle.std.proofs.lemmas.Bool.Decides.{nat_tests}
 use Rattle.rsct_packet.specs.declared.ids.Member.{Member}
 use Rattle.rsct_packet.specs.declared.ids.ViewId.{ViewId}
 use Rattle.rsct_packet.specs.Search.{Has}
 use Rattle.proposal_core.specs.declared.entry.Entry.{Entry}
 use Rattle.run_safety.specs.ViewOrder.{is_same, Lt, Le}
-use Rattle.run_safety.specs.Group.{member, Standing, Origin, Record, In, Put, Begins, Line, Kept, Noted, kept, puts_from, lines_from}
-use Rattle.run_safety.specs.GroupLists.{puts_of, held_by, held, InOrder, WasIn, From}
-use Rattle.run_safety.specs.GroupLaws.{AskedAndUntold, AskedFirst}
+use Rattle.run_safety.specs.Group.{Record, In, Put, Begins, Line, Kept, Noted, kept, puts_from, lines_from}
+use Rattle.run_safety.specs.GroupLists.{puts_of, held_by, InOrder, WasIn, From}
+use Rattle.run_safety.specs.GroupLaws.{AskedFirst}
 use Rattle.run_safety.proofs.Order.{lt_refl}
 use Rattle.run_safety.proofs.Prefix.{prefix_get, prefix_push}
 use Rattle.run_safety.proofs.Tracks.{puts_own}
-use Rattle.run_laws.proofs.seen_runs.LineRules.{last_in, last_after}
+use Rattle.run_laws.proofs.seen_runs.LineRules.{last_in}
 
 -- ---- older lines
 

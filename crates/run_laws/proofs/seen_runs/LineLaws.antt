@@ -1,5 +1,5 @@
 -- Each line of a life shows what it has to.
-use Rattle.std.proofs.Common.{refl, ◌≡◌, ℕ, zero, suc, ◌+◌, ◌≤◌, ◌<◌, ◌⊎◌, inl, inr, sym, ◌∙◌, ap, subst, true, false, Bool, List, [], ◌∷◌, ◌++◌, length, Option, Some, None, arith, append_assoc}
+use Rattle.std.proofs.Common.{refl, ◌≡◌, ℕ, zero, suc, ◌+◌, ◌≤◌, ◌<◌, ◌⊎◌, inl, inr, sym, ◌∙◌, ap, subst, true, false, List, [], ◌∷◌, ◌++◌, length, Option, Some, None, arith, append_assoc}
 use Rattle.std.specs.Prelude.{slice_get, drop, take}
 use Rattle.std.proofs.lemmas.List.{take_all}
 use Rattle.rsct_packet.specs.declared.ids.Member.{Member}
@@ -10,25 +10,24 @@ use Rattle.rsct_packet.proofs.HasLaws.{append_has_right}
 use Rattle.proposal_core.specs.declared.entry.Entry.{Entry}
 use Rattle.proposal_core.specs.declared.group_state.GroupState.{GroupState}
 use Rattle.proposal_core.specs.Fold.{fits}
-use Rattle.run_safety.specs.ViewOrder.{Lt, Le}
-use Rattle.run_safety.specs.Group.{member, Standing, Reply, members_of, Origin, Packet, Answer, Install, Record, In, Put, Begins, Note, Based, Heard, Asked, Told, Line, Kept, Noted, kept, puts_from, lines_from}
-use Rattle.run_safety.specs.GroupLists.{OneEntryOf, Rises, puts_of, held, InOrder, WasIn, From, SameLists, SameMembers, IsCut}
+use Rattle.run_safety.specs.Group.{member, Standing, Reply, members_of, Origin, Packet, Install, Record, In, Put, Note, Based, Asked, Told, Line, Kept, Noted, kept, lines_from}
+use Rattle.run_safety.specs.GroupLists.{Rises, puts_of, held, InOrder, WasIn, From, SameLists, SameMembers}
 use Rattle.run_safety.specs.GroupLaws.{AskedFirst, Brought}
 use Rattle.run_safety.specs.Bases.{Bases, base_state, state_of_list, side_state, marked, Wins, BaseIs}
-use Rattle.run_safety.specs.Requests.{carried, Meets}
+use Rattle.run_safety.specs.Requests.{carried}
 use Rattle.run_safety.specs.Past.{fold_from}
-use Rattle.run_safety.specs.Moves.{Leads, Changes, Opening, based, entered, grown, SetAt, Life, Dawn, NextEvent, Promises, Answers, Appends, Follows, Starts, Enters, Founds, Names, Hears, Asks, Requests, Refuses, IsTold, Acknowledges, Settles}
+use Rattle.run_safety.specs.Moves.{Leads, Opening, based, entered, Life, Dawn, NextEvent, Promises, Answers, Appends, Follows, Starts, Enters, Founds, Names, Hears, Asks, Requests, Refuses, IsTold, Acknowledges, Settles}
 use Rattle.run_safety.proofs.Prefix.{IsPrefix, prefix_both}
-use Rattle.run_safety.proofs.Order.{lt_refl, lt_not_same}
+use Rattle.run_safety.proofs.Order.{lt_not_same}
 use Rattle.run_safety.proofs.Tracks.{was_many}
-use Rattle.run_safety.proofs.Lines.{kept_lines, kept_entered, note_lines, has_lines}
+use Rattle.run_safety.proofs.Lines.{kept_lines, note_lines, has_lines}
 use Rattle.run_safety.proofs.HeardLaw.{puts_front, take_front, front_of, get_within}
 use Rattle.run_safety.proofs.Founds.{found_new}
 use Rattle.run_safety.proofs.CutLaw.{law_same_members, law_same_lists}
 use Rattle.run_safety.proofs.Whole.{Whole}
 use Rattle.run_safety.proofs.OnceLaw.{begun_once}
 use Rattle.run_safety.proofs.Lives.{whole, law_one_entry, law_base}
-use Rattle.run_laws.proofs.seen_runs.LineRules.{bare, Entered, last_in, GoesOn, base_in, InSeen, OnceLine, PutSeen, BasedSeen, LineSeen, LinesSeen}
+use Rattle.run_laws.proofs.seen_runs.LineRules.{bare, Entered, last_in, GoesOn, base_in, InSeen, OnceLine, PutSeen, BasedSeen, LinesSeen}
 use Rattle.run_laws.proofs.seen_runs.BareLines.{kept_bare, had_bare, has_bare, bare_inserted, base_bare, base_is}
 use Rattle.run_laws.proofs.seen_runs.LineFacts.{order_older, asked_older, kept_older, lines_split, last_puts, put_at, held_puts, from_in}
 use Rattle.run_laws.proofs.seen_runs.LastViews.{entered_by, AtLast, at_last}

@@ -1,6 +1,6 @@
 -- What holds of each line of a group's life and of those before it, the latest first. Lines of what is heard are left out, since
 -- they come in between.
-use Rattle.std.specs.Prelude.{ℕ, ◌≡◌, ◌≢◌, ◌≤◌, true, Bool, ◌==◌, ◌&&◌, List, [], ◌∷◌, length, take, Option, Some, None, if◌then◌else◌}
+use Rattle.std.specs.Prelude.{ℕ, ◌≡◌, ◌≤◌, true, ◌==◌, ◌&&◌, List, [], ◌∷◌, length, take, Option, Some, None, if◌then◌else◌}
 use Rattle.rsct_packet.specs.declared.ids.Member.{Member}
 use Rattle.rsct_packet.specs.declared.ids.ProviderId.{ProviderId}
 use Rattle.rsct_packet.specs.declared.ids.ViewId.{ViewId}

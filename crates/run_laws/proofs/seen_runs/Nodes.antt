@@ -1,28 +1,26 @@
 -- Nodes and their incarnations: each start is a later one, and a node is in the view that it entered last, as a member of its
 -- incarnation.
-use Rattle.std.proofs.Common.{refl, ◌≡◌, ℕ, ◌+◌, ◌<◌, ◌≤◌, ◌⊎◌, ⊎_elim, inl, inr, sym, ◌∙◌, ap, subst, true, false, Bool, List, [], ◌∷◌, ◌++◌, Option, Some, None, arith, append_assoc}
-use Rattle.std.specs.Prelude.{◌==◌, ◌&&◌, ◌≢◌, reverse, map, IsTrue, if◌then◌else◌}
+use Rattle.std.proofs.Common.{refl, ◌≡◌, ℕ, ◌≤◌, inl, inr, sym, ◌∙◌, ap, subst, true, false, Bool, List, [], ◌∷◌, ◌++◌, Option, Some, arith}
+use Rattle.std.specs.Prelude.{◌==◌, ◌&&◌, IsTrue, if◌then◌else◌}
 use Rattle.std.proofs.lemmas.Bool.{eqb-true}
 use Rattle.std.proofs.lemmas.Bool.Decides.{nat_tests}
 use Rattle.rsct_packet.specs.declared.ids.Member.{Member}
 use Rattle.rsct_packet.specs.declared.ids.ViewId.{ViewId}
-use Rattle.rsct_packet.specs.Ids.{view_lt, is_member}
+use Rattle.rsct_packet.specs.Ids.{is_member}
 use Rattle.rsct_packet.specs.Search.{Has}
-use Rattle.rsct_packet.proofs.HasLaws.{has_append, append_has_left, append_has_right}
 use Rattle.node_state.specs.declared.happened.Happened.{Happened}
 use Rattle.node_state.specs.declared.happened.Happened.TheVariants as happened
 use Rattle.run_safety.specs.ViewOrder.{is_before, Lt}
-use Rattle.run_safety.specs.Group.{member, Record, In, Put, Begins, Line, kept}
-use Rattle.run_safety.specs.Past.{History, records_of, Within, view_now, place_after, inc_now, inc_after}
+use Rattle.run_safety.specs.Group.{member, Record, In, Put, Begins, kept}
+use Rattle.run_safety.specs.Past.{History, records_of, Within, view_now, inc_now}
 use Rattle.run_safety.specs.Sight.{inc_in, lines_of}
-use Rattle.run_safety.specs.SafeLists.{Each, InItsView, is_later, Rising, AmongMembers}
+use Rattle.run_safety.specs.SafeLists.{InItsView, is_later, Rising, AmongMembers}
 use Rattle.run_safety.proofs.Tests.{has_any}
 use Rattle.run_laws.specs.seen_runs.Seen.{StartsLater}
-use Rattle.run_laws.proofs.seen_runs.LineRules.{bare, Entered, last_in, GoesOn, InSeen, PutSeen, LinesSeen}
+use Rattle.run_laws.proofs.seen_runs.LineRules.{bare, Entered, last_in, GoesOn, InSeen, PutSeen}
 use Rattle.run_laws.proofs.seen_runs.BareLines.{kept_bare}
 use Rattle.run_laws.proofs.seen_runs.Sights.{cut, last_same, last_groups}
 use Rattle.run_laws.proofs.seen_runs.Shown.{AllShow, shown_before, in_line, put_line}
-use Rattle.run_laws.proofs.seen_runs.Froms.{in_kept}
 use Rattle.run_laws.proofs.seen_runs.Steps.{Mine}
 
 -- of each record
@@ -72,15 +70,6 @@ module _ (n inc : ℕ) (before : History) where
   unfolding is_before
   one (happened.Up m j) now mine bound all h = absurd mine
   one (happened.Down m) now mine bound all h = absurd mine
-  one (happened.Ring m net id ms x) now mine bound all h = (record { view = h.view; last = h.last; is = h.is; inc_is = h.inc_is }, record { later = tt; rising = tt; among = tt; in_view = tt })
-  one (happened.Base m v g u len s) now mine bound all h = (record { view = h.view; last = last_same n (happened.Base m v g u len s) now before (λ v k ns z. cc) ∙ h.last; is = h.is; inc_is = h.inc_is }, record { later = tt; rising = tt; among = tt; in_view = tt })
-  one (happened.Heard p v g i e ms value) now mine bound all h = (record { view = h.view; last = last_same n (happened.Heard p v g i e ms value) now before (λ v k ns z. cc) ∙ h.last; is = h.is; inc_is = h.inc_is }, record { later = tt; rising = tt; among = tt; in_view = tt })
-  one (happened.Cast p proto phase vote value message) now mine bound all h = (record { view = h.view; last = h.last; is = h.is; inc_is = h.inc_is }, record { later = tt; rising = tt; among = tt; in_view = tt })
-  one (happened.Asked p r g x) now mine bound all h = (record { view = h.view; last = last_same n (happened.Asked p r g x) now before (λ v k ns z. cc) ∙ h.last; is = h.is; inc_is = h.inc_is }, record { later = tt; rising = tt; among = tt; in_view = tt })
-  one (happened.Told p r why) now mine bound all h = (record { view = h.view; last = last_same n (happened.Told p r why) now before (λ v k ns z. cc) ∙ h.last; is = h.is; inc_is = h.inc_is }, record { later = tt; rising = tt; among = tt; in_view = tt })
-  one (happened.Noted m c v i t) now mine bound all h = (record { view = h.view; last = h.last; is = h.is; inc_is = h.inc_is }, record { later = tt; rising = tt; among = tt; in_view = tt })
-  one (happened.Refused m c f) now mine bound all h = (record { view = h.view; last = h.last; is = h.is; inc_is = h.inc_is }, record { later = tt; rising = tt; among = tt; in_view = tt })
-  one (happened.Shown m l) now mine bound all h = (record { view = h.view; last = h.last; is = h.is; inc_is = h.inc_is }, record { later = tt; rising = tt; among = tt; in_view = tt })
   one (happened.Put m v g i e) now mine bound all h =
       (record { view = h.view; last = last_same n (happened.Put m v g i e) now before (λ v k ns z. cc) ∙ h.last; is = h.is; inc_is = h.inc_is }, record { later = tt; rising = tt; among = tt; in_view = in_its })
     where
@@ -144,6 +133,8 @@ module _ (n inc : ℕ) (before : History) where
         where
           at : (o : Option ViewId) → o ≡ Some h.view → Lt h.view v → IsTrue (is_later o v)
           at o e l = subst (λ z. IsTrue (is_later z v)) (sym e) l
+  one r now mine bound all h =
+      (record { view = h.view; last = last_same n r now before (λ v k ns z. cc) ∙ h.last; is = h.is; inc_is = h.inc_is }, record { later = tt; rising = tt; among = tt; in_view = tt })
 
   -- all records of a step
   pub step_shown : (now : List Happened) → ((r : Happened) → Has r now → Mine n r) → Bounded now → AllShow (cut now before) → Here n inc [] before → Here n inc now before × Within (λ now before r. NodeShown (now ++ records_of before) r) now before

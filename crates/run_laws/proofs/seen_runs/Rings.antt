@@ -1,6 +1,6 @@
 -- The ring records of each network whose addresses differ show themselves that the rings agree.
-use Rattle.std.proofs.Common.{◌≡◌, ℕ, List, [], ◌∷◌, Bool, true, refl, sym, subst, inl, inr}
-use Rattle.std.specs.Prelude.{◌==◌, if◌then◌else◌}
+use Rattle.std.proofs.Common.{ℕ, List, [], ◌∷◌, Bool, refl, sym, subst, inl, inr}
+use Rattle.std.specs.Prelude.{if◌then◌else◌}
 use Rattle.std.proofs.lemmas.Bool.{eq-eqb}
 use Rattle.rsct_packet.specs.declared.ids.RingId.{RingId}
 use Rattle.rsct_packet.specs.declared.mask.Mask.{Mask}
@@ -9,13 +9,12 @@ use Rattle.rsct_packet.proofs.HasLaws.{append_has_left, append_has_right}
 use Rattle.adapter_ring.specs.declared.ring.RingSettings.{RingSettings}
 use Rattle.adapter_ring.specs.Network.{Told}
 use Rattle.adapter_ring.specs.Agreement.{RingsAgree}
-use Rattle.node_state.specs.declared.config.Config.{Config}
 use Rattle.node_state.specs.declared.happened.Happened.{Happened}
 use Rattle.node_state.specs.declared.happened.Happened.TheVariants as happened
 use Rattle.run_safety.specs.Past.{records_of}
 use Rattle.run_laws.specs.ring_runs.Rings.{ring_settings, told_on, rings_told}
 use Rattle.run_laws.proofs.ring_runs.Law.{rings_agree_in_runs}
-use Rattle.run_laws.specs.seen_runs.Rings.{RingSeenAt, RingSeen, RingsSeen, SeenWithRings}
+use Rattle.run_laws.specs.seen_runs.Rings.{RingSeenAt, RingSeen, RingsSeen}
 use Rattle.run_laws.specs.seen_runs.Law.{EveryRingIsSeen, EveryTraceIsSeenWithRings}
 use Rattle.run_laws.proofs.seen_runs.Law.{traces_seen}
 

@@ -58,18 +58,7 @@ Quiet _ = Unit {0}
 
 mine_quiet : (n : ℕ) (r : Happened) → Mine n r → Quiet r
 mine_quiet n (happened.Up m j) a = a
-mine_quiet n (happened.Down m) a = tt
-mine_quiet n (happened.Ring m net id ms x) a = tt
-mine_quiet n (happened.In m v ms) a = tt
-mine_quiet n (happened.Base m v g u len s) a = tt
-mine_quiet n (happened.Put m v g i e) a = tt
-mine_quiet n (happened.Heard p v g i e ms value) a = tt
-mine_quiet n (happened.Cast p proto phase vote value message) a = tt
-mine_quiet n (happened.Asked p r g x) a = tt
-mine_quiet n (happened.Told p r why) a = tt
-mine_quiet n (happened.Noted m c v i t) a = tt
-mine_quiet n (happened.Refused m c f) a = tt
-mine_quiet n (happened.Shown m l) a = tt
+mine_quiet n _ a = tt
 
 note_quiet : (r : Happened) → IsNote r → Quiet r
 note_quiet (happened.Refused m c f) a = tt

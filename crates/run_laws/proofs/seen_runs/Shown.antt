@@ -1,9 +1,6 @@
 -- From the lines of all groups to the records of a run.
-use Rattle.std.proofs.Common.{refl, ◌≡◌, ℕ, ◌≤◌, ◌⊎◌, inl, inr, sym, ◌∙◌, ap, subst, true, false, Bool, List, [], ◌∷◌, ◌++◌, length, Option, Some, None, arith}
-use Rattle.std.specs.Prelude.{◌==◌, ◌&&◌, not, take, filter, IsTrue, if◌then◌else◌}
-use Rattle.std.specs.Str.{bytes_eq}
-use Rattle.std.specs.List.{list_any}
-use Rattle.std.proofs.lemmas.Slice.Eq.{bytes_eq-Decides}
+use Rattle.std.proofs.Common.{refl, ◌≡◌, ℕ, ◌≤◌, inl, inr, sym, ◌∙◌, ap, subst, true, false, Bool, List, [], ◌∷◌, ◌++◌, length, Some, arith}
+use Rattle.std.specs.Prelude.{◌==◌, ◌&&◌, not, take, filter, if◌then◌else◌}
 use Rattle.std.proofs.lemmas.Bool.{eqb-true, and_parts}
 use Rattle.std.proofs.lemmas.Bool.Decides.{nat_tests}
 use Rattle.rsct_packet.specs.declared.ids.Member.{Member}
@@ -11,7 +8,6 @@ use Rattle.rsct_packet.specs.declared.ids.ProviderId.{ProviderId}
 use Rattle.rsct_packet.specs.declared.ids.ViewId.{ViewId}
 use Rattle.rsct_packet.specs.Ids.{same_view, is_member}
 use Rattle.rsct_packet.specs.Search.{Has}
-use Rattle.rsct_packet.proofs.HasLaws.{append_has_right}
 use Rattle.proposal_core.specs.declared.entry.Entry.{Entry}
 use Rattle.proposal_core.specs.declared.proposal.Proposal.{Proposal}
 use Rattle.proposal_core.specs.declared.group_state.GroupState.{GroupState}
@@ -19,23 +15,25 @@ use Rattle.proposal_core.specs.Fold.{fits, present}
 use Rattle.node_state.specs.declared.happened.Happened.{Happened}
 use Rattle.node_state.specs.declared.happened.Happened.TheVariants as happened
 use Rattle.run_safety.specs.ViewOrder.{is_same}
-use Rattle.run_safety.specs.Group.{member, Reply, members_of, Origin, Record, In, Put, Begins, Note, Based, Asked, Told, Line, Kept, Noted, kept}
+use Rattle.run_safety.specs.Group.{member, Reply, members_of, Origin, In, Put, Based, Asked, Told, Line, Kept, Noted, kept}
 use Rattle.run_safety.specs.GroupLists as lists
 use Rattle.run_safety.specs.Bases as bases
-use Rattle.run_safety.specs.Past.{History, records_of, Within, EachRecord, view_now, puts_of, base_of, state_now, fold_from}
-use Rattle.run_safety.specs.Sight.{inc_in, view_or_none, told_in, lines_at, lines_with, lines_of}
+use Rattle.run_safety.specs.Past.{History, records_of, Within, view_now, puts_of, base_of, fold_from}
+use Rattle.run_safety.specs.Sight.{inc_in, view_or_none, lines_at, lines_of}
 use Rattle.run_safety.specs.SafeLists.{Each, NextPlace, Fitting}
-use Rattle.run_safety.specs.Tallies.{IsTallied}
 use Rattle.run_safety.specs.Requests.{carried, Meets}
 use Rattle.run_safety.proofs.Past.{member_reply, reply_member}
 use Rattle.run_safety.proofs.Tests.{any_has, has_any}
 use Rattle.step_refinement.proofs.Acks.{has_member}
-use Rattle.run_laws.specs.seen_runs.Seen.{SameSeen, LeavesTogether, lives, marked, CutFrom, BaseSeenAt, BaseSeen, SameBases, SameEntry, TallySeen, WasTold, from_of, is_from, RisesSeen}
+use Rattle.run_laws.specs.seen_runs.Seen.{SameSeen, LeavesTogether, lives, marked, BaseSeenAt, BaseSeen, SameBases, SameEntry, TallySeen, WasTold, from_of, is_from, RisesSeen}
 use Rattle.run_laws.proofs.seen_runs.LineRules as rules
-use Rattle.run_laws.proofs.seen_runs.LineRules.{bare, InSeen, OnceLine, PutSeen, BasedSeen, LineSeen, LinesSeen}
+use Rattle.run_laws.proofs.seen_runs.LineRules.{bare, InSeen, OnceLine, PutSeen, BasedSeen, LinesSeen}
 use Rattle.run_laws.proofs.seen_runs.BareLines.{kept_bare, had_bare, has_bare, bare_append, base_bare}
-use Rattle.run_laws.proofs.seen_runs.Sights.{cut, LineOf, Enters, Puts, Bases, Hears, Asks, Tells, Else, line_of, line_in, recorded, puts_same, base_same}
-use Rattle.run_laws.proofs.seen_runs.Froms.{line_kept, in_kept, in_recorded, from_line, line_from}
+use Rattle.run_laws.proofs.seen_runs.Sights.{cut, puts_same, base_same, told_line}
+use Rattle.run_laws.proofs.seen_runs.Froms.{in_kept, in_recorded, from_line, line_from}
+use Rattle.node_state.proofs.NameOrder.{text_self}
+use Rattle.client_callbacks.specs.declared.told.Why.{Why}
+use Rattle.run_safety.proofs.SightLaws.{line_seen, own_line, put_seen, line_recorded}
 
 -- ---- requests of one group
 
@@ -64,9 +62,6 @@ shown_before r now before all g =
     let xs : List Line = lines_at g (now ++ records_of before) r in
     drop_seen (bare xs) (bare (lines_of g (cut now before))) (subst LinesSeen (bare_append xs (lines_of g (cut now before))) (all g))
 
-shown_begins : (e : List Happened) (before : History) → AllShow (cut [] before) → AllShow before
-shown_begins e before all g = (all g).1
-
 -- what each record shows where its own lines and those before it do
 module _ (R : List Happened → Happened → Type 0) (by : (r : Happened) (now : List Happened) (before : History) → AllShow (cut (r ∷ now) before) → R (now ++ records_of before) r) where
   within : (now : List Happened) (before : History) → AllShow (cut now before) → Within (λ now before r. R (now ++ records_of before) r) now before × AllShow before
@@ -77,37 +72,12 @@ module _ (R : List Happened → Happened → Type 0) (by : (r : Happened) (now :
   each_shown [] all = tt
   each_shown (e ∷ before) all = let k = within e.records before all in (k.0, each_shown before k.1)
 
-own_name : (g : List ℕ) → bytes_eq g g ≡ true
-own_name g = (bytes_eq-Decides g g).1 refl
-
--- what was told is a line of each group
-told_now : (g : List ℕ) (p : ProviderId) (r : ℕ) (now : List Happened) (before : History) → (WasTold p r (records_of before) → (v : ViewId) × Has (Noted (Told p r v)) (lines_of g before)) → WasTold p r (now ++ records_of before) → (v : ViewId) × Has (Noted (Told p r v)) (lines_of g (cut now before))
-told_now g p r [] before old t = let k = old t in (k.0, inr k.1)
-told_now g p r (x ∷ now) before old (inr t) =
-    let k = told_now g p r now before old t in
-    (k.0, append_has_right (Noted (Told p r k.0)) (lines_at g (now ++ records_of before) x) (lines_of g (cut now before)) k.1)
-told_now g p r (happened.Told q k why ∷ now) before old (inl t) =
-    let o : Option ViewId = view_now q.node (now ++ records_of before) in
-    (view_or_none o, subst (λ (z : ProviderId × ℕ). Has (Noted (Told p r (view_or_none o))) (told_in z.0 z.1 o ++ lines_of g (cut now before))) (λ i. (sym t.0 i, sym t.1 i)) (inl refl))
-told_now g p r (happened.Up m j ∷ now) before old (inl t) = absurd t
-told_now g p r (happened.Down m ∷ now) before old (inl t) = absurd t
-told_now g p r (happened.Ring m net id ms x ∷ now) before old (inl t) = absurd t
-told_now g p r (happened.In m v ms ∷ now) before old (inl t) = absurd t
-told_now g p r (happened.Base m v k u len s ∷ now) before old (inl t) = absurd t
-told_now g p r (happened.Put m v k i e ∷ now) before old (inl t) = absurd t
-told_now g p r (happened.Heard q v k i e ms value ∷ now) before old (inl t) = absurd t
-told_now g p r (happened.Cast q proto phase vote value message ∷ now) before old (inl t) = absurd t
-told_now g p r (happened.Asked q k o x ∷ now) before old (inl t) = absurd t
-told_now g p r (happened.Noted m c v i y ∷ now) before old (inl t) = absurd t
-told_now g p r (happened.Refused m c f ∷ now) before old (inl t) = absurd t
-told_now g p r (happened.Shown m l ∷ now) before old (inl t) = absurd t
-
-told_all : (g : List ℕ) (p : ProviderId) (r : ℕ) (h : History) → WasTold p r (records_of h) → (v : ViewId) × Has (Noted (Told p r v)) (lines_of g h)
-told_all g p r [] t = absurd t
-told_all g p r (e ∷ before) t = let k = told_now g p r e.records before (told_all g p r before) t in (k.0, k.1)
-
-told_line : (g : List ℕ) (p : ProviderId) (r : ℕ) (now : List Happened) (before : History) → WasTold p r (now ++ records_of before) → (v : ViewId) × Has (Noted (Told p r v)) (lines_of g (cut now before))
-told_line g p r now before t = told_now g p r now before (told_all g p r before) t
+-- what was told was told after some records
+was_told : (p : ProviderId) (r : ℕ) (rs : List Happened) → WasTold p r rs → (why : Why) × (newer : List Happened) × (older : List Happened) × (rs ≡ newer ++ happened.Told p r why ∷ older)
+was_told p r [] t = absurd t
+was_told p r (x ∷ rs) (inr t) = let k = was_told p r rs t in (k.0, x ∷ k.1, k.2, ap (λ z. x ∷ z) k.3)
+was_told p r (happened.Told q k why ∷ rs) (inl t) = (why, [], rs, (λ i. happened.Told (t.0 i) (t.1 i) why ∷ rs))
+was_told p r (_ ∷ rs) (inl t) = absurd t
 
 module _ (now : List Happened) (before : History) where
   abbrev h : History
@@ -120,11 +90,11 @@ module _ (now : List Happened) (before : History) where
   L g = lines_of g h
 
   pub put_line : (n : ℕ) (v : ViewId) (g : List ℕ) (i : ℕ) (e : Entry) → AllShow (cut (happened.Put n v g i e ∷ now) before) → PutSeen (bare (L g)) n v i e
-  put_line n v g i e all = (subst (λ b. LinesSeen (bare ((if b then Kept (Put n v i e) ∷ [] else []) ++ L g))) (own_name g) (all g)).0
+  put_line n v g i e all = (subst (λ b. LinesSeen (bare ((if b then Kept (Put n v i e) ∷ [] else []) ++ L g))) (text_self g) (all g)).0
 
   base_line : (n : ℕ) (v : ViewId) (g : List ℕ) (u : ViewId) (len : ℕ) (s : GroupState) → AllShow (cut (happened.Base n v g u len s ∷ now) before) → BasedSeen (bare (L g)) n v (record { old = u; len = len; state = s })
   base_line n v g u len s all =
-      (subst (λ b. LinesSeen (bare ((if b then Noted (Based n v (record { old = u; len = len; state = s })) ∷ [] else []) ++ L g))) (own_name g) (all g)).0
+      (subst (λ b. LinesSeen (bare ((if b then Noted (Based n v (record { old = u; len = len; state = s })) ∷ [] else []) ++ L g))) (text_self g) (all g)).0
 
   pub in_line : (n : ℕ) (v : ViewId) (ms : List Member) → AllShow (cut (happened.In n v ms ∷ now) before) → (g : List ℕ) → InSeen (bare (L g)) n (inc_in n ms) v ms
   in_line n v ms all g = (all g).0
@@ -135,11 +105,10 @@ module _ (now : List Happened) (before : History) where
 
   based_line : (g : List ℕ) (n : ℕ) (v u : ViewId) (len : ℕ) (s : GroupState) → Has (happened.Base n v g u len s) rs → Has (Noted (Based n v (record { old = u; len = len; state = s }))) (L g)
   based_line g n v u len s k =
-      (line_in g (happened.Base n v g u len s) h k).among (Noted (Based n v (record { old = u; len = len; state = s }))) (subst (λ b. Has (Noted (Based n v (record { old = u; len = len; state = s }))) (if b then Noted (Based n v (record { old = u; len = len; state = s })) ∷ [] else [])) (sym (own_name g)) (inl refl))
+      let x : Line = Noted (Based n v (record { old = u; len = len; state = s })) in line_seen x g (happened.Base n v g u len s) (λ qs. own_line g x) h k
 
   pub put_there : (g : List ℕ) (n : ℕ) (v : ViewId) (i : ℕ) (e : Entry) → Has (happened.Put n v g i e) rs → Has (Put n v i e) (kept (bare (L g)))
-  put_there g n v i e k =
-      subst (Has (Put n v i e)) (sym (kept_bare (L g))) (line_kept (Put n v i e) (L g) ((line_in g (happened.Put n v g i e) h k).among (Kept (Put n v i e)) (subst (λ b. Has (Kept (Put n v i e)) (if b then Kept (Put n v i e) ∷ [] else [])) (sym (own_name g)) (inl refl))))
+  put_there g n v i e k = subst (Has (Put n v i e)) (sym (kept_bare (L g))) (put_seen n v g i e h k)
 
   puts_bare : (n : ℕ) (v : ViewId) (g : List ℕ) → lists.puts_of n v (kept (bare (L g))) ≡ puts_of n v g rs
   puts_bare n v g = ap (lists.puts_of n v) (kept_bare (L g)) ∙ puts_same n v g h
@@ -158,32 +127,7 @@ module _ (now : List Happened) (before : History) where
   -- a note of a base is a record's
   based_recorded : (g : List ℕ) (n : ℕ) (v u : ViewId) (len : ℕ) (s : GroupState) → Has (Noted (Based n v (record { old = u; len = len; state = s }))) (L g) → Has (happened.Base n v g u len s) rs
   based_recorded g n v u len s k =
-      let q = recorded g (Noted (Based n v (record { old = u; len = len; state = s }))) h (λ e. cc) k in
-      at q.of (lines_at g q.rs q.of) (line_of g q.rs q.of) q.there q.shows
-    where
-      at : {qs : List Happened} (r : Happened) (ls : List Line) → LineOf g qs r ls → Has r rs → Has (Noted (Based n v (record { old = u; len = len; state = s }))) ls → Has (happened.Base n v g u len s) rs
-      at _ _ (Enters m t ns) there (inl e) = absurd (cc)
-      at _ _ (Enters m t ns) there (inr z) = absurd z
-      at _ _ (Puts m t k i e q) there (inl c) = absurd (cc)
-      at _ _ (Puts m t k i e q) there (inr z) = absurd z
-      at _ _ (Bases m t k o l x q) there (inl e) =
-          let a : n ≡ m = cc in
-          let b : v ≡ t = cc in
-          let mine : Origin = record { old = u; len = len; state = s } in
-          let its : Origin = record { old = o; len = l; state = x } in
-          let z : mine ≡ its = cc in
-          let c : u ≡ o = ap (λ (k : Origin). k.old) z in
-          let d : len ≡ l = ap (λ (k : Origin). k.len) z in
-          let f : s ≡ x = ap (λ (k : Origin). k.state) z in
-          subst (λ (z : ℕ × ViewId × List ℕ × ViewId × ℕ × GroupState). Has (happened.Base z.0 z.1 z.2 z.3 z.4 z.5) rs) (λ i. (sym a i, sym b i, q i, sym c i, sym d i, sym f i)) there
-      at _ _ (Bases m t k o l x q) there (inr z) = absurd z
-      at _ _ (Hears p t k i e ns value q) there (inl c) = absurd (cc)
-      at _ _ (Hears p t k i e ns value q) there (inr z) = absurd z
-      at _ _ (Asks p r k x q) there (inl e) = absurd (cc)
-      at _ _ (Asks p r k x q) there (inr z) = absurd z
-      at _ _ (Tells p r why t q) there (inl e) = absurd (cc)
-      at _ _ (Tells p r why t q) there (inr z) = absurd z
-      at _ _ (Else r silent) there z = absurd z
+      line_recorded g (Noted (Based n v (record { old = u; len = len; state = s }))) (happened.Base n v g u len s) refl h k
 
   -- who lives by the answers lives by the records
   live_same : (g : List ℕ) (v u : ViewId) (ms : List Member) (replies : List Reply) → ms ≡ members_of replies → ((r : Reply) → Has r replies → lists.From (kept (bare (L g))) r.node r.inc v r.view) → (p : ProviderId) → bases.is_live replies u p ≡ lives rs v ms u p
@@ -255,35 +199,11 @@ module _ (now : List Happened) (before : History) where
 
   -- ---- requests
 
-  asked_recorded : (g : List ℕ) (p : ProviderId) (r : ℕ) (x : Proposal) → Has (Noted (Asked p r x)) (L g) → Has (happened.Asked p r g x) rs
-  asked_recorded g p r x k =
-      let q = recorded g (Noted (Asked p r x)) h (λ e. cc) k in
-      at q.of (lines_at g q.rs q.of) (line_of g q.rs q.of) q.there q.shows
-    where
-      at : {qs : List Happened} (y : Happened) (ls : List Line) → LineOf g qs y ls → Has y rs → Has (Noted (Asked p r x)) ls → Has (happened.Asked p r g x) rs
-      at _ _ (Enters m t ns) there (inl e) = absurd (cc)
-      at _ _ (Enters m t ns) there (inr z) = absurd z
-      at _ _ (Puts m t k i e q) there (inl c) = absurd (cc)
-      at _ _ (Puts m t k i e q) there (inr z) = absurd z
-      at _ _ (Bases m t k o l s q) there (inl e) = absurd (cc)
-      at _ _ (Bases m t k o l s q) there (inr z) = absurd z
-      at _ _ (Hears o t k i e ns value q) there (inl c) = absurd (cc)
-      at _ _ (Hears o t k i e ns value q) there (inr z) = absurd z
-      at _ _ (Asks o s k y q) there (inl e) =
-          let a : p ≡ o = cc in
-          let b : r ≡ s = cc in
-          let c : x ≡ y = cc in
-          subst (λ (z : ProviderId × ℕ × List ℕ × Proposal). Has (happened.Asked z.0 z.1 z.2 z.3) rs) (λ i. (sym a i, sym b i, q i, sym c i)) there
-      at _ _ (Asks o s k y q) there (inr z) = absurd z
-      at _ _ (Tells o s why t q) there (inl e) = absurd (cc)
-      at _ _ (Tells o s why t q) there (inr z) = absurd z
-      at _ _ (Else y silent) there z = absurd z
-
   once_shown : (n : ℕ) (v : ViewId) (g : List ℕ) (i : ℕ) (e : Entry) {p : ProviderId} {r : ℕ} → OnceLine (bare (L g)) n e p r → BeginsThere rs n g e p r
   once_shown n v g i e {p = p} {r = r} q =
       record {
-        asked = (q.asked.0, asked_recorded g p r q.asked.0 (had_bare (Noted (Asked p r q.asked.0)) (L g) q.asked.1), q.asked.2);
-        untold = λ t. let k = told_line g p r now before t in q.untold k.0 (has_bare (Told p r k.0) (L g) tt k.1);
+        asked = (q.asked.0, line_recorded g (Noted (Asked p r q.asked.0)) (happened.Asked p r g q.asked.0) refl h (had_bare (Noted (Asked p r q.asked.0)) (L g) q.asked.1), q.asked.2);
+        untold = λ t. let k = was_told p r rs t in let u : ViewId = view_or_none (view_now p.node k.2) in q.untold u (has_bare (Told p r u) (L g) tt (told_line g p r k.0 k.1 k.2 h k.3));
         once = λ u j f k c. q.once u j f (put_there g n u j f k) c;
       }
 
@@ -302,16 +222,6 @@ pub record GroupShown (rs : List Happened) (r : Happened) : Type 0 where
   pub once : OnceThere rs r
 
 shown : (r : Happened) (now : List Happened) (before : History) → AllShow (cut (r ∷ now) before) → GroupShown (now ++ records_of before) r
-shown (happened.Up n j) now before all = record { members = tt; rises = tt; together = tt; base = tt; bases_same = tt; place = tt; entry = tt; fitting = tt; tally = tt; once = tt }
-shown (happened.Down n) now before all = record { members = tt; rises = tt; together = tt; base = tt; bases_same = tt; place = tt; entry = tt; fitting = tt; tally = tt; once = tt }
-shown (happened.Ring n net id ms x) now before all = record { members = tt; rises = tt; together = tt; base = tt; bases_same = tt; place = tt; entry = tt; fitting = tt; tally = tt; once = tt }
-shown (happened.Heard p v g i e ms value) now before all = record { members = tt; rises = tt; together = tt; base = tt; bases_same = tt; place = tt; entry = tt; fitting = tt; tally = tt; once = tt }
-shown (happened.Cast p proto phase vote value message) now before all = record { members = tt; rises = tt; together = tt; base = tt; bases_same = tt; place = tt; entry = tt; fitting = tt; tally = tt; once = tt }
-shown (happened.Asked p r g x) now before all = record { members = tt; rises = tt; together = tt; base = tt; bases_same = tt; place = tt; entry = tt; fitting = tt; tally = tt; once = tt }
-shown (happened.Told p r why) now before all = record { members = tt; rises = tt; together = tt; base = tt; bases_same = tt; place = tt; entry = tt; fitting = tt; tally = tt; once = tt }
-shown (happened.Noted n c v i t) now before all = record { members = tt; rises = tt; together = tt; base = tt; bases_same = tt; place = tt; entry = tt; fitting = tt; tally = tt; once = tt }
-shown (happened.Refused n c f) now before all = record { members = tt; rises = tt; together = tt; base = tt; bases_same = tt; place = tt; entry = tt; fitting = tt; tally = tt; once = tt }
-shown (happened.Shown n l) now before all = record { members = tt; rises = tt; together = tt; base = tt; bases_same = tt; place = tt; entry = tt; fitting = tt; tally = tt; once = tt }
 shown (happened.Base n v g u len s) now before all =
     record { members = tt; rises = tt; together = tt; base = base_shown now before n v g u len s all; bases_same = tt; place = tt; entry = tt; fitting = tt; tally = tt; once = tt }
 shown (happened.Put n v g i e) now before all =
@@ -341,6 +251,7 @@ shown (happened.In n w ms) now before all =
       tally = tt;
       once = tt;
     }
+shown _ now before all = record { members = tt; rises = tt; together = tt; base = tt; bases_same = tt; place = tt; entry = tt; fitting = tt; tally = tt; once = tt }
 
 pub all_shown : (h : History) → AllShow h → Each GroupShown h
 all_shown h all = each_shown GroupShown shown h all

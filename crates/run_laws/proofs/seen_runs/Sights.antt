@@ -1,8 +1,7 @@
 -- What a group's lines say is what the run's records say.
-use Rattle.std.proofs.Common.{refl, ◌≡◌, ℕ, ◌⊎◌, ⊎_elim, inl, inr, sym, ◌∙◌, ap, subst, true, false, Bool, List, [], ◌∷◌, ◌++◌, Option, Some, None}
+use Rattle.std.proofs.Common.{refl, ◌≡◌, ℕ, ◌⊎◌, ⊎_elim, inl, inr, sym, ◌∙◌, ap, subst, true, false, Bool, List, [], ◌∷◌, ◌++◌, Option, None}
 use Rattle.std.specs.Prelude.{◌==◌, ◌&&◌, if◌then◌else◌}
 use Rattle.std.specs.Str.{bytes_eq}
-use Rattle.std.proofs.lemmas.Slice.Eq.{bytes_eq-Decides}
 use Rattle.rsct_packet.specs.declared.ids.Member.{Member}
 use Rattle.rsct_packet.specs.declared.ids.ProviderId.{ProviderId}
 use Rattle.rsct_packet.specs.declared.ids.ViewId.{ViewId}
@@ -16,13 +15,14 @@ use Rattle.proposal_core.specs.declared.group_state.GroupState.{GroupState}
 use Rattle.node_state.specs.declared.happened.Happened.{Happened}
 use Rattle.node_state.specs.declared.happened.Happened.TheVariants as happened
 use Rattle.run_safety.specs.ViewOrder.{is_same}
-use Rattle.run_safety.specs.Group.{Origin, Record, In, Put, Begins, Note, Based, Heard, Asked, Told, Line, Kept, Noted, kept}
+use Rattle.run_safety.specs.Group.{Record, In, Put, Begins, Based, Heard, Asked, Told, Line, Kept, Noted, kept}
 use Rattle.run_safety.specs.GroupLists as lists
 use Rattle.run_safety.specs.Past.{History, records_of, view_now, puts_of, puts_after, base_of, base_after}
 use Rattle.run_safety.specs.Sight.{inc_in, view_or_none, lines_at, lines_with, lines_of}
 use Rattle.run_safety.proofs.SightLaws.{kept_append}
 use Rattle.run_laws.specs.seen_runs.Seen.{from_after}
 use Rattle.run_laws.proofs.seen_runs.LineRules as rules
+use Rattle.node_state.proofs.NameOrder.{text_same, text_self}
 
 -- the records of an event that is going on, after those before it
 abbrev pub cut : List Happened → History → History
@@ -51,47 +51,35 @@ others g true true c e = e
 others g true false c e = refl
 others g false b c e = refl
 
-name_is : (h g : List ℕ) → bytes_eq h g ≡ true → h ≡ g
-name_is h g e = (bytes_eq-Decides h g).0 e
-
 pub line_of : (g : List ℕ) (rs : List Happened) (r : Happened) → LineOf g rs r (lines_at g rs r)
-line_of g rs (happened.Up m j) = Else (happened.Up m j) (record { puts = λ n v old. refl; base = λ n v old. refl; from = λ m j v old. refl; no_view = λ n v ms q. cc })
-line_of g rs (happened.Down m) = Else (happened.Down m) (record { puts = λ n v old. refl; base = λ n v old. refl; from = λ m j v old. refl; no_view = λ n v ms q. cc })
-line_of g rs (happened.Ring m net id ms x) = Else (happened.Ring m net id ms x) (record { puts = λ n v old. refl; base = λ n v old. refl; from = λ m j v old. refl; no_view = λ n v ms q. cc })
 line_of g rs (happened.In m u ms) = Enters m u ms
 line_of g rs (happened.Base m u h o len s) = by (bytes_eq h g) refl
   where
     by : (b : Bool) → bytes_eq h g ≡ b → LineOf g rs (happened.Base m u h o len s) (if b then Noted (Based m u (record { old = o; len = len; state = s })) ∷ [] else [])
-    by true e = Bases m u h o len s (name_is h g e)
+    by true e = Bases m u h o len s (text_same h g e)
     by false e = Else (happened.Base m u h o len s) (record { puts = λ n v old. refl; base = λ n v old. ap (λ b. if b then s else old) (others g (m == n) (same_view u v) (bytes_eq h g) e); from = λ m j v old. refl; no_view = λ n v ms q. cc })
 line_of g rs (happened.Put m u h i x) = by (bytes_eq h g) refl
   where
     by : (b : Bool) → bytes_eq h g ≡ b → LineOf g rs (happened.Put m u h i x) (if b then Kept (Put m u i x) ∷ [] else [])
-    by true e = Puts m u h i x (name_is h g e)
+    by true e = Puts m u h i x (text_same h g e)
     by false e = Else (happened.Put m u h i x) (record { puts = λ n v old. ap (λ b. if b then old ++ x ∷ [] else old) (others g (m == n) (same_view u v) (bytes_eq h g) e); base = λ n v old. refl; from = λ m j v old. refl; no_view = λ n v ms q. cc })
 line_of g rs (happened.Heard p u h i x ms value) = by (bytes_eq h g) refl
   where
     by : (b : Bool) → bytes_eq h g ≡ b → LineOf g rs (happened.Heard p u h i x ms value) (if b then Noted (Heard p u i x ms value) ∷ [] else [])
-    by true e = Hears p u h i x ms value (name_is h g e)
+    by true e = Hears p u h i x ms value (text_same h g e)
     by false e = Else (happened.Heard p u h i x ms value) (record { puts = λ n v old. refl; base = λ n v old. refl; from = λ m j v old. refl; no_view = λ n v ms q. cc })
-line_of g rs (happened.Cast p proto phase vote value message) = Else (happened.Cast p proto phase vote value message) (record { puts = λ n v old. refl; base = λ n v old. refl; from = λ m j v old. refl; no_view = λ n v ms q. cc })
 line_of g rs (happened.Asked p r h x) = by (bytes_eq h g) refl
   where
     by : (b : Bool) → bytes_eq h g ≡ b → LineOf g rs (happened.Asked p r h x) (if b then Noted (Asked p r x) ∷ [] else [])
-    by true e = Asks p r h x (name_is h g e)
+    by true e = Asks p r h x (text_same h g e)
     by false e = Else (happened.Asked p r h x) (record { puts = λ n v old. refl; base = λ n v old. refl; from = λ m j v old. refl; no_view = λ n v ms q. cc })
 line_of g rs (happened.Told p r why) = Tells p r why (view_or_none (view_now p.node rs)) refl
-line_of g rs (happened.Noted m c u i t) = Else (happened.Noted m c u i t) (record { puts = λ n v old. refl; base = λ n v old. refl; from = λ m j v old. refl; no_view = λ n v ms q. cc })
-line_of g rs (happened.Refused m c f) = Else (happened.Refused m c f) (record { puts = λ n v old. refl; base = λ n v old. refl; from = λ m j v old. refl; no_view = λ n v ms q. cc })
-line_of g rs (happened.Shown m l) = Else (happened.Shown m l) (record { puts = λ n v old. refl; base = λ n v old. refl; from = λ m j v old. refl; no_view = λ n v ms q. cc })
+line_of g rs r = Else r (record { puts = λ n v old. refl; base = λ n v old. refl; from = λ m j v old. refl; no_view = λ n v ms q. cc })
 
 -- ---- lists and bases
 
-own_name : (g : List ℕ) → bytes_eq g g ≡ true
-own_name g = (bytes_eq-Decides g g).1 refl
-
 with_name : (a b : Bool) (h g : List ℕ) → h ≡ g → (a && (b && bytes_eq h g)) ≡ (a && b)
-with_name a b h g e = ap (λ z. a && (b && bytes_eq z g)) e ∙ by a b (bytes_eq g g) (own_name g)
+with_name a b h g e = ap (λ z. a && (b && bytes_eq z g)) e ∙ by a b (bytes_eq g g) (text_self g)
   where
     by : (a b c : Bool) → c ≡ true → (a && (b && c)) ≡ (a && b)
     by true true c q = q
@@ -100,16 +88,12 @@ with_name a b h g e = ap (λ z. a && (b && bytes_eq z g)) e ∙ by a b (bytes_eq
 
 puts_line : (n : ℕ) (v : ViewId) (g : List ℕ) (rs : List Happened) (r : Happened) (ls : List Line) → LineOf g rs r ls → (tr : List Record) (old : List Entry) → lists.puts_of n v tr ≡ old → lists.puts_of n v (kept ls ++ tr) ≡ puts_after n v g r old
 unfolding is_same
-puts_line n v g rs _ _ (Enters m u ms) tr old h = h
 puts_line n v g rs _ _ (Puts m u k i e q) tr old h = by (m == n && same_view u v) ∙ ap (λ b. if b then old ++ e ∷ [] else old) (sym (with_name (m == n) (same_view u v) k g q))
   where
     by : (b : Bool) → (if b then lists.puts_of n v tr ++ e ∷ [] else lists.puts_of n v tr) ≡ (if b then old ++ e ∷ [] else old)
     by b = ap (λ z. if b then z ++ e ∷ [] else z) h
-puts_line n v g rs _ _ (Bases m u k o len s q) tr old h = h
-puts_line n v g rs _ _ (Hears p u k i e ms value q) tr old h = h
-puts_line n v g rs _ _ (Asks p r k x q) tr old h = h
-puts_line n v g rs _ _ (Tells p r why u q) tr old h = h
 puts_line n v g rs r _ (Else _ silent) tr old h = h ∙ sym (silent.puts n v old)
+puts_line n v g rs _ _ _ tr old h = h
 
 puts_now : (n : ℕ) (v : ViewId) (g : List ℕ) (now : List Happened) (before : History) (all : List Line) → lists.puts_of n v (kept all) ≡ puts_of n v g (records_of before) → lists.puts_of n v (kept (lines_with g now before all)) ≡ puts_of n v g (now ++ records_of before)
 puts_now n v g [] before all h = h
@@ -123,16 +107,12 @@ puts_same n v g (e ∷ before) = puts_now n v g e.records before (lines_of g bef
 
 base_line : (n : ℕ) (v : ViewId) (g : List ℕ) (rs : List Happened) (r : Happened) (ls : List Line) → LineOf g rs r ls → (all : List Line) (old : GroupState) → rules.base_in n v all ≡ old → rules.base_in n v (ls ++ all) ≡ base_after n v g r old
 unfolding is_same
-base_line n v g rs _ _ (Enters m u ms) all old h = h
-base_line n v g rs _ _ (Puts m u k i e q) all old h = h
 base_line n v g rs _ _ (Bases m u k o len s q) all old h = by (m == n && same_view u v) ∙ ap (λ b. if b then s else old) (sym (with_name (m == n) (same_view u v) k g q))
   where
     by : (b : Bool) → (if b then s else rules.base_in n v all) ≡ (if b then s else old)
     by b = ap (λ z. if b then s else z) h
-base_line n v g rs _ _ (Hears p u k i e ms value q) all old h = h
-base_line n v g rs _ _ (Asks p r k x q) all old h = h
-base_line n v g rs _ _ (Tells p r why u q) all old h = h
 base_line n v g rs r _ (Else _ silent) all old h = h ∙ sym (silent.base n v old)
+base_line n v g rs _ _ _ all old h = h
 
 base_now : (n : ℕ) (v : ViewId) (g : List ℕ) (now : List Happened) (before : History) (all : List Line) → rules.base_in n v all ≡ base_of n v g (records_of before) → rules.base_in n v (lines_with g now before all) ≡ base_of n v g (now ++ records_of before)
 base_now n v g [] before all h = h
@@ -144,29 +124,34 @@ pub base_same : (n : ℕ) (v : ViewId) (g : List ℕ) (h : History) → rules.ba
 base_same n v g [] = refl
 base_same n v g (e ∷ before) = base_now n v g e.records before (lines_of g before) (base_same n v g before)
 
--- ---- a record's line is among the lines, and a line is a record's
+-- ---- a line of a record, after those before it, is one of the group's
 
--- the lines of a record are among those of the run
-pub record Lines (g : List ℕ) (h : History) (r : Happened) : Type 0 where
-  pub rs : List Happened
-  pub among : (y : Line) → Has y (lines_at g rs r) → Has y (lines_of g h)
+module _ (g : List ℕ) (y : Line) where
+  -- one of these records has the line
+  abbrev AtSome : List Happened → Type 0
+  AtSome [] = ⊥
+  AtSome (r ∷ rs) = Has y (lines_at g rs r) ⊎ AtSome rs
 
-line_in_now : (g : List ℕ) (r : Happened) (now : List Happened) (before : History) → Has r now → Lines g (cut now before) r
-line_in_now g r [] before h = absurd h
-line_in_now g r (x ∷ now) before (inl e) =
-    record { rs = now ++ records_of before; among = λ y k. append_has_left y (lines_at g (now ++ records_of before) x) (lines_with g now before (lines_of g before)) (subst (λ z. Has y (lines_at g (now ++ records_of before) z)) e k) }
-line_in_now g r (x ∷ now) before (inr h) =
-    let k = line_in_now g r now before h in
-    record { rs = k.rs; among = λ y q. append_has_right y (lines_at g (now ++ records_of before) x) (lines_with g now before (lines_of g before)) (k.among y q) }
+  at_split : (newer older : List Happened) (r : Happened) → Has y (lines_at g older r) → AtSome (newer ++ r ∷ older)
+  at_split [] older r h = inl h
+  at_split (x ∷ newer) older r h = inr (at_split newer older r h)
 
-older_line : (g : List ℕ) (y : Line) (now : List Happened) (before : History) → Has y (lines_of g before) → Has y (lines_of g (cut now before))
-older_line g y [] before h = inr h
-older_line g y (x ∷ now) before h = append_has_right y (lines_at g (now ++ records_of before) x) (lines_with g now before (lines_of g before)) (older_line g y now before h)
+  line_now : (now : List Happened) (before : History) → (AtSome (records_of before) → Has y (lines_of g before)) → AtSome (now ++ records_of before) → Has y (lines_of g (cut now before))
+  line_now [] before old h = inr (old h)
+  line_now (r ∷ now) before old (inl h) = append_has_left y (lines_at g (now ++ records_of before) r) (lines_of g (cut now before)) h
+  line_now (r ∷ now) before old (inr h) = append_has_right y (lines_at g (now ++ records_of before) r) (lines_of g (cut now before)) (line_now now before old h)
 
-pub line_in : (g : List ℕ) (r : Happened) (h : History) → Has r (records_of h) → Lines g h r
-line_in g r [] k = absurd k
-line_in g r (e ∷ before) k =
-    ⊎_elim (λ (a : Has r e.records). let q = line_in_now g r e.records before a in record { rs = q.rs; among = q.among }) (λ (a : Has r (records_of before)). let q = line_in g r before a in record { rs = q.rs; among = λ y z. older_line g y e.records before (q.among y z) }) (has_append r e.records (records_of before) k)
+  line_of_some : (h : History) → AtSome (records_of h) → Has y (lines_of g h)
+  line_of_some [] k = absurd k
+  line_of_some (e ∷ before) k = line_now e.records before (line_of_some before) k
+
+-- what was told is a line
+pub told_line : (g : List ℕ) (p : ProviderId) (r : ℕ) (why : Why) (newer older : List Happened) (h : History) → records_of h ≡ newer ++ happened.Told p r why ∷ older → Has (Noted (Told p r (view_or_none (view_now p.node older)))) (lines_of g h)
+told_line g p r why newer older h moment =
+    let y : Line = Noted (Told p r (view_or_none (view_now p.node older))) in
+    line_of_some g y h (subst (AtSome g y) (sym moment) (at_split g y newer older (happened.Told p r why) (inl refl)))
+
+-- ---- a line is a record's
 
 pub record Recorded (g : List ℕ) (h : History) (y : Line) : Type 0 where
   pub rs : List Happened
@@ -195,12 +180,7 @@ recorded g y (e ∷ before) other k = let q = recorded_now g y e.records before 
 -- a record that is no entering
 last_line : (n : ℕ) (g : List ℕ) (rs : List Happened) (r : Happened) (ls : List Line) → LineOf g rs r ls → ((v : ViewId) (m : ℕ) (ms : List Member) → happened.In m v ms ≡ r → ⊥) → (tr : List Record) → rules.last_in n (kept ls ++ tr) ≡ rules.last_in n tr
 last_line n g rs _ _ (Enters m u ms) other tr = absurd (other u m ms refl)
-last_line n g rs _ _ (Puts m u k i e q) other tr = refl
-last_line n g rs _ _ (Bases m u k o len s q) other tr = refl
-last_line n g rs _ _ (Hears p u k i e ms value q) other tr = refl
-last_line n g rs _ _ (Asks p r k x q) other tr = refl
-last_line n g rs _ _ (Tells p r why u q) other tr = refl
-last_line n g rs r _ (Else _ silent) other tr = refl
+last_line n g rs _ _ _ other tr = refl
 
 pub last_same : (n : ℕ) (r : Happened) (now : List Happened) (before : History) → ((v : ViewId) (m : ℕ) (ms : List Member) → happened.In m v ms ≡ r → ⊥) → rules.last_in n (kept (lines_of [] (cut (r ∷ now) before))) ≡ rules.last_in n (kept (lines_of [] (cut now before)))
 last_same n r now before other =

@@ -18,9 +18,6 @@ use Rattle.run_safety.specs.Past.{History, records_of, Within, view_now, inc_now
 use Rattle.run_safety.specs.SafeLists.{is_later}
 use Rattle.run_laws.proofs.seen_runs.Nodes.{NodeShown}
 
-abbrev pub ShownIn : History → List Happened → Happened → Type 0
-ShownIn before now r = NodeShown (now ++ records_of before) r
-
 abbrev pub AllIn : List Happened → History → Type 0
 AllIn now before = Within (λ now before r. NodeShown (now ++ records_of before) r) now before
 

@@ -1,38 +1,29 @@
 -- What a step records: no node starts or stops, and what is entered, put, or taken as a base is the node's own.
-use Rattle.std.proofs.Common.{refl, ◌≡◌, ℕ, ◌⊎◌, ⊎_elim, inl, inr, sym, ◌∙◌, ap, subst, true, false, Bool, List, [], ◌∷◌, ◌++◌, Option, Some, None}
-use Rattle.std.specs.Prelude.{fold, map, flat_map, not, ◌&&◌}
+use Rattle.std.proofs.Common.{refl, ◌≡◌, ℕ, ◌⊎◌, ⊎_elim, inl, inr, sym, ◌∙◌, ap, subst, List, [], ◌∷◌, ◌++◌, Option}
+use Rattle.std.specs.Prelude.{map, flat_map}
 use Rattle.view_state.specs.Views.{views_entered}
-use Rattle.std.specs.Str.{bytes_eq}
-use Rattle.rsct_packet.specs.declared.ids.ProviderId.{ProviderId}
-use Rattle.rsct_packet.specs.declared.ids.ProtoId.{ProtoId}
 use Rattle.rsct_packet.specs.declared.ids.ViewId.{ViewId}
 use Rattle.rsct_packet.specs.Search.{Has}
 use Rattle.rsct_packet.proofs.HasLaws.{has_append, has_map}
 use Rattle.proposal_core.specs.declared.entry.Entry.{Entry}
-use Rattle.proposal_core.specs.Fold.{present}
-use Rattle.proposal_core.specs.Lists.{state_in}
-use Rattle.proposal_core.specs.declared.group_state.GroupState.{GroupState}
 use Rattle.client_callbacks.specs.declared.ballot.Filled.{Filled}
-use Rattle.client_callbacks.specs.declared.told.Why.TheVariants.{Dissolved}
-use Rattle.client_callbacks.specs.Ballots.{BallotView}
-use Rattle.session_state.specs.declared.state.Provider.{Provider}
-use Rattle.session_state.specs.declared.casts.Cast.{Cast}
 use Rattle.session_state.specs.HandOn.{casts_out}
-use Rattle.session_state.specs.State.{provider_of, outstanding}
 use Rattle.view_state.specs.declared.install.Base.{Base}
 use Rattle.view_state.specs.declared.install.Install.{Install}
-use Rattle.view_state.specs.Bases.{bases_of, base_named}
+use Rattle.view_state.specs.Bases.{bases_of}
 use Rattle.node_state.specs.declared.group.GroupRow.{GroupRow}
 use Rattle.node_state.specs.declared.happened.Happened.{Happened}
 use Rattle.node_state.specs.declared.happened.Happened.TheVariants as happened
 use Rattle.node_state.specs.declared.state.Core.{Core}
 use Rattle.node_state.specs.State.{recorded, recorded_all, with_sessions, with_row, held_rows, state_of, len_of}
-use Rattle.node_state.specs.HandOn.{Answering, heard, cast_records, cast_record}
+use Rattle.node_state.specs.HandOn.{Answering, heard}
 use Rattle.node_state.specs.Leading.{put}
-use Rattle.node_state.specs.Applying.{base_record, view_entered, is_in_base, number_of, dissolved, dissolved_if, group_dissolved, sides_dissolved}
+use Rattle.node_state.specs.Applying.{base_record, view_entered, sides_dissolved}
 use Rattle.node_state.specs.Step.{NodeEvent, at_work, stepped}
-use Rattle.row_laws.specs.hearing.Changes.{Same, Inner, entering, voting, handing, Does, Stays, Then, Records, Hands, Loses, Joins, Votes, Enters}
+use Rattle.row_laws.specs.hearing.Changes.{Same, Inner, entering, handing, Does, Stays, Then, Records, Hands, Loses, Joins, Votes, Enters}
 use Rattle.row_laws.proofs.hearing.Viewing.{sides_stand}
+use Rattle.row_laws.proofs.hearing.Added.{sides_add}
+use Rattle.provider_laws.proofs.single_casts.Adding.{Voiced, all_voiced}
 
 -- of node n
 abbrev pub Mine : ℕ → Happened → Type 0
@@ -46,17 +37,10 @@ Mine n _ = Unit {0}
 inner_mine : (n : ℕ) (r : Happened) → Inner r → Mine n r
 inner_mine n (happened.Up m j) a = a
 inner_mine n (happened.Down m) a = a
-inner_mine n (happened.Ring m k i ms x) a = tt
 inner_mine n (happened.In m v ms) a = absurd a
 inner_mine n (happened.Base m v g u len s) a = absurd a
 inner_mine n (happened.Put m v g i e) a = absurd a
-inner_mine n (happened.Heard p v g i e ms value) a = tt
-inner_mine n (happened.Cast p proto phase vote value message) a = tt
-inner_mine n (happened.Asked p r g x) a = tt
-inner_mine n (happened.Told p r why) a = tt
-inner_mine n (happened.Noted m c v i told) a = tt
-inner_mine n (happened.Refused m c fault) a = tt
-inner_mine n (happened.Shown m line) a = tt
+inner_mine n _ a = tt
 
 module _ (n : ℕ) where
   -- what is recorded since is the node's own
@@ -72,27 +56,9 @@ module _ (n : ℕ) where
   more_append : (xs ys : List Happened) → ((r : Happened) → Has r ys → Mine n r) → More xs (xs ++ ys)
   more_append xs ys all r h = ⊎_elim (λ (k : Has r xs). inl k) (λ (k : Has r ys). inr (all r k)) (has_append r xs ys h)
 
-  more_fold : {X : Type 0} (f : Core → X → Core) → ((c : Core) (x : X) → More c.records (f c x).records) → (xs : List X) (c : Core) → More c.records (fold f c xs).records
-  more_fold f one [] c = more_same c.records c.records refl
-  more_fold f one (x ∷ xs) c = more_then c.records (f c x).records (fold f (f c x) xs).records (one c x) (more_fold f one xs (f c x))
-
-  dissolved_more : (c : Core) (h : List ℕ) (old : ViewId) (b : Option Base) (o : Option Provider) → More c.records (dissolved_if c h old b o).records
-  unfolding dissolved_if dissolved recorded with_sessions
-  dissolved_more c h old b None = more_same c.records c.records refl
-  dissolved_more c h old b (Some x) = by (x.takes_part && bytes_eq x.group h && not (is_in_base old x.p b))
-    where
-      by : (t : Bool) → More c.records (elim t as (λ _. Core) [ true ↦ dissolved c x.p (number_of (outstanding c.sessions x.p)) | false ↦ c ]).records
-      by true = more_append c.records (happened.Told x.p (number_of (outstanding c.sessions x.p)) Dissolved ∷ []) (λ r h. told r h)
-        where
-          told : (r : Happened) → Has r (happened.Told x.p (number_of (outstanding c.sessions x.p)) Dissolved ∷ []) → Mine n r
-          told r (inl e) = subst (Mine n) (sym e) tt
-          told r (inr z) = absurd z
-      by false = more_same c.records c.records refl
-
   sides_more : (rows : List GroupRow) (old : ViewId) (bs : List Base) (c : Core) → More c.records (sides_dissolved c rows old bs).records
-  unfolding sides_dissolved group_dissolved
-  sides_more rows old bs c =
-      more_fold (group_dissolved old bs) (λ d row. more_fold (λ (u : Core) p. dissolved_if u row.name old (base_named bs row.name) (provider_of u.sessions p)) (λ u p. dissolved_more u row.name old (base_named bs row.name) (provider_of u.sessions p)) (present (state_in row.list)) d) rows c
+  sides_more rows old bs c r h =
+      let a = sides_add c rows old bs in more_append c.records a.more (λ q k. inner_mine n q (a.all q k)) r (subst (Has r) a.is h)
 
   enters_more : (s : Core) (i : Install) → s.views.me ≡ n → More s.records (entering s i).records
   unfolding view_entered recorded_all base_record views_entered
@@ -112,29 +78,15 @@ module _ (n : ℕ) where
       own r (inl e) = subst (Mine n) (sym e) me
       own r (inr h) = let k = has_map (base_record d0) r bs h in subst (Mine n) (sym k.2) me
 
-  casts_mine : (c : Core) (h : List ℕ) (i : ℕ) (e : Entry) (after : GroupState) (xs : List Cast) (r : Happened) → Has r (flat_map (heard c h i e after) xs) → Mine n r
-  unfolding heard cast_record cast_records
-  casts_mine c h i e after [] r k = absurd k
-  casts_mine c h i e after (x ∷ xs) r k =
-      ⊎_elim (λ (a : Has r (heard c h i e after x)). one x r a) (λ (a : Has r (flat_map (heard c h i e after) xs)). casts_mine c h i e after xs r a) (has_append r (heard c h i e after x) (flat_map (heard c h i e after) xs) k)
-    where
-      filled : (p : ProviderId) (proto : ProtoId) (phase : ℕ) (o : Option Filled) (r : Happened) → Has r (cast_record p proto phase o) → Mine n r
-      filled p proto phase None r a = absurd a
-      filled p proto phase (Some b) r (inl q) = subst (Mine n) (sym q) tt
-      filled p proto phase (Some b) r (inr z) = absurd z
-
-      cast : (p : ProviderId) (o : Option (ProtoId × ℕ × BallotView)) (r : Happened) → Has r (cast_records p o) → Mine n r
-      cast p None r a = absurd a
-      cast p (Some c) r a = filled p c.0 c.1 (c.2).filled r a
-
-      one : (x : Cast) (r : Happened) → Has r (heard c h i e after x) → Mine n r
-      one x r (inl q) = subst (Mine n) (sym q) tt
-      one x r (inr a) = cast x.p x.cast r a
+  voiced_mine : (r : Happened) → Voiced r → Mine n r
+  voiced_mine (happened.Heard p v g i e ms value) a = tt
+  voiced_mine (happened.Cast p proto phase vote value message) a = tt
+  voiced_mine _ a = absurd a
 
   hands_more : (s c : Core) (h : List ℕ) (e : Entry) (bs : List (Option Filled)) → s.views.me ≡ n → Same (put s h e) c → More s.records (handing c h (len_of s h) (state_of s h) (state_of (put s h e) h) e bs).records
-  unfolding recorded_all with_sessions put recorded with_row
+  unfolding recorded_all with_sessions put recorded with_row heard
   hands_more s c h e bs me same =
-      more_then s.records c.records (c.records ++ told) (λ r k. put_more r (subst (Has r) same.records k)) (more_append c.records told (casts_mine c h (len_of s h) e (state_of (put s h e) h) (casts_out c.sessions h (state_of s h) (state_of (put s h e) h) e bs)))
+      more_then s.records c.records (c.records ++ told) (λ r k. put_more r (subst (Has r) same.records k)) (more_append c.records told (λ r k. voiced_mine r (all_voiced c.views.view h (len_of s h) e (state_of (put s h e) h) (casts_out c.sessions h (state_of s h) (state_of (put s h e) h) e bs) r k)))
     where
       told : List Happened
       told = flat_map (heard c h (len_of s h) e (state_of (put s h e) h)) (casts_out c.sessions h (state_of s h) (state_of (put s h e) h) e bs)

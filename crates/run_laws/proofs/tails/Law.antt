@@ -1,5 +1,5 @@
 -- A list starts at a stable place: one that every member of the view has put.
-use Rattle.std.proofs.Common.{◌≤◌, ◌≡◌, ◌≢◌, ◌⊎◌, ℕ, List, length, Some, true, sym, ap, ◌∙◌, subst, inl, inr, arith}
+use Rattle.std.proofs.Common.{◌≤◌, ◌≡◌, ◌≢◌, ℕ, List, length, Some, true, sym, ap, ◌∙◌, subst, inl, inr, arith}
 use Rattle.rsct_packet.specs.declared.ids.Member.{Member}
 use Rattle.rsct_packet.specs.Search.{Has}
 use Rattle.node_state.specs.declared.config.Config.{Config}
@@ -7,7 +7,6 @@ use Rattle.node_state.specs.declared.state.Core.{Core}
 use Rattle.node_state.specs.State.{row_of, acked_from, leader_in, leads_in, leads}
 use Rattle.node_state.specs.Step.{at_work}
 use Rattle.run_safety.specs.Past.{puts_of, records_of}
-use Rattle.run_safety.specs.Group as group
 use Rattle.run_safety.specs.Group.{kept}
 use Rattle.run_safety.specs.GroupLists as lists
 use Rattle.run_safety.proofs.Lives.{always_stable}
@@ -17,7 +16,7 @@ use Rattle.step_refinement.specs.Runs.{Reached}
 use Rattle.step_refinement.proofs.RunLaw.{reached_rests}
 use Rattle.step_refinement.proofs.Begins.{begin_tied}
 use Rattle.step_refinement.proofs.Leads.{leads_known}
-use Rattle.run_laws.specs.tails.Tails.{start_of, TailsHeld, EveryTailIsHeld}
+use Rattle.run_laws.specs.tails.Tails.{start_of, EveryTailIsHeld}
 use Rattle.run_laws.proofs.seen_runs.Sights.{puts_same}
 
 module _ (c : Config) (w : Scene) (k : Reached c w) (n : ℕ) (s : Core) (up : w.cores n ≡ Some s) (g : List ℕ) where

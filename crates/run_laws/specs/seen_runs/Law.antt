@@ -1,5 +1,5 @@
 -- Of every scene that events lead to.
-use Rattle.std.specs.Prelude.{ℕ, ◌≡◌}
+use Rattle.std.specs.Prelude.{ℕ}
 use Rattle.node_state.specs.declared.config.Config.{Config}
 use Rattle.run_safety.specs.Past.{records_of}
 use Rattle.run_safety.specs.SafeHeard.{FoldHeard}
