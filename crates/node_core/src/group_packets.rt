@@ -1,5 +1,5 @@
 //! The packets of the groups of a view: each is used in its view alone.
-ghost use Rattle.std.specs.Prelude.{◌≡◌, OnOk, option_copied};
+ghost use Rattle.std.specs.Prelude.{◌≡◌, IfOk, OnOk, option_copied};
 ghost use Rattle.session_clients.specs.Clients.{KeepsScripts};
 ghost use Rattle.rsct_packet.specs.Text.{IsName};
 ghost use Rattle.rsct_packet.specs.Ids.{is_member};
@@ -47,6 +47,14 @@ fn is_used(core: &Core, packet: &PacketRef<'_>, view: ViewId) -> bool
         && is_member(core.views.members.as_slice(), packet.from, packet.inc)
 }
 
+/// The name of a packet's group.
+fn name_of(alloc: Global, group: &GroupRef<'_>) -> Result<Name, NoMemory>
+    requires { IsName group.now.name }
+    ensures { IfOk result (λ n. n ≡ group.now.name) }
+{
+    Name::of_name(alloc, group.name())
+}
+
 /// LOOKUP.
 #[tactic(auto, unfolding(node_state::specs::Step::used_if), using(node_groups::proofs::KeepLaws::keeps_itself))]
 pub fn take_lookup_packet(
@@ -64,7 +72,7 @@ pub fn take_lookup_packet(
     if !is_used(core, packet, group.view()) {
         return Ok(());
     }
-    let name = Name::of_name(alloc, group.name())?;
+    let name = name_of(alloc, group)?;
     take_lookup(core, alloc, packet.from, &name)
 }
 
@@ -87,7 +95,7 @@ pub fn take_name_packet<C: Callbacks>(
     if !is_used(core, packet, leader.group.view()) {
         return Ok(());
     }
-    let name = Name::of_name(alloc, leader.group.name())?;
+    let name = name_of(alloc, &leader.group)?;
     take_name(core, clients, alloc, &name, leader.leader)
 }
 
@@ -116,7 +124,7 @@ pub fn take_request_packet<C: Callbacks>(
     let asked = Request {
         p: body.provider,
         r: body.request,
-        group: Name::of_name(alloc, body.group.name())?,
+        group: name_of(alloc, &body.group)?,
         phases: body.phases,
         proposal: body.proposal.own(alloc)?,
     };
@@ -166,7 +174,7 @@ pub fn take_entry_packet<C: Callbacks>(
     if !is_used(core, packet, body.group.view()) {
         return Ok(());
     }
-    let name = Name::of_name(alloc, body.group.name())?;
+    let name = name_of(alloc, &body.group)?;
     let own = body.entry.own(alloc)?;
     let placed = PlacedEntry {
         group: &name,
@@ -194,7 +202,7 @@ pub fn take_ack_packet(
     if !is_used(core, packet, ack.group.view()) {
         return Ok(());
     }
-    let name = Name::of_name(alloc, ack.group.name())?;
+    let name = name_of(alloc, &ack.group)?;
     take_ack(core, alloc, packet.from, &name, ack.len)
 }
 
@@ -221,7 +229,7 @@ pub fn take_vote_packet<C: Callbacks>(
     if !is_used(core, packet, body.group.view()) {
         return Ok(());
     }
-    let name = Name::of_name(alloc, body.group.name())?;
+    let name = name_of(alloc, &body.group)?;
     let filled = Filled {
         vote: body.vote,
         value: optional_text_of(alloc, body.value)?,
@@ -256,6 +264,6 @@ pub fn take_gone_packet<C: Callbacks>(
     if !is_used(core, packet, gone.group.view()) {
         return Ok(());
     }
-    let name = Name::of_name(alloc, gone.group.name())?;
+    let name = name_of(alloc, &gone.group)?;
     take_gone(core, clients, alloc, &name, gone.p)
 }
