@@ -27,7 +27,7 @@ abbrev pub waits_join : ProviderId → WaitingView → WaitingView
 waits_join p w = record w { joins = w.joins ++ p ∷ [] }
 
 abbrev pub is_failure_of : ProviderId → Failure → Bool
-is_failure_of p f = same_provider f.p p
+is_failure_of p f = same_provider f.provider p
 
 -- the provider waits as a failure
 abbrev pub is_failing : ProviderId → WaitingView → Bool
@@ -43,7 +43,7 @@ takes_failure p w = not (is_failing p w) && nat_lt (length w.failures) max_waiti
 
 -- a provider that waits as a failure keeps its first cause
 abbrev pub add_failure : ProviderId → Cause → WaitingView → WaitingView
-add_failure p c w = if takes_failure p w then record w { failures = w.failures ++ record { p = p; cause = c } ∷ [] } else w
+add_failure p c w = if takes_failure p w then record w { failures = w.failures ++ record { provider = p; cause = c } ∷ [] } else w
 
 abbrev pub drop_join : ProviderId → WaitingView → WaitingView
 drop_join p w = record w { joins = without w.joins p }

@@ -27,7 +27,7 @@ pub(crate) fn is_instance_among(providers: &[ProviderId], provider: ProviderId) 
 pub(crate) fn is_failing(failures: &[Failure], provider: ProviderId) -> bool
     ensures { result ≡ list_any (is_failure_of provider) failures.now }
 {
-    failures.iter().any(|f| f.p == provider)
+    failures.iter().any(|f| f.provider == provider)
 }
 
 /// Takes the provider out.

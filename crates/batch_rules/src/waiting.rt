@@ -110,7 +110,7 @@ impl Waiting {
         if is_failing(self.failures.as_slice(), provider) || self.failures.is_full() {
             return false;
         }
-        self.failures.push(Failure { p: provider, cause });
+        self.failures.push(Failure { provider, cause });
         true
     }
 

@@ -15,7 +15,7 @@ use Rattle.client_callbacks.specs.Ballots.{BallotView, filled_with}
 
 -- a notice, as a plain value
 pub record NoticeView : Type 0 where
-  pub p : ProviderId
+  pub provider : ProviderId
   pub view : ViewId
   pub group : List ℕ
   pub place : ℕ
@@ -24,7 +24,7 @@ pub record NoticeView : Type 0 where
   pub votes : Bool
 
 abbrev pub notice_of : Notice → NoticeView
-notice_of n = record { p = n.p; view = n.view; group = n.group.now; place = n.place; entry = n.entry.now; after = n.after.now; votes = n.votes }
+notice_of n = record { provider = n.provider; view = n.view; group = n.group.now; place = n.place; entry = n.entry.now; after = n.after.now; votes = n.votes }
 
 -- what a client is handed, with what it filled into the ballot that comes with the notice, or told
 pub data Handed : Type 0 where

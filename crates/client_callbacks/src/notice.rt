@@ -15,7 +15,7 @@ use std::alloc::Global;
 /// state after it, and whether the provider may vote now.
 #[derive(Clone, Copy)]
 pub struct Notice<'a> {
-    pub p: ProviderId,
+    pub provider: ProviderId,
     pub view: ViewId,
     pub group: &'a [u8],
     pub place: u32,

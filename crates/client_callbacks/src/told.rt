@@ -20,8 +20,8 @@ pub enum Why {
 /// or the hosts of the view have become.
 pub enum Told {
     Refused {
-        p: ProviderId,
-        r: u32,
+        provider: ProviderId,
+        request: u32,
         why: Why,
     },
     Note {
@@ -39,7 +39,11 @@ pub enum Told {
 impl Drop for Told {
     fn drop(self) {
         match self {
-            Told::Refused { p: _, r: _, why: _ } => {}
+            Told::Refused {
+                provider: _,
+                request: _,
+                why: _,
+            } => {}
             Told::Note {
                 group: _group,
                 members: _members,

@@ -106,7 +106,7 @@ impl<C: Callbacks> Sessions<C> {
     pub fn init(&mut self, alloc: Global, name: &[u8], client: C) -> Result<ClientToken, GsFault>
         ensures answer { Answers result self.old.state self.new.state
             (inited self.old.state name.now) }
-        ensures token { IfOk result (λ t. t.n ≡ self.new.state.last_client) }
+        ensures token { IfOk result (λ t. t.number ≡ self.new.state.last_client) }
         ensures client { OnOk result (self.new.clients ≡ self.old.clients ++ client ∷ []) }
         ensures refused { OnErr result (self.new ≡ self.old) }
     {
@@ -124,7 +124,7 @@ impl<C: Callbacks> Sessions<C> {
     ) -> Result<MemberToken, GsFault>
         ensures answer { Answers result self.old.state self.new.state
             (joined self.old.state client group.now instance attrs) }
-        ensures token { IfOk result (λ m. m.n ≡ self.new.state.last_request) }
+        ensures token { IfOk result (λ m. m.number ≡ self.new.state.last_request) }
         ensures clients { self.new.clients ≡ self.old.clients }
     {
         session_calls::join(&mut self.state, alloc, client, group, instance, attrs)
@@ -229,7 +229,7 @@ impl<C: Callbacks> Sessions<C> {
     ) -> Result<SubToken, GsFault>
         ensures answer { Answers result self.old.state self.new.state
             (subscribe_taken self.old.state client group.now known) }
-        ensures token { IfOk result (λ s. s.n ≡ self.new.state.subs.last) }
+        ensures token { IfOk result (λ s. s.number ≡ self.new.state.subs.last) }
         ensures clients { self.new.clients ≡ self.old.clients }
     {
         session_calls::subscribe(&mut self.state, alloc, client, group, known)
@@ -328,8 +328,8 @@ impl<C: Callbacks> Sessions<C> {
             return Ok(false);
         }
         let told = Told::Refused {
-            p: provider,
-            r: request,
+            provider,
+            request,
             why,
         };
         tell_at(&mut self.clients, place_of(&self.state, provider), &told)?;

@@ -52,7 +52,7 @@ questions : ℕ → SessionState → Entry → GroupState → List ProviderId �
 questions n s e after [] bs = []
 questions n s e after (p ∷ ps) [] = []
 questions n s e after (p ∷ ps) (b ∷ bs) =
-    record { place = n; sessions = s; entry = e; after = after; p = p; filled = b } ∷ questions (n + records_of_notice (answer_if (asks e after p) b)) s e after ps bs
+    record { place = n; sessions = s; entry = e; after = after; provider = p; filled = b } ∷ questions (n + records_of_notice (answer_if (asks e after p) b)) s e after ps bs
 
 questions_filled : (scripts : List (Option (List (Option VoteItem)))) (n : ℕ) (s : SessionState) (e : Entry) (after : GroupState) (ps : List ProviderId) (bs : List (Option Filled)) → Fillings scripts s e after ps bs → AreFilled scripts s.sessions (questions n s e after ps bs)
 unfolding questions
@@ -181,11 +181,11 @@ unfolding cast_sent_of
 cast_beside s g to p None = beside_itself s
 cast_beside s g to p (Some c) = ballot_beside s g to p c.0 c.1 (c.2).filled
 
-each_beside : (s : Core) (g : List ℕ) (to : Option ℕ) (cs : List Cast) → Beside s (fold (λ t c. cast_sent_of t g to c.p c.cast) s cs)
+each_beside : (s : Core) (g : List ℕ) (to : Option ℕ) (cs : List Cast) → Beside s (fold (λ t c. cast_sent_of t g to c.provider c.cast) s cs)
 each_beside s g to [] = beside_itself s
-each_beside s g to (c ∷ cs) = beside_then s (cast_sent_of s g to c.p c.cast) _ (cast_beside s g to c.p c.cast) (each_beside (cast_sent_of s g to c.p c.cast) g to cs)
+each_beside s g to (c ∷ cs) = beside_then s (cast_sent_of s g to c.provider c.cast) _ (cast_beside s g to c.provider c.cast) (each_beside (cast_sent_of s g to c.provider c.cast) g to cs)
 
-casts_if : (b : Bool) (s : Core) (g : List ℕ) (to : Option ℕ) (cs : List Cast) → Beside s (elim b [ true ↦ s | false ↦ fold (λ t c. cast_sent_of t g to c.p c.cast) s cs ])
+casts_if : (b : Bool) (s : Core) (g : List ℕ) (to : Option ℕ) (cs : List Cast) → Beside s (elim b [ true ↦ s | false ↦ fold (λ t c. cast_sent_of t g to c.provider c.cast) s cs ])
 casts_if true s g to cs = beside_itself s
 casts_if false s g to cs = each_beside s g to cs
 
@@ -261,10 +261,10 @@ heard_told : (s : SessionState) (v : ViewId) (g : List ℕ) (i : ℕ) (e : Entry
 heard_told s v g i e after [] = refl
 heard_told s v g i e after (c ∷ cs) =
     let rest : List Happened = flat_map (heard_in v g i e after) cs in
-    let mine : List Handing = map (filled_handing (place_of s c.p)) (cast_records c.p c.cast) in
-    ap (λ (rs : List Happened). happened.Heard c.p v g i e after.members after.value ∷ rs)
-    (filter-append is_handed (cast_records c.p c.cast) rest
-    ∙ (ap (λ (rs : List Happened). rs ++ handed_in rest) (cast_told (place_of s c.p) c.p c.cast)
+    let mine : List Handing = map (filled_handing (place_of s c.provider)) (cast_records c.provider c.cast) in
+    ap (λ (rs : List Happened). happened.Heard c.provider v g i e after.members after.value ∷ rs)
+    (filter-append is_handed (cast_records c.provider c.cast) rest
+    ∙ (ap (λ (rs : List Happened). rs ++ handed_in rest) (cast_told (place_of s c.provider) c.provider c.cast)
     ∙ (ap (λ (rs : List Happened). told_by mine ++ rs) (heard_told s v g i e after cs) ∙ sym (told_both mine (heard_handings s v g i e after cs)))))
 
 notes_told : (me : ℕ) (v : ViewId) (s : SessionState) (g : List ℕ) (place : Option ℕ) (st : GroupState) (us : List Subscription) → handed_in (map (note_in me v s g place st) us) ≡ told_by (map (note_handing me v s g place st) us)

@@ -37,7 +37,7 @@ among_same (q ∷ xs) a b e = same_both true xs xs q a b e (among_same xs a b e)
 
 -- the provider and its client stay
 abbrev StaysItself : (Provider → Provider) → Type 0
-StaysItself f = (x : Provider) → ((f x).p ≡ x.p) × ((f x).client ≡ x.client)
+StaysItself f = (x : Provider) → ((f x).provider ≡ x.provider) × ((f x).client ≡ x.client)
 
 -- whose those are that are found
 abbrev owner_in : Option Provider → Option ClientToken
@@ -112,16 +112,16 @@ requests_owners s test p = inl (record { place = refl; live = λ e. e; asked = f
 -- ---- providers that are dropped
 
 abbrev not_of : List ProviderId → Provider → Bool
-not_of ps x = not (among ps x.p)
+not_of ps x = not (among ps x.provider)
 
 abbrev not_asked_of : List ProviderId → Request → Bool
-not_asked_of ps q = not (among ps q.p)
+not_asked_of ps q = not (among ps q.provider)
 
 dropped_head : (ps : List ProviderId) (p : ProviderId) (x : Provider) (rest : List Provider) (stays here : Bool) → among ps p ≡ true → is_provider p x ≡ here → not_of ps x ≡ stays → find (is_provider p) rest ≡ None
     → find (is_provider p) (cond stays (x ∷ rest) rest) ≡ None
 dropped_head ps p x rest false here m is out ih = ih
 dropped_head ps p x rest true false m is out ih = rw is ih
-dropped_head ps p x rest true true m is out ih = let e : among ps x.p ≡ true = among_same ps x.p p is ∙ m in absurd (grind (arith, e, out))
+dropped_head ps p x rest true true m is out ih = let e : among ps x.provider ≡ true = among_same ps x.provider p is ∙ m in absurd (grind (arith, e, out))
 
 dropped : (ps : List ProviderId) (p : ProviderId) → among ps p ≡ true → (xs : List Provider) → find (is_provider p) (filter (not_of ps) xs) ≡ None
 dropped ps p m [] = refl
@@ -131,7 +131,7 @@ unasked_head : (ps : List ProviderId) (p : ProviderId) (q : Request) (rest : Lis
     → find (is_asked_by p) (cond stays (q ∷ rest) rest) ≡ None
 unasked_head ps p q rest false here m is out ih = ih
 unasked_head ps p q rest true false m is out ih = rw is ih
-unasked_head ps p q rest true true m is out ih = let e : among ps q.p ≡ true = among_same ps q.p p is ∙ m in absurd (grind (arith, e, out))
+unasked_head ps p q rest true true m is out ih = let e : among ps q.provider ≡ true = among_same ps q.provider p is ∙ m in absurd (grind (arith, e, out))
 
 unasked : (ps : List ProviderId) (p : ProviderId) → among ps p ≡ true → (qs : List Request) → find (is_asked_by p) (filter (not_asked_of ps) qs) ≡ None
 unasked ps p m [] = refl
@@ -142,7 +142,7 @@ left_head : (ps : List ProviderId) (p : ProviderId) (x : Provider) (xs rest : Li
 left_head ps p x xs rest true true m is out ih = rw is refl
 left_head ps p x xs rest true false m is out ih = rw is ih
 left_head ps p x xs rest false false m is out ih = rw is ih
-left_head ps p x xs rest false true m is out ih = let e : among ps x.p ≡ false = among_same ps x.p p is ∙ m in absurd (grind (arith, e, out))
+left_head ps p x xs rest false true m is out ih = let e : among ps x.provider ≡ false = among_same ps x.provider p is ∙ m in absurd (grind (arith, e, out))
 
 left_there : (ps : List ProviderId) (p : ProviderId) → among ps p ≡ false → (xs : List Provider) → find (is_provider p) (filter (not_of ps) xs) ≡ find (is_provider p) xs
 left_there ps p m [] = refl
@@ -177,7 +177,7 @@ kept_owners s g (Reject c) = same_owners s _ refl refl refl
 kept_owners s g (Late proto phase ps) = owners_themselves s
 
 opened_head : (late : Bool) (e : Entry) (after : GroupState) (x : Provider)
-    → let y : Provider = if late then x else record x { opened = if asks e after x.p then running_phase after.running else None } in (y.p ≡ x.p) × (y.client ≡ x.client)
+    → let y : Provider = if late then x else record x { opened = if asks e after x.provider then running_phase after.running else None } in (y.provider ≡ x.provider) × (y.client ≡ x.client)
 opened_head true e after x = (refl, refl)
 opened_head false e after x = (refl, refl)
 

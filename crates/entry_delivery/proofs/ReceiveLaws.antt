@@ -174,7 +174,7 @@ notices_told : (s : SessionState) (v : ViewId) (g : List ℕ) (i : ℕ) (e : Ent
 unfolding notified after_handings
 notices_told s v g i e after [] rss = (refl, λ h. h)
 notices_told s v g i e after (c ∷ cs) rss =
-    let one : Adds rss (after_handings (heard_handing s v g i e after c) rss) (add_for (place_of s c.p) (Notified (notice_to v g i e after c.p) (ballot_of c))) = cast_adds (place_of s c.p) v g i e after c.p c.cast rss in
+    let one : Adds rss (after_handings (heard_handing s v g i e after c) rss) (add_for (place_of s c.provider) (Notified (notice_to v g i e after c.provider) (ballot_of c))) = cast_adds (place_of s c.provider) v g i e after c.provider c.cast rss in
     let rest : Adds (after_handings (heard_handing s v g i e after c) rss) (after_handings (heard_handings s v g i e after cs) (after_handings (heard_handing s v g i e after c) rss)) (notified s v g i e after cs) =
     notices_told s v g i e after cs (after_handings (heard_handing s v g i e after c) rss) in
     let both : after_handings (heard_handings s v g i e after (c ∷ cs)) rss ≡ after_handings (heard_handings s v g i e after cs) (after_handings (heard_handing s v g i e after c) rss) = after_both (heard_handing s v g i e after c) (heard_handings s v g i e after cs) rss in (
@@ -186,8 +186,8 @@ notified_aside : (s : SessionState) (v : ViewId) (g : List ℕ) (i : ℕ) (e : E
 unfolding notified
 notified_aside s v g i e after [] firsts hs = refl
 notified_aside s v g i e after (c ∷ cs) firsts hs =
-    let x : Handed = Notified (notice_to v g i e after c.p) (ballot_of c) in
-    notified_aside s v g i e after cs firsts (add_for (place_of s c.p) x hs) ∙ ap (notified s v g i e after cs) (joined_for firsts (place_of s c.p) x hs)
+    let x : Handed = Notified (notice_to v g i e after c.provider) (ballot_of c) in
+    notified_aside s v g i e after cs firsts (add_for (place_of s c.provider) x hs) ∙ ap (notified s v g i e after cs) (joined_for firsts (place_of s c.provider) x hs)
 
 -- the clients of these providers are handed the notice of an entry, and cast
 pub receive_notices : {C : Type 0} (R : C → List Handed → Type 0) (cs ds : List C) (s : SessionState) (v : ViewId) (g : List ℕ) (i : ℕ) (e : Entry) (after : GroupState) (casts : List Cast)

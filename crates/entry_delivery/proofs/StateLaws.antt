@@ -38,7 +38,7 @@ cast_leaves p (Some c) = cast_record_leaves p c.0 c.1 (c.2).filled
 
 pub heard_leaves : (v : ViewId) (g : List ℕ) (i : ℕ) (e : Entry) (after : GroupState) (cs : List Cast) → LeavesStates (flat_map (heard_in v g i e after) cs)
 heard_leaves v g i e after [] = λ h st. refl
-heard_leaves v g i e after (c ∷ cs) = leaves_both (heard_in v g i e after c) (flat_map (heard_in v g i e after) cs) (cast_leaves c.p c.cast) (heard_leaves v g i e after cs)
+heard_leaves v g i e after (c ∷ cs) = leaves_both (heard_in v g i e after c) (flat_map (heard_in v g i e after) cs) (cast_leaves c.provider c.cast) (heard_leaves v g i e after cs)
 
 cast_record_logged : (place : Option ℕ) (p : ProviderId) (proto : ProtoId) (phase : ℕ) (b : Option Filled) (states : List ℕ → GroupState)
     → logged_in (cast_record p proto phase b) states ≡ logged_by (map (filled_handing place) (cast_record p proto phase b))
@@ -58,15 +58,15 @@ pub heard_stated : (s : SessionState) (v : ViewId) (g : List ℕ) (i : ℕ) (e :
 heard_stated s v g i e after [] states is = refl
 heard_stated s v g i e after (c ∷ cs) states is =
     let rest : List Happened = flat_map (heard_in v g i e after) cs in
-    let cast : List Happened = cast_records c.p c.cast in
-    let what : Happened = happened.Heard c.p v g i e after.members after.value in
-    let same : (h : List ℕ) → states h ≡ state_along h cast (states h) = λ h. sym (cast_leaves c.p c.cast h (states h)) in
+    let cast : List Happened = cast_records c.provider c.cast in
+    let what : Happened = happened.Heard c.provider v g i e after.members after.value in
+    let same : (h : List ℕ) → states h ≡ state_along h cast (states h) = λ h. sym (cast_leaves c.provider c.cast h (states h)) in
     ap (λ (ls : List Logged). record { what = what; after = states g } ∷ ls)
     (logged_both cast rest states
-    ∙ (ap (λ (ls : List Logged). ls ++ logged_in rest (λ h. state_along h cast (states h))) (cast_logged (place_of s c.p) c.p c.cast states)
-    ∙ (ap (λ (ls : List Logged). logged_by (map (filled_handing (place_of s c.p)) cast) ++ ls) (logged_same rest (λ h. state_along h cast (states h)) states (λ h. sym (same h)) ∙ heard_stated s v g i e after cs states is)
-    ∙ sym (logged_apart (map (filled_handing (place_of s c.p)) cast) (heard_handings s v g i e after cs)))))
-    ∙ ap (λ st. record { what = what; after = st } ∷ logged_by (map (filled_handing (place_of s c.p)) cast ++ heard_handings s v g i e after cs)) (sym is)
+    ∙ (ap (λ (ls : List Logged). ls ++ logged_in rest (λ h. state_along h cast (states h))) (cast_logged (place_of s c.provider) c.provider c.cast states)
+    ∙ (ap (λ (ls : List Logged). logged_by (map (filled_handing (place_of s c.provider)) cast) ++ ls) (logged_same rest (λ h. state_along h cast (states h)) states (λ h. sym (same h)) ∙ heard_stated s v g i e after cs states is)
+    ∙ sym (logged_apart (map (filled_handing (place_of s c.provider)) cast) (heard_handings s v g i e after cs)))))
+    ∙ ap (λ st. record { what = what; after = st } ∷ logged_by (map (filled_handing (place_of s c.provider)) cast ++ heard_handings s v g i e after cs)) (sym is)
 
 -- ---- what subscribers are told
 

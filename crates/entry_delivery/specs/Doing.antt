@@ -26,12 +26,12 @@ pub record Question : Type 0 where
   pub sessions : SessionState
   pub entry : Entry
   pub after : GroupState
-  pub p : ProviderId
+  pub provider : ProviderId
   pub filled : Option Filled
 
 -- f answers as the client did, where a vote is asked for
 abbrev pub AnswersAs : Answering → Question → Type 0
-AnswersAs f q = answer_if (asks q.entry q.after q.p) (f q.place q.sessions q.entry q.after q.p) ≡ answer_if (asks q.entry q.after q.p) q.filled
+AnswersAs f q = answer_if (asks q.entry q.after q.provider) (f q.place q.sessions q.entry q.after q.provider) ≡ answer_if (asks q.entry q.after q.provider) q.filled
 
 abbrev pub Agrees : Answering → List Question → Type 0
 Agrees f [] = Unit {0}
@@ -45,7 +45,7 @@ Rise low high (q ∷ qs) = (low ≤ q.place) × Rise (q.place + 1) high qs
 -- the clients are those of these sessions, and each fills what it may: what its items say, where it votes by items
 abbrev pub AreFilled : List (Option (List (Option VoteItem))) → List Session → List Question → Type 0
 AreFilled scripts lives [] = Unit {0}
-AreFilled scripts lives (q ∷ qs) = (q.sessions.sessions ≡ lives) × (Filling scripts q.sessions q.entry q.after q.p q.filled × AreFilled scripts lives qs)
+AreFilled scripts lives (q ∷ qs) = (q.sessions.sessions ≡ lives) × (Filling scripts q.sessions q.entry q.after q.provider q.filled × AreFilled scripts lives qs)
 
 -- no record is lost, the sessions are the same ones, nothing is handed to a client, each provider stays its client's, and
 -- the states of groups are as the records tell

@@ -18,7 +18,7 @@ use Rattle.entry_delivery.specs.Received.{Handing}
 
 -- a provider hears the entry at place i in view v, and its ballot is kept
 abbrev pub heard_in : ViewId → List ℕ → ℕ → Entry → GroupState → Cast → List Happened
-heard_in v g i e after c = happened.Heard c.p v g i e after.members after.value ∷ cast_records c.p c.cast
+heard_in v g i e after c = happened.Heard c.provider v g i e after.members after.value ∷ cast_records c.provider c.cast
 
 -- the client of a subscription is told at node me in view v
 abbrev pub note_in : ℕ → ViewId → SessionState → List ℕ → Option ℕ → GroupState → Subscription → Happened
@@ -32,7 +32,7 @@ filled_handing place r = record { place = place; what = r; after = empty_state }
 -- the client of the provider is handed the notice, and fills what is cast
 abbrev pub heard_handing : SessionState → ViewId → List ℕ → ℕ → Entry → GroupState → Cast → List Handing
 heard_handing s v g i e after c =
-    record { place = place_of s c.p; what = happened.Heard c.p v g i e after.members after.value; after = after } ∷ map (filled_handing (place_of s c.p)) (cast_records c.p c.cast)
+    record { place = place_of s c.provider; what = happened.Heard c.provider v g i e after.members after.value; after = after } ∷ map (filled_handing (place_of s c.provider)) (cast_records c.provider c.cast)
 
 -- for each of cs
 abbrev pub heard_handings : SessionState → ViewId → List ℕ → ℕ → Entry → GroupState → List Cast → List Handing

@@ -34,7 +34,7 @@ fn send_cast(
     cast: &Cast,
 ) -> Result<(), NoMemory>
     ensures { OnOk result
-        (core.new ≡ cast_sent_of core.old group.now to cast.now.p cast.now.cast) }
+        (core.new ≡ cast_sent_of core.old group.now to cast.now.provider cast.now.cast) }
 {
     match &cast.cast {
         None => Ok(()),
@@ -45,7 +45,7 @@ fn send_cast(
                     group,
                     proto: *proto,
                     phase: *phase,
-                    provider: cast.p,
+                    provider: cast.provider,
                     filled,
                 };
                 send_vote(core, alloc, to, &vote)
@@ -64,7 +64,7 @@ fn send_each_cast(
     casts: &[Cast],
 ) -> Result<(), NoMemory>
     ensures { OnOk result
-        (core.new ≡ fold (λ t c. cast_sent_of t group.now to c.p c.cast) core.old casts.now) }
+        (core.new ≡ fold (λ t c. cast_sent_of t group.now to c.provider c.cast) core.old casts.now) }
 {
     for c in casts {
         send_cast(core, alloc, group, to, c)?;

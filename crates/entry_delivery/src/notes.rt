@@ -48,7 +48,7 @@ fn record_filled(
         Some(filled) => {
             let filled = filled.copy(alloc)?;
             records.push(Happened::Cast {
-                p: provider,
+                provider,
                 proto,
                 phase,
                 vote: filled.vote,
@@ -62,12 +62,19 @@ fn record_filled(
 /// Records what a provider casts.
 #[tactic(auto, unfolding(node_state::specs::HandOn::cast_records))]
 fn record_cast(alloc: Global, records: &mut Records, cast: &Cast) -> Result<(), NoMemory>
-    ensures { OnOk result (records.new ≡ records.old ++ cast_records cast.now.p cast.now.cast) }
+    ensures { OnOk result (records.new ≡ records.old ++ cast_records cast.now.provider cast.now.cast) }
 {
     match &cast.cast {
         None => Ok(()),
         Some((proto, phase, ballot)) => {
-            record_filled(alloc, records, cast.p, *proto, *phase, ballot.filled())
+            record_filled(
+                alloc,
+                records,
+                cast.provider,
+                *proto,
+                *phase,
+                ballot.filled(),
+            )
         }
     }
 }
@@ -82,7 +89,7 @@ fn heard_record(
         entry.now.place entry.now.entry.now entry.now.after.now.members entry.now.after.now.value) }
 {
     Ok(Happened::Heard {
-        p: provider,
+        provider,
         view: entry.view,
         group: entry.group.copy(alloc)?,
         place: entry.place,
@@ -104,7 +111,7 @@ fn record_heard(
         ++ heard_in entry.now.view entry.now.group.now entry.now.place entry.now.entry.now
         entry.now.after.now cast.now) }
 {
-    let record = heard_record(alloc, entry, cast.p)?;
+    let record = heard_record(alloc, entry, cast.provider)?;
     records.push(record)?;
     record_cast(alloc, records, cast)
 }

@@ -95,9 +95,9 @@ entry_only bytes result x e h is =
     ∙ ap (λ (b : List ℕ). whole (entry_front_at b)) (is ∙ sym (append-nil (entry_text x)))
     ∙ ap whole (entry_format.again x [] h)
 
-row_nodes_in : (rows : List Row) → EachFits IsRow rows → EachFits (λ r. IsNode r.p.node) rows
+row_nodes_in : (rows : List Row) → EachFits IsRow rows → EachFits (λ r. IsNode r.provider.node) rows
 row_nodes_in [] h = tt
 row_nodes_in (r ∷ rows) h = (h.0.node, row_nodes_in rows h.1)
 
-pub row_nodes : (c : Closed) → IsClosed c → EachFits (λ r. IsNode r.p.node) c.rows
+pub row_nodes : (c : Closed) → IsClosed c → EachFits (λ r. IsNode r.provider.node) c.rows
 row_nodes c h = row_nodes_in c.rows h.rows

@@ -105,11 +105,11 @@ some_nodes ps h = nodes_in ps h.are.each
 pub members_nodes : (ps : List ProviderId) → IsProviders ps → EachFits (λ p. IsNode p.node) ps
 members_nodes ps h = nodes_in ps h.each
 
-fallen_nodes_in : (fs : List Failure) → EachFits IsFailure fs → EachFits (λ f. IsNode f.p.node) fs
+fallen_nodes_in : (fs : List Failure) → EachFits IsFailure fs → EachFits (λ f. IsNode f.provider.node) fs
 fallen_nodes_in [] h = tt
 fallen_nodes_in (f ∷ fs) h = (h.0.node, fallen_nodes_in fs h.1)
 
-pub fallen_nodes : (fs : List Failure) → IsFallen fs → EachFits (λ f. IsNode f.p.node) fs
+pub fallen_nodes : (fs : List Failure) → IsFallen fs → EachFits (λ f. IsNode f.provider.node) fs
 fallen_nodes fs h = fallen_nodes_in fs h.each
 
 pub proposal_gives : (result : Option (ProposalRef × Bor (List ℕ))) (read : Option (Proposal × List ℕ)) → option_map (λ x. (proposal_in x.0, x.1.now)) result ≡ read → Gives (proposal_of result) read

@@ -54,14 +54,14 @@ unfolding providers_text
 providers_len ps = let h = many_len provider_text 11 provider_len ps in omega arith
 
 failure_len : (f : Failure) → length (failure_text f) ≡ 12
-failure_len f = omega (arith, length-append (provider_text f.p) (u8_text (cause_number f.cause)), provider_len f.p)
+failure_len f = omega (arith, length-append (provider_text f.provider) (u8_text (cause_number f.cause)), provider_len f.provider)
 
 fallen_len : (fs : List Failure) → length (fallen_text fs) ≡ 1 + 12 * length fs
 unfolding fallen_text
 fallen_len fs = let h = many_len failure_text 12 failure_len fs in omega arith
 
 row_len : (r : Row) → length (row_text r) ≡ 12
-row_len r = omega (arith, length-append (provider_text r.p) (u8_text (row_vote_number r.vote)), provider_len r.p)
+row_len r = omega (arith, length-append (provider_text r.provider) (u8_text (row_vote_number r.vote)), provider_len r.provider)
 
 rows_len : (rs : List Row) → length (counted_text w8 row_text rs) ≡ 1 + 12 * length rs
 rows_len rs = let h = many_len row_text 12 row_len rs in omega arith

@@ -26,30 +26,30 @@ pub enum ProposalRef<'a> {
         source_len: Option<u32>,
     },
     Leave {
-        p: ProviderId,
-        r: u32,
+        provider: ProviderId,
+        request: u32,
     },
     Fail {
         out: Listed<'a, Failure>,
     },
     Expel {
-        p: ProviderId,
-        r: u32,
+        provider: ProviderId,
+        request: u32,
         out: Listed<'a, ProviderId>,
     },
     State {
-        p: ProviderId,
-        r: u32,
+        provider: ProviderId,
+        request: u32,
         value: &'a [u8],
     },
     Message {
-        p: ProviderId,
-        r: u32,
+        provider: ProviderId,
+        request: u32,
         bytes: &'a [u8],
     },
     Attributes {
-        p: ProviderId,
-        r: u32,
+        provider: ProviderId,
+        request: u32,
         attrs: AttrsRef<'a>,
     },
     Reflect {
@@ -124,9 +124,9 @@ fn read_join(bytes: &[u8]) -> Option<(ProposalRef<'_>, &[u8])>
 fn read_leave(bytes: &[u8]) -> Option<(ProposalRef<'_>, &[u8])>
     ensures { option_map (λ x. (proposal_in x.0, x.1.now)) result ≡ leave_at bytes.now }
 {
-    let (p, bytes) = read_provider(bytes)?;
-    let (r, bytes) = read_u32(bytes)?;
-    Some((ProposalRef::Leave { p, r }, bytes))
+    let (provider, bytes) = read_provider(bytes)?;
+    let (request, bytes) = read_u32(bytes)?;
+    Some((ProposalRef::Leave { provider, request }, bytes))
 }
 
 #[tactic(auto, unfolding(proposal_core::specs::ProposalCodec::fail_at))]
@@ -141,40 +141,68 @@ fn read_fail(bytes: &[u8]) -> Option<(ProposalRef<'_>, &[u8])>
 fn read_expel(bytes: &[u8]) -> Option<(ProposalRef<'_>, &[u8])>
     ensures { option_map (λ x. (proposal_in x.0, x.1.now)) result ≡ expel_at bytes.now }
 {
-    let (p, bytes) = read_provider(bytes)?;
-    let (r, bytes) = read_u32(bytes)?;
+    let (provider, bytes) = read_provider(bytes)?;
+    let (request, bytes) = read_u32(bytes)?;
     let (out, bytes) = read_some_providers(bytes)?;
-    Some((ProposalRef::Expel { p, r, out }, bytes))
+    Some((
+        ProposalRef::Expel {
+            provider,
+            request,
+            out,
+        },
+        bytes,
+    ))
 }
 
 #[tactic(auto, unfolding(proposal_core::specs::ProposalCodec::state_change_at))]
 fn read_state_change(bytes: &[u8]) -> Option<(ProposalRef<'_>, &[u8])>
     ensures { option_map (λ x. (proposal_in x.0, x.1.now)) result ≡ state_change_at bytes.now }
 {
-    let (p, bytes) = read_provider(bytes)?;
-    let (r, bytes) = read_u32(bytes)?;
+    let (provider, bytes) = read_provider(bytes)?;
+    let (request, bytes) = read_u32(bytes)?;
     let (value, bytes) = read_bytes(bytes)?;
-    Some((ProposalRef::State { p, r, value }, bytes))
+    Some((
+        ProposalRef::State {
+            provider,
+            request,
+            value,
+        },
+        bytes,
+    ))
 }
 
 #[tactic(auto, unfolding(proposal_core::specs::ProposalCodec::message_at))]
 fn read_message(spelling: &[u8]) -> Option<(ProposalRef<'_>, &[u8])>
     ensures { option_map (λ x. (proposal_in x.0, x.1.now)) result ≡ message_at spelling.now }
 {
-    let (p, spelling) = read_provider(spelling)?;
-    let (r, spelling) = read_u32(spelling)?;
+    let (provider, spelling) = read_provider(spelling)?;
+    let (request, spelling) = read_u32(spelling)?;
     let (bytes, spelling) = read_bytes(spelling)?;
-    Some((ProposalRef::Message { p, r, bytes }, spelling))
+    Some((
+        ProposalRef::Message {
+            provider,
+            request,
+            bytes,
+        },
+        spelling,
+    ))
 }
 
 #[tactic(auto, unfolding(proposal_core::specs::ProposalCodec::attributes_at))]
 fn read_attributes(bytes: &[u8]) -> Option<(ProposalRef<'_>, &[u8])>
     ensures { option_map (λ x. (proposal_in x.0, x.1.now)) result ≡ attributes_at bytes.now }
 {
-    let (p, bytes) = read_provider(bytes)?;
-    let (r, bytes) = read_u32(bytes)?;
+    let (provider, bytes) = read_provider(bytes)?;
+    let (request, bytes) = read_u32(bytes)?;
     let (attrs, bytes) = read_attrs(bytes)?;
-    Some((ProposalRef::Attributes { p, r, attrs }, bytes))
+    Some((
+        ProposalRef::Attributes {
+            provider,
+            request,
+            attrs,
+        },
+        bytes,
+    ))
 }
 
 #[tactic(auto, unfolding(proposal_core::specs::ProposalCodec::reflect_at))]
@@ -249,29 +277,41 @@ fn put_parts(out: &mut Vec<u8>, proposal: &Proposal) -> Result<(), NoMemory>
             put_attrs(out, attrs)?;
             put_optional_u32(out, *source_len)
         }
-        Proposal::Leave { p, r } => put_request(out, 2, *p, *r),
+        Proposal::Leave { provider, request } => put_request(out, 2, *provider, *request),
         Proposal::Fail { out: fallen } => {
             put_u8(out, 3)?;
             put_list(out, fallen.as_slice())
         }
         Proposal::Expel {
-            p,
-            r,
+            provider,
+            request,
             out: expelled,
         } => {
-            put_request(out, 4, *p, *r)?;
+            put_request(out, 4, *provider, *request)?;
             put_providers(out, expelled.as_slice())
         }
-        Proposal::State { p, r, value } => {
-            put_request(out, 5, *p, *r)?;
+        Proposal::State {
+            provider,
+            request,
+            value,
+        } => {
+            put_request(out, 5, *provider, *request)?;
             put_bytes(out, value.bytes())
         }
-        Proposal::Message { p, r, bytes } => {
-            put_request(out, 6, *p, *r)?;
+        Proposal::Message {
+            provider,
+            request,
+            bytes,
+        } => {
+            put_request(out, 6, *provider, *request)?;
             put_bytes(out, bytes.bytes())
         }
-        Proposal::Attributes { p, r, attrs } => {
-            put_request(out, 7, *p, *r)?;
+        Proposal::Attributes {
+            provider,
+            request,
+            attrs,
+        } => {
+            put_request(out, 7, *provider, *request)?;
             put_attrs(out, attrs)
         }
         Proposal::Reflect { view, place, value } => {
@@ -321,28 +361,47 @@ impl<'a> ProposalRef<'a> {
                 attrs: attrs.own(alloc)?,
                 source_len: *source_len,
             },
-            ProposalRef::Leave { p, r } => Proposal::Leave { p: *p, r: *r },
+            ProposalRef::Leave { provider, request } => Proposal::Leave {
+                provider: *provider,
+                request: *request,
+            },
             ProposalRef::Fail { out } => Proposal::Fail {
                 out: out.own(alloc)?,
             },
-            ProposalRef::Expel { p, r, out } => Proposal::Expel {
-                p: *p,
-                r: *r,
+            ProposalRef::Expel {
+                provider,
+                request,
+                out,
+            } => Proposal::Expel {
+                provider: *provider,
+                request: *request,
                 out: Providers::of_listed(alloc, out)?,
             },
-            ProposalRef::State { p, r, value } => Proposal::State {
-                p: *p,
-                r: *r,
+            ProposalRef::State {
+                provider,
+                request,
+                value,
+            } => Proposal::State {
+                provider: *provider,
+                request: *request,
                 value: text_of(alloc, value)?,
             },
-            ProposalRef::Message { p, r, bytes } => Proposal::Message {
-                p: *p,
-                r: *r,
+            ProposalRef::Message {
+                provider,
+                request,
+                bytes,
+            } => Proposal::Message {
+                provider: *provider,
+                request: *request,
                 bytes: text_of(alloc, bytes)?,
             },
-            ProposalRef::Attributes { p, r, attrs } => Proposal::Attributes {
-                p: *p,
-                r: *r,
+            ProposalRef::Attributes {
+                provider,
+                request,
+                attrs,
+            } => Proposal::Attributes {
+                provider: *provider,
+                request: *request,
                 attrs: attrs.own(alloc)?,
             },
             ProposalRef::Reflect { view, place, value } => Proposal::Reflect {

@@ -10,7 +10,7 @@ use Rattle.node_state.specs.Leading.{with_waiting}
 
 -- the failures of those who are members still
 unfoldable pub of_members : List ProviderId → List Failure → List Failure
-of_members members fs = filter (λ (x : Failure). among members x.p) fs
+of_members members fs = filter (λ (x : Failure). among members x.provider) fs
 
 -- those that begin next
 unfoldable pub failures_chosen : Core → List ℕ → List Failure

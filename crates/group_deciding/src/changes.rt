@@ -112,10 +112,17 @@ fn grant<C: Callbacks>(
     ensures scripts { OnOk result (KeepsScripts C.script clients.old.items clients.new.items) }
     ensures does { OnOk result (RuleDoes C.script C.stands_for clients.old.items clients.new.items
         core.old core.new (λ f. begins f
-        (keep_decision core.old asked.now.group asked.now.p asked.now.r None) asked.now.group
+        (keep_decision core.old asked.now.group asked.now.provider asked.now.request None) asked.now.group
         asked.now.proposal asked.now.phases)) }
 {
-    keep_decision(core, alloc, &asked.group, asked.p, asked.r, None)?;
+    keep_decision(
+        core,
+        alloc,
+        &asked.group,
+        asked.provider,
+        asked.request,
+        None,
+    )?;
     begin(
         core,
         clients,
@@ -138,12 +145,18 @@ pub(crate) fn decide_change<C: Callbacks>(
     ensures work { OnOk result (AtWork core.new clients.new.items) }
     ensures scripts { OnOk result (KeepsScripts C.script clients.old.items clients.new.items) }
     ensures does { OnOk result (RuleDoes C.script C.stands_for clients.old.items clients.new.items
-        core.old core.new (λ f. decide_change f core.old asked.now.group asked.now.p asked.now.r
+        core.old core.new (λ f. decide_change f core.old asked.now.group asked.now.provider asked.now.request
         asked.now.phases asked.now.proposal
-        (other_refusal core.old asked.now.group asked.now.p asked.now.proposal))) }
+        (other_refusal core.old asked.now.group asked.now.provider asked.now.proposal))) }
 {
-    match other_refusal(core, alloc, asked.group.bytes(), asked.p, &asked.proposal)? {
+    match other_refusal(
+        core,
+        alloc,
+        asked.group.bytes(),
+        asked.provider,
+        &asked.proposal,
+    )? {
         None => grant(core, clients, alloc, asked),
-        Some(y) => refuse(core, alloc, &asked.group, asked.p, asked.r, y),
+        Some(y) => refuse(core, alloc, &asked.group, asked.provider, asked.request, y),
     }
 }

@@ -28,7 +28,7 @@ fn of_members(
 {
     let mut out = List::new(alloc);
     for x in failures {
-        if is_among(members, x.p) {
+        if is_among(members, x.provider) {
             out.push(*x)?;
         }
     }

@@ -9,7 +9,7 @@ use node_state::Core;
 use proposal_core::GroupList;
 
 /// Nothing begins in a list of so many places.
-const MAX_PLACES: u32 = 4096;
+pub const MAX_PLACES: u32 = 4096;
 
 /// Nothing begins in a list of so many bytes.
 const MAX_BYTES: u32 = 262_144;

@@ -37,7 +37,7 @@ pub(crate) fn is_duplicate(
 fn attrs_place(kept: &[JoinAttrs], provider: ProviderId) -> Option<usize>
     ensures { result ≡ position (are_attrs_of provider) kept.now }
 {
-    kept.iter().position(|j| j.p == provider)
+    kept.iter().position(|j| j.provider == provider)
 }
 
 /// The attributes of the provider's join are no longer kept.
@@ -66,7 +66,7 @@ fn keep_attrs(
     if idle {
         let own = attrs.copy(alloc)?;
         kept.push(JoinAttrs {
-            p: provider,
+            provider,
             attrs: own,
         })?;
     }

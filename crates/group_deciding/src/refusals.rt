@@ -25,8 +25,8 @@ pub fn tell(
     Ok(Body::Tell {
         view,
         name: group.copy(alloc)?,
-        p: provider,
-        r: request,
+        provider,
+        request,
         why,
     })
 }

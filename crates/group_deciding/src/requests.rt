@@ -26,12 +26,19 @@ pub fn decide<C: Callbacks>(
     ensures work { OnOk result (AtWork core.new clients.new.items) }
     ensures scripts { OnOk result (KeepsScripts C.script clients.old.items clients.new.items) }
     ensures does { OnOk result (RuleDoes C.script C.stands_for clients.old.items clients.new.items
-        core.old core.new (λ f. decided f core.old asked.now.group asked.now.p asked.now.r
+        core.old core.new (λ f. decided f core.old asked.now.group asked.now.provider asked.now.request
         asked.now.phases asked.now.proposal)) }
 {
     match &asked.proposal {
         Proposal::Join { attrs, .. } => {
-            decide_join(core, alloc, &asked.group, asked.p, asked.r, attrs)
+            decide_join(
+                core,
+                alloc,
+                &asked.group,
+                asked.provider,
+                asked.request,
+                attrs,
+            )
         }
         _ => decide_change(core, clients, alloc, asked),
     }

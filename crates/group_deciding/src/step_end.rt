@@ -5,6 +5,7 @@ ghost use Rattle.entry_delivery.specs.Doing.{RuleDoes};
 ghost use Rattle.group_leading.specs.Working.{AtWork};
 ghost use Rattle.node_state.specs.Ending.{passes, most_begun, end_step};
 
+use crate::limits::MAX_PLACES;
 use crate::passes::pass;
 use client_callbacks::Callbacks;
 use node_sending::is_frozen;
@@ -12,16 +13,13 @@ use node_state::Core;
 use rsct_packet::NoMemory;
 use std::alloc::Global;
 
-/// How many places a list has at most in which something begins.
-const MAX_PLACES: u128 = 4096;
-
 /// How often something can begin: each time a list grows, and nothing begins in a full one. 128 bits hold that for
 /// any number of groups.
 #[tactic(auto, unfolding(node_state::specs::Ending::most_begun))]
 fn most_begun(core: &Core) -> u128
     ensures { result ≡ most_begun core.now }
 {
-    core.groups.rows.len() as u128 * MAX_PLACES + 1
+    core.groups.rows.len() as u128 * MAX_PLACES as u128 + 1
 }
 
 /// Passes over the groups, at most `left` times, until nothing begins.

@@ -23,7 +23,7 @@ agrees_from : (f h : Answering) (low high : ℕ) (qs : List Question) → Rise l
     → ((n : ℕ) (s : SessionState) (e : Entry) (after : GroupState) (p : ProviderId) → low ≤ n → h n s e after p ≡ f n s e after p) → Agrees f qs → Agrees h qs
 agrees_from f h low high [] r same a = tt
 agrees_from f h low high (q ∷ qs) r same a = (
-  ap (answer_if (asks q.entry q.after q.p)) (same q.place q.sessions q.entry q.after q.p r.0) ∙ a.0,
+  ap (answer_if (asks q.entry q.after q.provider)) (same q.place q.sessions q.entry q.after q.provider r.0) ∙ a.0,
   agrees_from f h (q.place + 1) high qs r.1 (λ n s e after p l. let at : low ≤ q.place = r.0 in same n s e after p (omega arith)) a.1,
 )
 
@@ -31,7 +31,7 @@ agrees_some : (low high : ℕ) (qs : List Question) → Rise low high qs → Agr
 agrees_some low high [] r = tt
 agrees_some low high (q ∷ qs) r =
     let here : (q.place == q.place) ≡ true = eq-eqb q.place q.place refl in (
-      ap (answer_if (asks q.entry q.after q.p)) (ap (λ (b : Bool). cond b q.filled (answers_of qs q.place q.sessions q.entry q.after q.p)) here),
+      ap (answer_if (asks q.entry q.after q.provider)) (ap (λ (b : Bool). cond b q.filled (answers_of qs q.place q.sessions q.entry q.after q.provider)) here),
       agrees_from (answers_of qs) (answers_of (q ∷ qs)) (q.place + 1) high qs r.1
           (λ n s e after p l. let past : (q.place == n) ≡ false = ne_eqb q.place n (λ same. omega arith) in ap (λ (b : Bool). cond b q.filled (answers_of qs n s e after p)) past)
           (agrees_some (q.place + 1) high qs r.1),

@@ -38,11 +38,11 @@ unfolding cast_sent_of
 cast_groups s g to p None = refl
 cast_groups s g to p (Some c) = ballot_groups s g to p c.0 c.1 (c.2).filled
 
-each_groups : (s : Core) (g : List ℕ) (to : Option ℕ) (cs : List Cast) → SameGroups s (fold (λ t c. cast_sent_of t g to c.p c.cast) s cs)
+each_groups : (s : Core) (g : List ℕ) (to : Option ℕ) (cs : List Cast) → SameGroups s (fold (λ t c. cast_sent_of t g to c.provider c.cast) s cs)
 each_groups s g to [] = refl
-each_groups s g to (c ∷ cs) = each_groups (cast_sent_of s g to c.p c.cast) g to cs ∙ cast_groups s g to c.p c.cast
+each_groups s g to (c ∷ cs) = each_groups (cast_sent_of s g to c.provider c.cast) g to cs ∙ cast_groups s g to c.provider c.cast
 
-casts_if : (b : Bool) (s : Core) (g : List ℕ) (to : Option ℕ) (cs : List Cast) → SameGroups s (elim b [ true ↦ s | false ↦ fold (λ t c. cast_sent_of t g to c.p c.cast) s cs ])
+casts_if : (b : Bool) (s : Core) (g : List ℕ) (to : Option ℕ) (cs : List Cast) → SameGroups s (elim b [ true ↦ s | false ↦ fold (λ t c. cast_sent_of t g to c.provider c.cast) s cs ])
 casts_if true s g to cs = refl
 casts_if false s g to cs = each_groups s g to cs
 

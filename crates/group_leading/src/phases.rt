@@ -13,13 +13,10 @@ use client_callbacks::Callbacks;
 use node_groups::{fits_at_end, gone_of, row_of, state_of};
 use node_state::Core;
 use phase_closing::{closing_entry, is_phase, tally_for};
-use proposal_core::Entry;
+use proposal_core::{Entry, MAX_PHASES};
 use rsct_packet::{Name, NoMemory};
 use std::alloc::Global;
 use vote_phases::Tally;
-
-/// How many phases a protocol has at most.
-const MAX_PHASES: u8 = 200;
 
 /// A tally of the phase that runs, in which nobody has voted.
 fn new_tally(core: &Core, alloc: Global, group: &Name) -> Result<Tally, NoMemory>
@@ -164,5 +161,5 @@ pub fn close<C: Callbacks>(
     ensures does { OnOk result (RuleDoes C.script C.stands_for clients.old.items clients.new.items
         core.old core.new (λ f. closes f core.old group.now)) }
 {
-    close_from(core, clients, alloc, group, MAX_PHASES)
+    close_from(core, clients, alloc, group, MAX_PHASES as u8)
 }

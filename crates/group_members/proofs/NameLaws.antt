@@ -47,7 +47,7 @@ pub name_unused : (s : Core) (g : List ℕ) (n : ℕ) → is_name_used s g n ≡
 unfolding take_name
 name_unused s g n e = rw (e, take_name) refl
 
-pub name_refused : (s : Core) (g : List ℕ) (n : ℕ) → is_name_used s g n ≡ true → n ≡ 0 → fold (λ t (q : Request). take_tell t q.p q.r (GroupsFull 64)) s (requests_of s g) ≡ take_name s g n
+pub name_refused : (s : Core) (g : List ℕ) (n : ℕ) → is_name_used s g n ≡ true → n ≡ 0 → fold (λ t (q : Request). take_tell t q.provider q.request (GroupsFull 64)) s (requests_of s g) ≡ take_name s g n
 unfolding take_name named
 name_refused s g n used none = rw (used, none, take_name) refl
 
@@ -60,5 +60,5 @@ pub name_led : (s t : Core) (g : List ℕ) (n : ℕ) → is_name_used s g n ≡ 
 unfolding take_name
 name_led s t g n used some led = rw (used, take_name) (named_if s t g n (n == 0) (ne_eqb n 0 some) led)
 
-pub refused_stays : (s : Core) (g : List ℕ) → Stays s (fold (λ t (q : Request). take_tell t q.p q.r (GroupsFull 64)) s (requests_of s g))
-refused_stays s g = fold_stays (λ t (q : Request). take_tell t q.p q.r (GroupsFull 64)) (λ t q. tell_stays t q.p q.r (GroupsFull 64)) s (requests_of s g)
+pub refused_stays : (s : Core) (g : List ℕ) → Stays s (fold (λ t (q : Request). take_tell t q.provider q.request (GroupsFull 64)) s (requests_of s g))
+refused_stays s g = fold_stays (λ t (q : Request). take_tell t q.provider q.request (GroupsFull 64)) (λ t q. tell_stays t q.provider q.request (GroupsFull 64)) s (requests_of s g)

@@ -44,7 +44,7 @@ telling_same : (x : SessionState) (p : ProviderId) (r : ℕ) (y : Why) → SameS
 unfolding take_telling told_of without_providers
 telling_same x p r y =
     same_if (takes_telling x p r y) (is_join_request (outstanding x p) || is_dissolved y) x (without_providers x (p ∷ []))
-    (record x { requests = filter (λ (q : Request). not (among (p ∷ []) q.p)) x.requests }) (refl, refl) (refl, refl)
+    (record x { requests = filter (λ (q : Request). not (among (p ∷ []) q.provider)) x.requests }) (refl, refl) (refl, refl)
 
 told_if_stays : (s : Core) (p : ProviderId) (r : ℕ) (y : Why) (is_outstanding : Bool) → Stays s (told_if s p r y is_outstanding)
 unfolding told_if recorded recorded_all with_sessions

@@ -80,7 +80,7 @@ fn is_name_used(core: &Core, group: &[u8], leader: u8) -> bool
 /// The numbers of the outstanding requests in a group, in their order, with their providers.
 #[tactic(auto, unfolding(node_state::specs::Following::requests_of))]
 fn requests_of(core: &Core, alloc: Global, group: &[u8]) -> Result<Vec<(ProviderId, u32)>, NoMemory>
-    ensures { IfOk result (λ v. v.items ≡ map (λ (q : Request). (q.p, q.r))
+    ensures { IfOk result (λ v. v.items ≡ map (λ (q : Request). (q.provider, q.request))
         (requests_of core.now group.now)) }
 {
     Ok(
@@ -89,7 +89,7 @@ fn requests_of(core: &Core, alloc: Global, group: &[u8]) -> Result<Vec<(Provider
             .as_slice()
             .iter()
             .filter(|q| q.group.bytes() == group)
-            .map(|q| (q.p, q.r))
+            .map(|q| (q.provider, q.request))
             .collect(alloc)?,
     )
 }
@@ -105,7 +105,7 @@ fn refuse_requests<C: Callbacks>(
     ensures aligned { OnOk result (length clients.new.items ≡ length core.new.sessions.sessions) }
     ensures scripts { OnOk result (KeepsScripts C.script clients.old.items clients.new.items) }
     ensures does { OnOk result (RuleDoes C.script C.stands_for clients.old.items clients.new.items
-        core.old core.new (λ f. fold (λ t (q : Request). take_tell t q.p q.r (GroupsFull 64))
+        core.old core.new (λ f. fold (λ t (q : Request). take_tell t q.provider q.request (GroupsFull 64))
         core.old (requests_of core.old group.now))) }
 {
     let requests = requests_of(core, alloc, group)?;

@@ -24,7 +24,7 @@ fn is_outstanding(sessions: &SessionState, provider: ProviderId, request: u32) -
 {
     match outstanding(sessions, provider) {
         None => false,
-        Some(q) => q.r == request,
+        Some(q) => q.request == request,
     }
 }
 
@@ -49,8 +49,8 @@ fn tell_client<C: Callbacks>(
         return Ok(());
     }
     let told = Told::Refused {
-        p: provider,
-        r: request,
+        provider,
+        request,
         why,
     };
     tell_at(clients, place_of(sessions, provider), &told)?;
@@ -77,8 +77,8 @@ fn tell<C: Callbacks>(
     }
     tell_client(&mut core.sessions, clients, provider, request, why)?;
     core.records.push(Happened::Told {
-        p: provider,
-        r: request,
+        provider,
+        request,
         why,
     })
 }

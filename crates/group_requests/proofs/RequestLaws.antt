@@ -38,33 +38,33 @@ request_first f s from g p r phases x e none = rw (e, none, take_request, reques
 
 -- where a request was decided before
 request_again : (f : Answering) (s : Core) (from : ℕ) (g : List ℕ) (p : ProviderId) (r : ℕ) (phases : Phases) (x : Proposal) (d : Decision) → is_group_refused s g ≡ false → decision_of (led_of s g) p ≡ Some d
-    → request_after f s g p r phases x d (nat_lt r d.r) (r == d.r) ≡ take_request f s from g p r phases x
+    → request_after f s g p r phases x d (nat_lt r d.request) (r == d.request) ≡ take_request f s from g p r phases x
 unfolding take_request request_at
 request_again f s from g p r phases x d e some = rw (e, some, take_request, request_at) refl
 
 pub request_late : (f : Answering) (s : Core) (from : ℕ) (g : List ℕ) (p : ProviderId) (r : ℕ) (phases : Phases) (x : Proposal) (d : Decision) → is_group_refused s g ≡ false → decision_of (led_of s g) p ≡ Some d
-    → r < d.r → s ≡ take_request f s from g p r phases x
+    → r < d.request → s ≡ take_request f s from g p r phases x
 unfolding request_after
 request_late f s from g p r phases x d e some late =
-    ap (λ (b : Bool). request_after f s g p r phases x d b (r == d.r)) (sym (lt-ltb r d.r late)) ∙ request_again f s from g p r phases x d e some
+    ap (λ (b : Bool). request_after f s g p r phases x d b (r == d.request)) (sym (lt-ltb r d.request late)) ∙ request_again f s from g p r phases x d e some
 
 -- where it is not an earlier one
 request_from : (f : Answering) (s : Core) (from : ℕ) (g : List ℕ) (p : ProviderId) (r : ℕ) (phases : Phases) (x : Proposal) (d : Decision) → is_group_refused s g ≡ false → decision_of (led_of s g) p ≡ Some d
-    → d.r ≤ r → request_after f s g p r phases x d false (r == d.r) ≡ take_request f s from g p r phases x
+    → d.request ≤ r → request_after f s g p r phases x d false (r == d.request) ≡ take_request f s from g p r phases x
 request_from f s from g p r phases x d e some late =
-    ap (λ (b : Bool). request_after f s g p r phases x d b (r == d.r)) (sym (le-ltb r d.r late)) ∙ request_again f s from g p r phases x d e some
+    ap (λ (b : Bool). request_after f s g p r phases x d b (r == d.request)) (sym (le-ltb r d.request late)) ∙ request_again f s from g p r phases x d e some
 
 pub request_same : (f : Answering) (s : Core) (from : ℕ) (g : List ℕ) (p : ProviderId) (r : ℕ) (phases : Phases) (x : Proposal) (d : Decision) → is_group_refused s g ≡ false → decision_of (led_of s g) p ≡ Some d
-    → d.r ≤ r → r ≡ d.r → tell_again s g p r d.why ≡ take_request f s from g p r phases x
+    → d.request ≤ r → r ≡ d.request → tell_again s g p r d.why ≡ take_request f s from g p r phases x
 unfolding request_after
 request_same f s from g p r phases x d e some late same =
-    ap (λ (b : Bool). request_after f s g p r phases x d false b) (sym (eq-eqb r d.r same)) ∙ request_from f s from g p r phases x d e some late
+    ap (λ (b : Bool). request_after f s g p r phases x d false b) (sym (eq-eqb r d.request same)) ∙ request_from f s from g p r phases x d e some late
 
 pub request_next : (f : Answering) (s : Core) (from : ℕ) (g : List ℕ) (p : ProviderId) (r : ℕ) (phases : Phases) (x : Proposal) (d : Decision) → is_group_refused s g ≡ false → decision_of (led_of s g) p ≡ Some d
-    → d.r ≤ r → (r ≡ d.r → ⊥) → decide_new f s g p r phases x ≡ take_request f s from g p r phases x
+    → d.request ≤ r → (r ≡ d.request → ⊥) → decide_new f s g p r phases x ≡ take_request f s from g p r phases x
 unfolding request_after
 request_next f s from g p r phases x d e some late other =
-    ap (λ (b : Bool). request_after f s g p r phases x d false b) (sym (ne_eqb r d.r other)) ∙ request_from f s from g p r phases x d e some late
+    ap (λ (b : Bool). request_after f s g p r phases x d false b) (sym (ne_eqb r d.request other)) ∙ request_from f s from g p r phases x d e some late
 
 pub new_does : (scripts : List (Option (List (Option VoteItem)))) (P : List Handing → Type 0) (s t u : Core) (g : List ℕ) (p : ProviderId) (r : ℕ) (phases : Phases) (x : Proposal) → t ≡ set_leader s g s.views.me → Does scripts P t u (λ f. decided f t g p r phases x)
     → Does scripts P s u (λ f. decide_new f s g p r phases x)

@@ -58,7 +58,7 @@ fn decide_new<C: Callbacks>(
     ensures work { OnOk result (AtWork core.new clients.new.items) }
     ensures scripts { OnOk result (KeepsScripts C.script clients.old.items clients.new.items) }
     ensures does { OnOk result (RuleDoes C.script C.stands_for clients.old.items clients.new.items
-        core.old core.new (λ f. decide_new f core.old asked.now.group asked.now.p asked.now.r
+        core.old core.new (λ f. decide_new f core.old asked.now.group asked.now.provider asked.now.request
         asked.now.phases asked.now.proposal)) }
 {
     set_leader(core, alloc, &asked.group, core.views.me)?;
@@ -77,20 +77,27 @@ pub fn take_request<C: Callbacks>(
     ensures work { OnOk result (AtWork core.new clients.new.items) }
     ensures scripts { OnOk result (KeepsScripts C.script clients.old.items clients.new.items) }
     ensures does { OnOk result (RuleDoes C.script C.stands_for clients.old.items clients.new.items
-        core.old core.new (λ f. take_request f core.old from asked.now.group asked.now.p
-        asked.now.r asked.now.phases asked.now.proposal)) }
+        core.old core.new (λ f. take_request f core.old from asked.now.group asked.now.provider
+        asked.now.request asked.now.phases asked.now.proposal)) }
 {
     if is_group_refused(core, asked.group.bytes()) {
         return send_name(core, alloc, from, &asked.group, 0);
     }
-    let Some(last) = decision_of(core, asked.group.bytes(), asked.p) else {
+    let Some(last) = decision_of(core, asked.group.bytes(), asked.provider) else {
         return decide_new(core, clients, alloc, asked);
     };
-    if asked.r < last.r {
+    if asked.request < last.request {
         return Ok(());
     }
-    if asked.r == last.r {
-        return tell_again(core, alloc, &asked.group, asked.p, asked.r, last.why);
+    if asked.request == last.request {
+        return tell_again(
+            core,
+            alloc,
+            &asked.group,
+            asked.provider,
+            asked.request,
+            last.why,
+        );
     }
     decide_new(core, clients, alloc, asked)
 }

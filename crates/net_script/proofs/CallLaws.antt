@@ -139,7 +139,7 @@ unfolding votes_word votes_end votes_byte vote_item
 said_without_word script said c w none h = h (None ∷ []) refl ∙ ap said (silent_without_word w (None ∷ []) none refl)
 
 other_votes : (said : Items → Option Items) (s : Script) (ss : List Script) (x : Session) → is_session s.token x ≡ false → votes_by said (s ∷ ss) x ≡ votes_by said ss x
-other_votes said s ss x e = rw (turned x.token.n s.token.n e) refl
+other_votes said s ss x e = rw (turned x.token.number s.token.number e) refl
 
 -- a script of a token that no session has
 fresh_votes : (said : Items → Option Items) (s : Script) (ss : List Script) (xs : List Session) → list_any (is_session s.token) xs ≡ false → votes_in said (s ∷ ss) xs ≡ votes_in said ss xs
@@ -148,17 +148,17 @@ fresh_votes said s ss (x ∷ xs) e =
     let parts : (is_session s.token x ≡ false) × (list_any (is_session s.token) xs ≡ false) = or_parts (is_session s.token x) (list_any (is_session s.token) xs) e in
     ap (λ v. v ∷ votes_in said (s ∷ ss) xs) (other_votes said s ss x parts.0) ∙ ap (λ vs. votes_by said ss x ∷ vs) (fresh_votes said s ss xs parts.1)
 
-own_votes : (said : Items → Option Items) (s : Script) (ss : List Script) (x : Session) → (s.token.n == x.token.n) ≡ true → votes_by said (s ∷ ss) x ≡ said (silent_or s.items)
+own_votes : (said : Items → Option Items) (s : Script) (ss : List Script) (x : Session) → (s.token.number == x.token.number) ≡ true → votes_by said (s ∷ ss) x ≡ said (silent_or s.items)
 own_votes said s ss x e = rw e refl
 
 -- the clients vote by the scripts, with that of the new one
 begun_votes : {C : Type 0} (script : C → Option Items) (said : Items → Option Items) (o : Option GsFault) (s : Script) (ss : List Script) (core : Core) (name : List ℕ) (c : C) (cs : List C)
-    → s.token.n ≡ core.sessions.last_client + 1 → list_any (is_session s.token) core.sessions.sessions ≡ false → script c ≡ said (silent_or s.items) → map script cs ≡ votes_in said ss core.sessions.sessions
+    → s.token.number ≡ core.sessions.last_client + 1 → list_any (is_session s.token) core.sessions.sessions ≡ false → script c ≡ said (silent_or s.items) → map script cs ≡ votes_in said ss core.sessions.sessions
     → map script (clients_with c cs (unless_fault o (add_session core.sessions name))) ≡ votes_in said (s ∷ ss) (changed core name (unless_fault o (add_session core.sessions name))).sessions.sessions
 unfolding add_session changed refuse_call recorded with_sessions
 begun_votes script said None s ss core name c cs token fresh items votes =
-    let new : Session = record { token = record { n = core.sessions.last_client + 1 }; name = name } in
-    let own : script c ≡ votes_by said (s ∷ ss) new = items ∙ sym (own_votes said s ss new (eq-eqb s.token.n new.token.n token)) in
+    let new : Session = record { token = record { number = core.sessions.last_client + 1 }; name = name } in
+    let own : script c ≡ votes_by said (s ∷ ss) new = items ∙ sym (own_votes said s ss new (eq-eqb s.token.number new.token.number token)) in
     map-append script cs (c ∷ []) ∙ (ap (λ vs. vs ++ script c ∷ []) (votes ∙ sym (fresh_votes said s ss core.sessions.sessions fresh))
     ∙ (ap (λ v. votes_in said (s ∷ ss) core.sessions.sessions ++ v ∷ []) own ∙ sym (map-append (votes_by said (s ∷ ss)) core.sessions.sessions (new ∷ []))))
 begun_votes script said (Some f) s ss core name c cs token fresh items votes = votes ∙ sym (fresh_votes said s ss core.sessions.sessions fresh)
@@ -168,7 +168,7 @@ module _ {C : Type 0} {script : C → Option Items} {said : Items → Option Ite
 
   -- ---- a session that begins
 
-  pub init_done : FillTheirScripts → (n m o : NodeView C) (l : Left) (c : C) (P : List Handing → Type 0) (name votes : List ℕ) (k : ℕ) → false ≡ list_any (is_session (record { n = n.core.sessions.last_client + 1 })) n.core.sessions.sessions
+  pub init_done : FillTheirScripts → (n m o : NodeView C) (l : Left) (c : C) (P : List Handing → Type 0) (name votes : List ℕ) (k : ℕ) → false ≡ list_any (is_session (record { number = n.core.sessions.last_client + 1 })) n.core.sessions.sessions
       → script c ≡ said (silent_or (unwrap_or (votes_word votes) [])) → map script m.clients ≡ map script (clients_with c n.clients (inited n.core.sessions name))
       → Does (map script m.clients) P (take_call (at_work n.core) (call.Init k name votes)) m.core (λ f. stepped f n.core (Calls (call.Init k name votes))) → Leaves m o l n.core.views.me → CallDone script said n o l (call.Init k name votes)
   unfolding scripts_after script_of inited take_call
@@ -177,10 +177,10 @@ module _ {C : Type 0} {script : C → Option Items} {said : Items → Option Ite
         some.0,
         λ x h.
             let last : x.core.sessions.last_client ≡ n.core.sessions.last_client = ap (λ (s : Core). s.sessions.last_client) (sym h.core) in
-            let s : Script = record { token = record { n = x.core.sessions.last_client + 1 }; items = unwrap_or (votes_word votes) [] } in
+            let s : Script = record { token = record { number = x.core.sessions.last_client + 1 }; items = unwrap_or (votes_word votes) [] } in
             row_done fill n m o l x (s ∷ x.scripts) P (take_call (at_work n.core) (call.Init k name votes)) (Calls (call.Init k name votes)) some.0 h
             (after ∙ begun_votes script said (init_fault n.core.sessions name) s x.scripts (at_work n.core) name c n.clients (ap (λ z. z + 1) last)
-            (ap (λ z. list_any (is_session (record { n = z + 1 })) n.core.sessions.sessions) last ∙ sym fresh) items (h.votes ∙ ap (votes_in said x.scripts) (sym (same_lives n x h))))
+            (ap (λ z. list_any (is_session (record { number = z + 1 })) n.core.sessions.sessions) last ∙ sym fresh) items (h.votes ∙ ap (votes_in said x.scripts) (sym (same_lives n x h))))
             d some.1 left,
       )
 

@@ -120,15 +120,15 @@ asked_quiet : (s : Core) (o : Option Request) → Quiet s (ask_last s o)
 unfolding ask_last
 asked_quiet s None = quiet s s (keeps_itself s)
 asked_quiet s (Some q) =
-    let t : Core = recorded s (happened.Asked q.p q.r q.group q.proposal) in
-    quiet_then s t (ask_last s (Some q)) (quiet s t (record_keeps s (happened.Asked q.p q.r q.group q.proposal) refl (λ g st. refl))) (request_quiet t q)
+    let t : Core = recorded s (happened.Asked q.provider q.request q.group q.proposal) in
+    quiet_then s t (ask_last s (Some q)) (quiet s t (record_keeps s (happened.Asked q.provider q.request q.group q.proposal) refl (λ g st. refl))) (request_quiet t q)
 
 -- a ballot that is given is recorded as one that is filled
 
 cast_still : (s : Core) (k : KeptBallot) (b : Option Filled) → Still s (record_ballot s k b)
 unfolding record_ballot recorded recorded_all
 cast_still s k None = still s s (quiet s s (keeps_itself s))
-cast_still s k (Some b) = record { lives = refl; along = along_records s (record_ballot s k (Some b)) (happened.Cast k.p k.proto k.phase b.vote b.value b.message ∷ []) refl refl (λ g st. refl) }
+cast_still s k (Some b) = record { lives = refl; along = along_records s (record_ballot s k (Some b)) (happened.Cast k.provider k.proto k.phase b.vote b.value b.message ∷ []) refl refl (λ g st. refl) }
 
 ballot_quiet : (s : Core) (k : KeptBallot) (b : Bool) → Quiet s (ballot_sent_if s k b)
 unfolding ballot_sent_if
@@ -186,7 +186,7 @@ module _ (s : SessionState) where
     where
       by : (o : Option Provider) → Same s (member_changes s o phases attrs)
       by None u e = absurd cc
-      by (Some x) u e = unless_same _ (asked s x phases (λ r. Attributes x.p r attrs)) refl u e
+      by (Some x) u e = unless_same _ (asked s x phases (λ r. Attributes x.provider r attrs)) refl u e
 
   votes_same : (m : MemberToken) (v : Vote) (value : Option (List ℕ)) → Same s (voted s m v value)
   unfolding voted

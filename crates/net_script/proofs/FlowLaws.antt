@@ -21,7 +21,7 @@ use Rattle.play_state.specs.declared.play_fault.PlayFault.{PlayFault}
 use Rattle.net_script.specs.Stage.{At, Went, Stopped, LeadsTo}
 use Rattle.net_script.proofs.StageLaws.{moved_still, went_still, went_none, then_went, then_stopped, stopped_on}
 
-takes_given : (said : Items → Option Items) (p q : AnsweredPlay) (y : Sent) (ys : List Sent) (up cut : Bool) → (up && not cut) ≡ true → PlaysEvent said p (event.Deliver y.packet.from y.packet.to y.k) q → TakesPacket said p y ys up cut q
+takes_given : (said : Items → Option Items) (p q : AnsweredPlay) (y : Sent) (ys : List Sent) (up cut : Bool) → (up && not cut) ≡ true → PlaysEvent said p (event.Deliver y.packet.from y.packet.to y.number) q → TakesPacket said p y ys up cut q
 takes_given said p q y ys true false e h = h
 takes_given said p q y ys true true e h = absurd cc
 takes_given said p q y ys false cut e h = absurd cc
@@ -78,13 +78,13 @@ module _ {C : Type 0} {script : C → Option Items} {said : Items → Option Ite
 module _ {C : Type 0} {script : C → Option Items} {said : Items → Option Items} {R : C → List Handed → Type 0} where
   pub packet_given : {U : Type 0} (r : Result U PlayFault) (k : Kinds) (a b : Option (List ℕ)) (s t : Stage C) (x : Waiting) (is_given : Bool)
       → is_given ≡ (is_some (find (is_me x.to) s.world.nodes) && not (list_any (is_cut_of x.from x.to x.network) s.cuts)) → is_given ≡ true
-      → ((p : AnsweredPlay) → (v : World) → At script said s p v → LeadsTo script said R r k a b s t p (PlaysEvent said p (event.Deliver x.from x.to x.k)) v)
+      → ((p : AnsweredPlay) → (v : World) → At script said s p v → LeadsTo script said R r k a b s t p (PlaysEvent said p (event.Deliver x.from x.to x.number)) v)
       → (p : AnsweredPlay) → (v : World) → At script said s p v → (y : Sent) → (ys : List Sent) → p.world.queue ≡ y ∷ ys → waits_as y ≡ x → LeadsTo script said R r k a b s t p (Takes said p y ys) v
   packet_given r k a b s t x is_given e g next p v h y ys q f =
       let same : (is_some (node_at p.world y.packet.to) ≡ is_some (find (is_me x.to) s.world.nodes)) × (is_cut p.cuts y.packet ≡ list_any (is_cut_of x.from x.to x.network) s.cuts) = given_same s p v x y h f in
       let given : (is_some (node_at p.world y.packet.to) && not (is_cut p.cuts y.packet)) ≡ true = rw (same.0, same.1) (sym e ∙ g) in
-      let l : LeadsTo script said R r k a b s t p (PlaysEvent said p (event.Deliver x.from x.to x.k)) v = next p v h in
-      let made : PlaysEvent said p (event.Deliver y.packet.from y.packet.to y.k) l.play = subst (λ (z : Waiting). PlaysEvent said p (event.Deliver z.from z.to z.k) l.play) (sym f) l.made in
+      let l : LeadsTo script said R r k a b s t p (PlaysEvent said p (event.Deliver x.from x.to x.number)) v = next p v h in
+      let made : PlaysEvent said p (event.Deliver y.packet.from y.packet.to y.number) l.play = subst (λ (z : Waiting). PlaysEvent said p (event.Deliver z.from z.to z.number) l.play) (sym f) l.made in
       record { play = l.play; made = takes_given said p l.play y ys _ _ given made; outcome = l.outcome }
 
   pub packet_lost : {U : Type 0} (u : U) (k : Kinds) (a : Option (List ℕ)) (s t : Stage C) (x : Waiting) (is_given : Bool)

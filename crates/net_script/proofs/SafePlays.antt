@@ -41,7 +41,7 @@ module _ (said : Items → Option Items) (c : Config) where
   packet_fine : (p : AnsweredPlay) (x : Sent) (rest : List Sent) (up cut : Bool) (q : AnsweredPlay) → TakesPacket said p x rest up cut q → AreFine c p → AreFine c q
   packet_fine p x rest false cut q e f = subst (AreFine c) (sym e) f
   packet_fine p x rest true true q e f = subst (AreFine c) (sym e) f
-  packet_fine p x rest true false q h f = event_fine p (event.Deliver x.packet.from x.packet.to x.k) q tt h f
+  packet_fine p x rest true false q h f = event_fine p (event.Deliver x.packet.from x.packet.to x.number) q tt h f
 
   next_fine : (More : AnsweredPlay → AnsweredPlay → Type 0) (p q : AnsweredPlay) (xs : List Sent) → ((r : AnsweredPlay) → More r q → AreFine c r → AreFine c q) → TakesNext More said p q xs → AreFine c p → AreFine c q
   next_fine More p q [] rest e f = subst (AreFine c) (sym e) f

@@ -59,14 +59,14 @@ answers_if true scripts n s e after p b f =
 head_same : {A : Type 0} (x y : A) → x ∷ [] ≡ y ∷ [] → x ≡ y
 head_same x y e = cc
 
-answers : FillTheirScripts → (scripts : List Script) (q : Question) → Filling (votes_in Some scripts q.sessions.sessions) q.sessions q.entry q.after q.p q.filled → AnswersAs (by_scripts scripts) q
+answers : FillTheirScripts → (scripts : List Script) (q : Question) → Filling (votes_in Some scripts q.sessions.sessions) q.sessions q.entry q.after q.provider q.filled → AnswersAs (by_scripts scripts) q
 unfolding scripted
 answers fill scripts q f =
-    answers_if (asks q.entry q.after q.p) scripts q.place q.sessions q.entry q.after q.p q.filled
-    (head_same q.filled _ (fill (votes_in Some scripts q.sessions.sessions) q.sessions q.entry q.after (q.p ∷ []) (q.filled ∷ []) (all_scripted scripts q.sessions.sessions) (f, tt)))
+    answers_if (asks q.entry q.after q.provider) scripts q.place q.sessions q.entry q.after q.provider q.filled
+    (head_same q.filled _ (fill (votes_in Some scripts q.sessions.sessions) q.sessions q.entry q.after (q.provider ∷ []) (q.filled ∷ []) (all_scripted scripts q.sessions.sessions) (f, tt)))
 
 -- clients that vote by scripts answer as the scripts say
 pub scripts_agree : FillTheirScripts → (scripts : List Script) (lives : List Session) (qs : List Question) → AreFilled (votes_in Some scripts lives) lives qs → Agrees (by_scripts scripts) qs
 scripts_agree fill scripts lives [] h = tt
 scripts_agree fill scripts lives (q ∷ qs) h =
-    (answers fill scripts q (subst (λ ss. Filling (votes_in Some scripts ss) q.sessions q.entry q.after q.p q.filled) (sym h.0) h.1.0), scripts_agree fill scripts lives qs h.1.1)
+    (answers fill scripts q (subst (λ ss. Filling (votes_in Some scripts ss) q.sessions q.entry q.after q.provider q.filled) (sym h.0) h.1.0), scripts_agree fill scripts lives qs h.1.1)

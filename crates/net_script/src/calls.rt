@@ -70,7 +70,7 @@ fn client_of<C: Made>(alloc: Global, votes: &[u8]) -> Result<C, NoMemory>
 
 /// Has a session the token that the next one is to have?
 fn has_next<C: Callbacks>(node: &Node<C>) -> bool
-    ensures { result ≡ list_any (is_session (record { n = node.now.core.sessions.last_client + 1 }))
+    ensures { result ≡ list_any (is_session (record { number = node.now.core.sessions.last_client + 1 }))
         node.now.core.sessions.sessions }
 {
     let sessions = &node.core().sessions;
@@ -79,7 +79,7 @@ fn has_next<C: Callbacks>(node: &Node<C>) -> bool
         .sessions
         .as_slice()
         .iter()
-        .any(|x| x.token.n as u64 == next)
+        .any(|x| x.token.number as u64 == next)
 }
 
 /// A client calls to begin its session. That a session has its token already counts as want of memory.

@@ -53,7 +53,7 @@ fn pass<C: Made, K: Sink>(
             alloc,
             stage,
             kinds,
-            &Event::Deliver(waiting.from, waiting.to, waiting.k),
+            &Event::Deliver(waiting.from, waiting.to, waiting.number),
             out,
         )
     } else {

@@ -29,7 +29,7 @@ fn record_ballot(core: &mut Core, alloc: Global, kept: &KeptBallot) -> Result<()
         Some(filled) => {
             let filled = filled.copy(alloc)?;
             core.records.push(Happened::Cast {
-                p: kept.p,
+                provider: kept.provider,
                 proto: kept.proto,
                 phase: kept.phase,
                 vote: filled.vote,

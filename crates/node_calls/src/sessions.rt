@@ -46,7 +46,7 @@ fn copy_provider(alloc: Global, provider: &Provider) -> Result<Provider, NoMemor
     ensures { IfOk result (λ y. y ≡ provider.now) }
 {
     Ok(Provider {
-        p: provider.p,
+        provider: provider.provider,
         client: provider.client,
         group: provider.group.copy(alloc)?,
         takes_part: provider.takes_part,
@@ -82,7 +82,7 @@ fn send_gone(core: &mut Core, alloc: Global, provider: &Provider) -> Result<(), 
     let gone = Body::Gone {
         view: core.views.view,
         name: provider.group.copy(alloc)?,
-        p: provider.p,
+        provider: provider.provider,
     };
     send_if_known(core, leader, gone)
 }

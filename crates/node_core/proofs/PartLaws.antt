@@ -119,7 +119,7 @@ body_reads k =
     (or_reads (k == 20)
     (made_reads vote_of_parts (λ a h. (h.0.name, h.1.1.1.1.1.0, h.1.1.1.1.1.1))
     (both_find (of_format group_format) (both_find (of_format proto_format) (both_find (of_format u16_format) (both_find (of_format provider_format) (both_find (decoded_find vote_of (of_format u8_format)) (of_format (both_format (optional_format bytes_format) (optional_format bytes_format)))))))))
-    (or_reads (k == 21) (made_reads (λ (x : Gone). body.Gone x.group.view x.group.name x.p) (λ a h. h.group.name) (of_format gone_format))
+    (or_reads (k == 21) (made_reads (λ (x : Gone). body.Gone x.group.view x.group.name x.provider) (λ a h. h.group.name) (of_format gone_format))
     (or_reads (k == 22) (plain_reads _ (λ (x : Query). body.Query x.question x.what) (λ a. tt)) none_reads)))))))))))))))))))))
 
 reply_parts : (r : Option ReplyIn) (b : Body) → option_map (λ (x : ReplyIn). body.Reply x.question x.text) r ≡ Some b → HasParts b

@@ -122,8 +122,8 @@ pub fn take_request_packet<C: Callbacks>(
         return Ok(());
     }
     let asked = Request {
-        p: body.provider,
-        r: body.request,
+        provider: body.provider,
+        request: body.request,
         group: name_of(alloc, &body.group)?,
         phases: body.phases,
         proposal: body.proposal.own(alloc)?,
@@ -259,11 +259,11 @@ pub fn take_gone_packet<C: Callbacks>(
     ensures scripts { OnOk result (KeepsScripts C.script clients.old.items clients.new.items) }
     ensures does { OnOk result (RuleDoes C.script C.stands_for clients.old.items clients.new.items
         core.old core.new (λ f. used_if core.old (take_gone f core.old gone.now.group.name
-        gone.now.p) (is_used core.old (packet_in packet.now) gone.now.group.view))) }
+        gone.now.provider) (is_used core.old (packet_in packet.now) gone.now.group.view))) }
 {
     if !is_used(core, packet, gone.group.view()) {
         return Ok(());
     }
     let name = name_of(alloc, &gone.group)?;
-    take_gone(core, clients, alloc, &name, gone.p)
+    take_gone(core, clients, alloc, &name, gone.provider)
 }

@@ -33,20 +33,20 @@ set_head true o x y d xs rest new ih i e = let k : 0 ≡ i = cc in rw (← k) re
 set_head false None x y d xs rest new ih i e = absurd cc
 set_head false (Some k) x y d xs rest new ih i e = let s : suc k ≡ i = cc in rw (← s) (ap (λ (ys : List _). x ∷ ys) (ih k refl))
 
-pub decision_set : (d : Decision) (xs : List Decision) (i : ℕ) → place_where (is_decision_on d.p) xs ≡ Some i → set xs i d ≡ decisions_with d xs
+pub decision_set : (d : Decision) (xs : List Decision) (i : ℕ) → place_where (is_decision_on d.provider) xs ≡ Some i → set xs i d ≡ decisions_with d xs
 unfolding decisions_with
 decision_set d [] i e = absurd cc
-decision_set d (x ∷ xs) i e = set_head (is_decision_on d.p x) (place_where (is_decision_on d.p) xs) x x x xs (decisions_with d xs) d (λ k h. decision_set d xs k h) i e
+decision_set d (x ∷ xs) i e = set_head (is_decision_on d.provider x) (place_where (is_decision_on d.provider) xs) x x x xs (decisions_with d xs) d (λ k h. decision_set d xs k h) i e
 
 added_head : {A : Type 0} (b : Bool) (o : Option ℕ) (x new there : A) (xs rest : List A) → (o ≡ None → xs ++ new ∷ [] ≡ rest) → cond b (Some 0) (option_map suc o) ≡ None → (x ∷ xs) ++ new ∷ [] ≡ elim b [ true ↦ there ∷ xs | false ↦ x ∷ rest ]
 added_head true o x new there xs rest ih e = absurd cc
 added_head false None x new there xs rest ih e = ap (λ (ys : List _). x ∷ ys) (ih refl)
 added_head false (Some k) x new there xs rest ih e = absurd cc
 
-pub decision_added : (d : Decision) (xs : List Decision) → place_where (is_decision_on d.p) xs ≡ None → xs ++ d ∷ [] ≡ decisions_with d xs
+pub decision_added : (d : Decision) (xs : List Decision) → place_where (is_decision_on d.provider) xs ≡ None → xs ++ d ∷ [] ≡ decisions_with d xs
 unfolding decisions_with
 decision_added d [] e = refl
-decision_added d (x ∷ xs) e = added_head (is_decision_on d.p x) (place_where (is_decision_on d.p) xs) x d d xs (decisions_with d xs) (decision_added d xs) e
+decision_added d (x ∷ xs) e = added_head (is_decision_on d.provider x) (place_where (is_decision_on d.provider) xs) x d d xs (decisions_with d xs) (decision_added d xs) e
 
 pub acked_added : (n len : ℕ) (xs : List Acked) (a : Acked) → place_where (is_acked_by n) xs ≡ None → a ≡ record { node = n; len = len } → xs ++ a ∷ [] ≡ acked_raised n len xs
 unfolding acked_raised

@@ -34,10 +34,10 @@ abbrev pub is_acked_by : ℕ → Acked → Bool
 is_acked_by n a = a.node == n
 
 abbrev pub is_decision_on : ProviderId → Decision → Bool
-is_decision_on p d = same_provider d.p p
+is_decision_on p d = same_provider d.provider p
 
 abbrev pub are_attrs_of : ProviderId → JoinAttrs → Bool
-are_attrs_of p j = same_provider j.p p
+are_attrs_of p j = same_provider j.provider p
 
 -- nothing is led of a group that has no row
 abbrev pub led_or_nothing : Option Led → Led

@@ -296,8 +296,8 @@ pub fn keep_decision(
 {
     let row = row_mut(&mut core.groups, alloc, group)?;
     let decision = Decision {
-        p: provider,
-        r: request,
+        provider,
+        request,
         why,
     };
     tables::keep_decision(&mut row.led.decided, decision)

@@ -96,6 +96,10 @@ pub fn join_attrs_of<'a>(
 {
     match led_of(core, group) {
         None => None,
-        Some(led) => led.join_attrs.as_slice().iter().find(|j| j.p == provider),
+        Some(led) => led
+            .join_attrs
+            .as_slice()
+            .iter()
+            .find(|j| j.provider == provider),
     }
 }

@@ -158,7 +158,7 @@ fn keep_given(
 {
     match cast {
         Cast::Recorded => given.push(Given {
-            p: provider,
+            provider,
             value,
             message,
         }),

@@ -24,7 +24,7 @@ fn acked_place(rows: &[Acked], node: u8) -> Option<usize>
 fn decision_place(rows: &[Decision], provider: ProviderId) -> Option<usize>
     ensures { result ≡ position (is_decision_on provider) rows.now }
 {
-    rows.iter().position(|d| d.p == provider)
+    rows.iter().position(|d| d.provider == provider)
 }
 
 /// The length that a member has acknowledged; 0 where none is noted.
@@ -60,7 +60,7 @@ pub fn raise_acked(table: &mut Table<Acked>, node: u8, len: u32) -> Result<(), N
 pub fn decision_on(table: &Table<Decision>, provider: ProviderId) -> Option<&Decision>
     ensures { option_copied result ≡ find (is_decision_on provider) table.now }
 {
-    table.rows.iter().find(|d| d.p == provider)
+    table.rows.iter().find(|d| d.provider == provider)
 }
 
 /// Keeps a decision in place of the last one on its requester.
@@ -68,7 +68,7 @@ pub fn decision_on(table: &Table<Decision>, provider: ProviderId) -> Option<&Dec
 pub fn keep_decision(table: &mut Table<Decision>, decision: Decision) -> Result<(), NoMemory>
     ensures { OnOk result (table.new ≡ decisions_with decision table.old) }
 {
-    match decision_place(table.rows.as_slice(), decision.p) {
+    match decision_place(table.rows.as_slice(), decision.provider) {
         None => table.rows.push(decision)?,
         Some(i) => table.rows[i] = decision,
     }

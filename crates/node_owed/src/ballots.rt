@@ -17,7 +17,7 @@ pub fn copy_kept(alloc: Global, kept: &KeptBallot) -> Result<KeptBallot, NoMemor
     ensures { IfOk result (λ x. x ≡ kept.now) }
 {
     Ok(KeptBallot {
-        p: kept.p,
+        provider: kept.provider,
         group: kept.group.copy(alloc)?,
         proto: kept.proto,
         phase: kept.phase,

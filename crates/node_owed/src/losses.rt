@@ -52,7 +52,7 @@ fn gone(core: &Core, alloc: Global, group: &Name, provider: ProviderId) -> Resul
     Ok(Body::Gone {
         view: core.views.view,
         name: group.copy(alloc)?,
-        p: provider,
+        provider,
     })
 }
 

@@ -20,8 +20,8 @@ pub fn copy_request(alloc: Global, request: &Request) -> Result<Request, NoMemor
     ensures { IfOk result (λ x. x ≡ request.now) }
 {
     Ok(Request {
-        p: request.p,
-        r: request.r,
+        provider: request.provider,
+        request: request.request,
         group: request.group.copy(alloc)?,
         phases: request.phases,
         proposal: request.proposal.copy(alloc)?,

@@ -32,7 +32,7 @@ fn vote_of(core: &Core, alloc: Global, ballot: &FilledBallot<'_>) -> Result<Body
         name: ballot.group.copy(alloc)?,
         proto: ballot.proto,
         phase: ballot.phase,
-        p: ballot.provider,
+        provider: ballot.provider,
         vote: filled.vote,
         value: filled.value,
         message: filled.message,
@@ -71,7 +71,7 @@ pub fn send_kept_to(
                 group: &kept.group,
                 proto: kept.proto,
                 phase: kept.phase,
-                provider: kept.p,
+                provider: kept.provider,
                 filled,
             };
             send_vote(core, alloc, to, &ballot)
@@ -91,14 +91,14 @@ fn lookup(alloc: Global, view: ViewId, group: &Name) -> Result<Body, NoMemory>
 
 /// The packet of a request.
 fn request(alloc: Global, view: ViewId, request: &Request) -> Result<Body, NoMemory>
-    ensures { IfOk result (λ b. b ≡ body.Request view request.now.group request.now.p request.now.r
+    ensures { IfOk result (λ b. b ≡ body.Request view request.now.group request.now.provider request.now.request
         request.now.phases request.now.proposal) }
 {
     Ok(Body::Request {
         view,
         name: request.group.copy(alloc)?,
-        p: request.p,
-        r: request.r,
+        provider: request.provider,
+        request: request.request,
         phases: request.phases,
         proposal: request.proposal.copy(alloc)?,
     })

@@ -5,10 +5,7 @@ ghost use Rattle.std.specs.Option.{unwrap_or};
 ghost use Rattle.node_state.specs.Settings.{is_fixed, is_rings, networks, address_at, has_adapter, shared_network, speaks_two, view_level};
 
 use node_state::{Config, Mode};
-use rsct_packet::Member;
-
-/// The networks.
-const NETWORKS: [u8; 4] = [1, 2, 3, 4];
+use rsct_packet::{Member, NETWORKS};
 
 /// The number for a node; 0 beyond the last.
 fn number_at(numbers: &[u32], node: u8) -> u32

@@ -13,13 +13,11 @@ use name_server::Names;
 use node_reach::Reach;
 use node_sending::{address, view_level};
 use node_state::{Config, Core, Happened, Mode, Records, Rings, Table};
-use rsct_packet::{List, Mask, Member, Members, NODES, NoMemory, ViewId};
+use rsct_packet::{List, Mask, Member, Members, NETWORKS, NODES, NoMemory, ViewId};
 use session_state::{Locals, SessionState};
 use std::alloc::Global;
 use subscribe_core::Subs;
 use view_state::Views;
-
-const NETWORKS: [u8; 4] = [1, 2, 3, 4];
 
 /// In mode fixed the view of all nodes, else of the node alone.
 #[tactic(auto, unfolding(node_state::specs::Step::first_view, node_state::specs::Settings::least_node))]

@@ -100,7 +100,7 @@ is_in_base old p (Some b) = same_view b.from old && among (present b.state) p
 
 abbrev pub number_of : Option Request → ℕ
 number_of None = 0
-number_of (Some q) = q.r
+number_of (Some q) = q.request
 
 unfoldable pub dissolved : Core → ProviderId → ℕ → Core
 dissolved s p r = recorded (with_sessions s (take_telling s.sessions p r Dissolved)) (happened.Told p r Dissolved)
@@ -109,8 +109,8 @@ dissolved s p r = recorded (with_sessions s (take_telling s.sessions p r Dissolv
 unfoldable pub dissolved_if : Core → List ℕ → ViewId → Option Base → Option Provider → Core
 dissolved_if s g old b None = s
 dissolved_if s g old b (Some x) =
-    elim (x.takes_part && bytes_eq x.group g && not (is_in_base old x.p b)) [
-      | true ↦ dissolved s x.p (number_of (outstanding s.sessions x.p))
+    elim (x.takes_part && bytes_eq x.group g && not (is_in_base old x.provider b)) [
+      | true ↦ dissolved s x.provider (number_of (outstanding s.sessions x.provider))
       | false ↦ s
     ]
 

@@ -158,7 +158,7 @@ body_front_at k bytes =
     else if k == 18 then entry_at bytes
     else if k == 19 then made_at (λ (x : Ack). body.Ack x.group.view x.group.name x.len) ack_at bytes
     else if k == 20 then vote_at bytes
-    else if k == 21 then made_at (λ (x : Gone). body.Gone x.group.view x.group.name x.p) gone_at bytes
+    else if k == 21 then made_at (λ (x : Gone). body.Gone x.group.view x.group.name x.provider) gone_at bytes
     else if k == 22 then made_at (λ (x : Query). body.Query x.question x.what) query_at bytes
     else None
 

@@ -53,7 +53,7 @@ changed s client (Err fault) = refuse_call s client fault
 
 unfoldable pub ask_last : Core → Option Request → Core
 ask_last s None = s
-ask_last s (Some q) = send_request (recorded s (happened.Asked q.p q.r q.group q.proposal)) q
+ask_last s (Some q) = send_request (recorded s (happened.Asked q.provider q.request q.group q.proposal)) q
 
 -- a call that proposes: its request is outstanding, and is sent
 unfoldable pub proposed : Core → List ℕ → Result SessionState GsFault → Core
@@ -62,7 +62,7 @@ proposed s client (Err fault) = refuse_call s client fault
 
 unfoldable pub record_ballot : Core → KeptBallot → Option Filled → Core
 record_ballot s k None = s
-record_ballot s k (Some b) = recorded s (happened.Cast k.p k.proto k.phase b.vote b.value b.message)
+record_ballot s k (Some b) = recorded s (happened.Cast k.provider k.proto k.phase b.vote b.value b.message)
 
 unfoldable pub ballot_sent_if : Core → KeptBallot → Bool → Core
 ballot_sent_if s k true = s
@@ -78,7 +78,7 @@ give_ballot s client (Ok t) = cast_last (with_sessions s t) (last_or None t.kept
 give_ballot s client (Err fault) = refuse_call s client fault
 
 unfoldable pub send_gone : Core → Provider → Core
-send_gone s x = send_if_known s (leader_of s x.group) (body.Gone s.views.view x.group x.p)
+send_gone s x = send_if_known s (leader_of s x.group) (body.Gone s.views.view x.group x.provider)
 
 unfoldable pub send_all_gone : Core → List Provider → Core
 send_all_gone s ended = elim (frozen s) [ true ↦ s | false ↦ fold send_gone s ended ]

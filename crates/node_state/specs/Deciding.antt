@@ -27,7 +27,7 @@ use Rattle.node_state.specs.HandOn.{Answering}
 use Rattle.node_state.specs.Leading.{begins}
 
 unfoldable pub keep_decision : Core → List ℕ → ProviderId → ℕ → Option Why → Core
-keep_decision s g p r y = with_led s g (λ l. record l { decided = decisions_with (record { p = p; r = r; why = y }) l.decided })
+keep_decision s g p r y = with_led s g (λ l. record l { decided = decisions_with (record { provider = p; request = r; why = y }) l.decided })
 
 -- a refusal is kept and sent to the requester's node
 unfoldable pub refused : Core → List ℕ → ProviderId → ℕ → Why → Core
@@ -83,8 +83,8 @@ join_refusal s g p a =
 
 -- the attributes of a request that is decided in an empty idle group are kept
 unfoldable pub keep_attrs : List JoinAttrs → ProviderId → Attrs → Bool → List JoinAttrs
-keep_attrs js p a false = drop_where (λ (j : JoinAttrs). same_provider j.p p) js
-keep_attrs js p a true = drop_where (λ (j : JoinAttrs). same_provider j.p p) js ++ record { p = p; attrs = a } ∷ []
+keep_attrs js p a false = drop_where (λ (j : JoinAttrs). same_provider j.provider p) js
+keep_attrs js p a true = drop_where (λ (j : JoinAttrs). same_provider j.provider p) js ++ record { provider = p; attrs = a } ∷ []
 
 unfoldable pub wait_join : Core → List ℕ → ProviderId → ℕ → Attrs → Bool → Core
 wait_join s g p r a idle =

@@ -39,7 +39,7 @@ unfoldable pub failures_begin : ℕ → Answering → Core → List ℕ → Pass
 failures_begin zero f s g = quiet s
 failures_begin (suc n) f s g =
     let st : GroupState = state_of s g in
-    let out : List Failure = filter (λ (x : Failure). among st.members x.p) (next_failures st.attrs.batch (led_of s g).waiting) in
+    let out : List Failure = filter (λ (x : Failure). among st.members x.provider) (next_failures st.attrs.batch (led_of s g).waiting) in
     let t : Core = with_waiting s g (failures_left st.attrs.batch) in
     elim (is_empty out) [
       | true ↦ failures_begin n f t g
@@ -63,7 +63,7 @@ attrs_or a (Some j) = j.attrs
 -- a join carries the attributes of its request where that was decided in an empty idle group, else the group's own
 unfoldable pub attrs_for : GroupState → List JoinAttrs → List ProviderId → Attrs
 attrs_for st js [] = st.attrs
-attrs_for st js (p ∷ ps) = attrs_or st.attrs (find (λ (j : JoinAttrs). same_provider j.p p) js)
+attrs_for st js (p ∷ ps) = attrs_or st.attrs (find (λ (j : JoinAttrs). same_provider j.provider p) js)
 
 -- a join into a group with a source carries the length of the source's list
 unfoldable pub carried_len : Core → Option (List ℕ) → Option ℕ

@@ -63,7 +63,7 @@ unfoldable pub requests_of : Core → List ℕ → List Request
 requests_of s g = filter (λ (q : Request). bytes_eq q.group g) s.sessions.requests
 
 unfoldable pub named : Core → List ℕ → ℕ → Bool → Core
-named s g n true = fold (λ t (q : Request). take_tell t q.p q.r (GroupsFull 64)) s (requests_of s g)
+named s g n true = fold (λ t (q : Request). take_tell t q.provider q.request (GroupsFull 64)) s (requests_of s g)
 named s g n false = fold send_request (set_leader s g n) (requests_of s g)
 
 -- used where the leader is unknown, and with leader 0 in mode fixed
@@ -91,7 +91,7 @@ request_after f s g p r phases x d false false = decide_new f s g p r phases x
 
 unfoldable pub request_at : Answering → Core → List ℕ → ProviderId → ℕ → Phases → Proposal → Option Decision → Core
 request_at f s g p r phases x None = decide_new f s g p r phases x
-request_at f s g p r phases x (Some d) = request_after f s g p r phases x d (nat_lt r d.r) (r == d.r)
+request_at f s g p r phases x (Some d) = request_after f s g p r phases x d (nat_lt r d.request) (r == d.request)
 
 -- in mode fixed, a new group where 64 lists are held
 unfoldable pub is_group_refused : Core → List ℕ → Bool
@@ -136,7 +136,7 @@ take_ack s from g n = elim (leads s g && nat_le n (len_of s g)) [ true ↦ acked
 
 -- what a ballot carries is kept where its vote is recorded
 unfoldable pub given_with : List Given → ProviderId → Option (List ℕ) → Option (List ℕ) → Cast → List Given
-given_with gs p value message Recorded = gs ++ record { p = p; value = value; message = message } ∷ []
+given_with gs p value message Recorded = gs ++ record { provider = p; value = value; message = message } ∷ []
 given_with gs p value message _ = gs
 
 unfoldable pub vote_cast : Led → ProviderId → Vote → Option (List ℕ) → Option (List ℕ) → Option TallyView → Led

@@ -51,7 +51,7 @@ cast_records p (Some c) = cast_record p c.0 c.1 (c.2).filled
 
 -- a provider hears the entry, and its ballot is kept
 unfoldable pub heard : Core → List ℕ → ℕ → Entry → GroupState → Cast → List Happened
-heard s g i e after c = happened.Heard c.p s.views.view g i e after.members after.value ∷ cast_records c.p c.cast
+heard s g i e after c = happened.Heard c.provider s.views.view g i e after.members after.value ∷ cast_records c.provider c.cast
 
 -- the name of a subscription's client, which is live
 unfoldable pub subscriber_name : SessionState → Subscription → List ℕ
@@ -77,7 +77,7 @@ cast_sent_of s g to p (Some c) = ballot_sent s g to p c.0 c.1 (c.2).filled
 
 -- the ballots go to the leader
 unfoldable pub casts_sent : Core → List ℕ → Option ℕ → List Cast → Core
-casts_sent s g to cs = elim (frozen s) [ true ↦ s | false ↦ fold (λ t c. cast_sent_of t g to c.p c.cast) s cs ]
+casts_sent s g to cs = elim (frozen s) [ true ↦ s | false ↦ fold (λ t c. cast_sent_of t g to c.provider c.cast) s cs ]
 
 -- The entry at place i is handed on; `to` leads, and is sent the ballots.
 unfoldable pub hand_on : Answering → Core → Option ℕ → List ℕ → ℕ → GroupState → GroupState → Entry → Core

@@ -111,7 +111,7 @@ carried_in part (Some x) = part x
 -- what the earliest ballot carries, in voters' order, that carries it
 unfoldable pub first_carried : (Given → Option (List ℕ)) → List Given → List Voter → Option (List ℕ)
 first_carried part gs [] = None
-first_carried part gs (x ∷ xs) = option_or (carried_in part (find (λ y. same_provider y.p x.p) gs)) (first_carried part gs xs)
+first_carried part gs (x ∷ xs) = option_or (carried_in part (find (λ y. same_provider y.provider x.provider) gs)) (first_carried part gs xs)
 
 unfoldable pub value_of : Led → TallyView → Option (List ℕ)
 value_of l t = first_carried (λ x. x.value) l.given t.voters

@@ -72,7 +72,7 @@ send_if_known s (Some n) b = sent s n b
 
 unfoldable pub send_request_to : Core → Request → Option ℕ → Core
 send_request_to s q None = sent s s.views.view.coord (body.Lookup s.views.view q.group)
-send_request_to s q (Some n) = sent s n (body.Request s.views.view q.group q.p q.r q.phases q.proposal)
+send_request_to s q (Some n) = sent s n (body.Request s.views.view q.group q.provider q.request q.phases q.proposal)
 
 -- an outstanding request goes to the leader, where that is known, or its name is looked up
 unfoldable pub send_request : Core → Request → Core
@@ -88,7 +88,7 @@ vote_of s g proto phase p b = body.Vote s.views.view g proto phase p b.vote b.va
 -- a ballot that is kept is filled
 unfoldable pub send_kept_to : Core → KeptBallot → Option ℕ → Option Filled → Core
 send_kept_to s k to None = s
-send_kept_to s k to (Some b) = send_if_known s to (vote_of s k.group k.proto k.phase k.p b)
+send_kept_to s k to (Some b) = send_if_known s to (vote_of s k.group k.proto k.phase k.provider b)
 
 unfoldable pub send_kept : Core → KeptBallot → Core
 send_kept s k = send_kept_to s k (leader_of s k.group) k.ballot.filled

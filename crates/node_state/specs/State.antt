@@ -150,12 +150,12 @@ acked_raised n len (a ∷ rest) =
     elim (a.node == n) [ true ↦ record { node = n; len = max a.len len } ∷ rest | false ↦ a ∷ acked_raised n len rest ]
 
 unfoldable pub decision_of : Led → ProviderId → Option Decision
-decision_of l p = find (λ d. same_provider d.p p) l.decided
+decision_of l p = find (λ d. same_provider d.provider p) l.decided
 
 -- the decision in place of the last one on its requester
 unfoldable pub decisions_with : Decision → List Decision → List Decision
 decisions_with d [] = d ∷ []
-decisions_with d (x ∷ xs) = elim (same_provider x.p d.p) [ true ↦ d ∷ xs | false ↦ x ∷ decisions_with d xs ]
+decisions_with d (x ∷ xs) = elim (same_provider x.provider d.provider) [ true ↦ d ∷ xs | false ↦ x ∷ decisions_with d xs ]
 
 unfoldable pub recorded : Core → Happened → Core
 recorded s r = record s { records = s.records ++ r ∷ [] }

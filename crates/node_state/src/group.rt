@@ -31,21 +31,21 @@ pub struct Acked {
 /// The attributes that a waiting join asked for, where the group was empty and nothing ran.
 #[derive(Drop)]
 pub struct JoinAttrs {
-    pub p: ProviderId,
+    pub provider: ProviderId,
     pub attrs: Attrs,
 }
 
 /// The last request of a provider that a leader decided, and why it was refused, if it was.
 #[derive(Clone, Copy, Debug, PartialEq, Eq)]
 pub struct Decision {
-    pub p: ProviderId,
-    pub r: u32,
+    pub provider: ProviderId,
+    pub request: u32,
     pub why: Option<Why>,
 }
 
 /// The value and the message of a ballot that the tally recorded.
 pub struct Given {
-    pub p: ProviderId,
+    pub provider: ProviderId,
     pub value: Option<Text>,
     pub message: Option<Text>,
 }
@@ -54,7 +54,7 @@ pub struct Given {
 impl Drop for Given {
     fn drop(self) {
         let Given {
-            p: _,
+            provider: _,
             value: _value,
             message: _message,
         } = self;

@@ -50,7 +50,7 @@ pub enum Happened {
     },
     /// The provider's client was handed the entry, with the members and the value after it.
     Heard {
-        p: ProviderId,
+        provider: ProviderId,
         view: ViewId,
         group: Name,
         place: u32,
@@ -60,7 +60,7 @@ pub enum Happened {
     },
     /// A ballot of the provider was kept.
     Cast {
-        p: ProviderId,
+        provider: ProviderId,
         proto: ProtoId,
         phase: u16,
         vote: Vote,
@@ -69,15 +69,15 @@ pub enum Happened {
     },
     /// A request of the provider was taken.
     Asked {
-        p: ProviderId,
-        r: u32,
+        provider: ProviderId,
+        request: u32,
         group: Name,
         proposal: Proposal,
     },
     /// The provider's request was refused; `r` is 0 where the provider was dissolved without one.
     Told {
-        p: ProviderId,
-        r: u32,
+        provider: ProviderId,
+        request: u32,
         why: Why,
     },
     /// A subscribed client was handed this note; `place` is none at an install.
@@ -135,7 +135,7 @@ impl Drop for Happened {
                 entry: _entry,
             } => {}
             Happened::Heard {
-                p: _,
+                provider: _,
                 view: _,
                 group: _group,
                 place: _,
@@ -144,7 +144,7 @@ impl Drop for Happened {
                 value: _value,
             } => {}
             Happened::Cast {
-                p: _,
+                provider: _,
                 proto: _,
                 phase: _,
                 vote: _,
@@ -152,12 +152,16 @@ impl Drop for Happened {
                 message: _message,
             } => {}
             Happened::Asked {
-                p: _,
-                r: _,
+                provider: _,
+                request: _,
                 group: _group,
                 proposal: _proposal,
             } => {}
-            Happened::Told { p: _, r: _, why: _ } => {}
+            Happened::Told {
+                provider: _,
+                request: _,
+                why: _,
+            } => {}
             Happened::Noted {
                 node: _,
                 client: _client,

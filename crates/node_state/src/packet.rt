@@ -36,16 +36,16 @@ pub enum Body {
     Request {
         view: ViewId,
         name: Name,
-        p: ProviderId,
-        r: u32,
+        provider: ProviderId,
+        request: u32,
         phases: Phases,
         proposal: Proposal,
     },
     Tell {
         view: ViewId,
         name: Name,
-        p: ProviderId,
-        r: u32,
+        provider: ProviderId,
+        request: u32,
         why: Why,
     },
     /// An entry at its place; all members hold the entries below `stable`.
@@ -66,7 +66,7 @@ pub enum Body {
         name: Name,
         proto: ProtoId,
         phase: u16,
-        p: ProviderId,
+        provider: ProviderId,
         vote: Vote,
         value: Option<Text>,
         message: Option<Text>,
@@ -74,7 +74,7 @@ pub enum Body {
     Gone {
         view: ViewId,
         name: Name,
-        p: ProviderId,
+        provider: ProviderId,
     },
     Query {
         question: u32,
@@ -105,16 +105,16 @@ impl Drop for Body {
             Body::Request {
                 view: _,
                 name: _name,
-                p: _,
-                r: _,
+                provider: _,
+                request: _,
                 phases: _,
                 proposal: _proposal,
             } => {}
             Body::Tell {
                 view: _,
                 name: _name,
-                p: _,
-                r: _,
+                provider: _,
+                request: _,
                 why: _,
             } => {}
             Body::Entry {
@@ -134,7 +134,7 @@ impl Drop for Body {
                 name: _name,
                 proto: _,
                 phase: _,
-                p: _,
+                provider: _,
                 vote: _,
                 value: _value,
                 message: _message,
@@ -142,7 +142,7 @@ impl Drop for Body {
             Body::Gone {
                 view: _,
                 name: _name,
-                p: _,
+                provider: _,
             } => {}
             Body::Query {
                 question: _,

@@ -58,9 +58,9 @@ same_itself : (p : ProviderId) → same_provider p p ≡ true
 same_itself p = grind (arith, nat_tests)
 
 -- a provider that is found is live
-found_live : (s : SessionState) (p : ProviderId) (x : Provider) → find (is_provider p) s.providers ≡ Some x → provider_of s x.p ≡ None → ⊥
+found_live : (s : SessionState) (p : ProviderId) (x : Provider) → find (is_provider p) s.providers ≡ Some x → provider_of s x.provider ≡ None → ⊥
 unfolding provider_of
-found_live s p x found none = find_none (is_provider x.p) s.providers x (ap is_none none) (find_has (is_provider p) s.providers x found).0 (same_itself x.p)
+found_live s p x found none = find_none (is_provider x.provider) s.providers x (ap is_none none) (find_has (is_provider p) s.providers x found).0 (same_itself x.provider)
 
 dissolved_does : (scripts : List (Option (List (Option VoteItem)))) (P : List Handing → Type 0) (s t : Core) (p : ProviderId) (r : ℕ) → (provider_of s.sessions p ≡ None → ⊥) → t ≡ dissolved s p r → Stays s t → P (handed_at (place_of s.sessions p) (happened.Told p r Dissolved) ∷ [])
     → Does scripts P s t (λ f. dissolved s p r)
@@ -78,26 +78,26 @@ pub unfound_does : (scripts : List (Option (List (Option VoteItem)))) (P : List 
 unfolding dissolved_if provider_of
 unfound_does scripts P nothing s g old b p none = does_as scripts P s s (λ f. s) _ (λ f. rw (← none) refl) (does_nothing scripts P s nothing)
 
-if_left : (s : Core) (g : List ℕ) (old : ViewId) (b : Option Base) (o : Option Provider) (x : Provider) (left : Bool) → Some x ≡ o → left ≡ (x.takes_part && bytes_eq x.group g && not (is_in_base old x.p b))
-    → (elim left as (λ _. Core) [ true ↦ dissolved s x.p (number_of (outstanding s.sessions x.p)) | false ↦ s ]) ≡ dissolved_if s g old b o
+if_left : (s : Core) (g : List ℕ) (old : ViewId) (b : Option Base) (o : Option Provider) (x : Provider) (left : Bool) → Some x ≡ o → left ≡ (x.takes_part && bytes_eq x.group g && not (is_in_base old x.provider b))
+    → (elim left as (λ _. Core) [ true ↦ dissolved s x.provider (number_of (outstanding s.sessions x.provider)) | false ↦ s ]) ≡ dissolved_if s g old b o
 unfolding dissolved_if
 if_left s g old b o x left some is =
-    ap (λ z. elim z as (λ _. Core) [ true ↦ dissolved s x.p (number_of (outstanding s.sessions x.p)) | false ↦ s ]) is ∙ ap (dissolved_if s g old b) some
+    ap (λ z. elim z as (λ _. Core) [ true ↦ dissolved s x.provider (number_of (outstanding s.sessions x.provider)) | false ↦ s ]) is ∙ ap (dissolved_if s g old b) some
 
 -- it does not take part, or lives in the base
 pub spared_does : (scripts : List (Option (List (Option VoteItem)))) (P : List Handing → Type 0) → P [] → (s : Core) (g : List ℕ) (old : ViewId) (b : Option Base) (p : ProviderId) (x : Provider) (left : Bool) → Some x ≡ find (is_provider p) s.sessions.providers
-    → left ≡ (x.takes_part && bytes_eq x.group g && not (is_in_base old x.p b)) → left ≡ false → Does scripts P s s (λ f. dissolved_if s g old b (provider_of s.sessions p))
+    → left ≡ (x.takes_part && bytes_eq x.group g && not (is_in_base old x.provider b)) → left ≡ false → Does scripts P s s (λ f. dissolved_if s g old b (provider_of s.sessions p))
 unfolding provider_of
 spared_does scripts P nothing s g old b p x left some is stays = does_as scripts P s s (λ f. s) _ (λ f. if_left s g old b _ x false some (sym stays ∙ is)) (does_nothing scripts P s nothing)
 
 -- it is dissolved
 pub left_out_does : (scripts : List (Option (List (Option VoteItem)))) (P : List Handing → Type 0) (s t : Core) (g : List ℕ) (old : ViewId) (b : Option Base) (p : ProviderId) (x : Provider) (left : Bool) (r : ℕ) → Some x ≡ find (is_provider p) s.sessions.providers
-    → left ≡ (x.takes_part && bytes_eq x.group g && not (is_in_base old x.p b)) → left ≡ true → r ≡ number_of (outstanding s.sessions x.p) → t ≡ dissolved s x.p r → Stays s t → P (handed_at (place_of s.sessions x.p) (happened.Told x.p r Dissolved) ∷ [])
+    → left ≡ (x.takes_part && bytes_eq x.group g && not (is_in_base old x.provider b)) → left ≡ true → r ≡ number_of (outstanding s.sessions x.provider) → t ≡ dissolved s x.provider r → Stays s t → P (handed_at (place_of s.sessions x.provider) (happened.Told x.provider r Dissolved) ∷ [])
     → Does scripts P s t (λ f. dissolved_if s g old b (provider_of s.sessions p))
 unfolding provider_of
 left_out_does scripts P s t g old b p x left r some is out number dissolving stays received =
-    does_as scripts P s t (λ f. dissolved s x.p r) _ (λ f. ap (dissolved s x.p) number ∙ if_left s g old b _ x true some (sym out ∙ is))
-    (dissolved_does scripts P s t x.p r (found_live s.sessions p x (sym some)) dissolving stays received)
+    does_as scripts P s t (λ f. dissolved s x.provider r) _ (λ f. ap (dissolved s x.provider) number ∙ if_left s g old b _ x true some (sym out ∙ is))
+    (dissolved_does scripts P s t x.provider r (found_live s.sessions p x (sym some)) dissolving stays received)
 
 untold_place : (s : SessionState) (o : Option Provider) (numbered : Bool) → (is_some o && (numbered || true)) ≡ false → place_for s o ≡ None
 untold_place s None numbered e = refl

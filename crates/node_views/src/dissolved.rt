@@ -45,18 +45,18 @@ fn is_in_base(old: ViewId, provider: ProviderId, base: Option<&Base>) -> bool
 /// Does it take part in the group, and not live in its base?
 fn is_left_out(provider: &Provider, group: &Name, old: ViewId, base: Option<&Base>) -> bool
     ensures { result ≡ (provider.now.takes_part && bytes_eq provider.now.group group.now
-        && not (is_in_base old provider.now.p (option_copied base.entry))) }
+        && not (is_in_base old provider.now.provider (option_copied base.entry))) }
 {
     provider.takes_part
         && provider.group.bytes() == group.bytes()
-        && !is_in_base(old, provider.p, base)
+        && !is_in_base(old, provider.provider, base)
 }
 
 /// The outstanding request of a provider.
 fn request_of(requests: &[Request], provider: ProviderId) -> Option<&Request>
     ensures { option_copied result ≡ find (is_asked_by provider) requests.now }
 {
-    requests.iter().find(|q| q.p == provider)
+    requests.iter().find(|q| q.provider == provider)
 }
 
 /// The number of the provider's outstanding request; 0 where it has none.
@@ -66,7 +66,7 @@ fn number_of(sessions: &SessionState, provider: ProviderId) -> u32
 {
     match request_of(sessions.requests.as_slice(), provider) {
         None => 0,
-        Some(q) => q.r,
+        Some(q) => q.request,
     }
 }
 
@@ -96,8 +96,8 @@ fn tell_dissolved<C: Callbacks>(
         clients,
         place_of(sessions, provider),
         &Told::Refused {
-            p: provider,
-            r: request,
+            provider,
+            request,
             why,
         },
     )?;
@@ -124,8 +124,8 @@ fn dissolve<C: Callbacks>(
 {
     tell_dissolved(&mut core.sessions, clients, provider, request)?;
     core.records.push(Happened::Told {
-        p: provider,
-        r: request,
+        provider,
+        request,
         why: Why::Dissolved,
     })
 }
@@ -154,7 +154,7 @@ fn dissolve_if<C: Callbacks>(
             if !is_left_out(x, group, old, base) {
                 return Ok(());
             }
-            let provider = x.p;
+            let provider = x.provider;
             let r = number_of(&core.sessions, provider);
             dissolve(core, clients, provider, r)
         }

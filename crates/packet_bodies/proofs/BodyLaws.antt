@@ -85,8 +85,8 @@ ack_format = fits_format IsAck (λ b h. record { group = h.0; len = h.1 }) (λ b
 
 pub gone_format : IsFormat gone_at gone_text IsGone
 unfolding gone_at gone_text
-gone_format = fits_format IsGone (λ b h. record { group = h.0; p = h.1 }) (λ b h. (h.group, h.p))
-    (made_format gone_of_parts (λ b. (b.group, b.p)) (λ a. refl) (λ b. refl) (both_format group_format provider_format))
+gone_format = fits_format IsGone (λ b h. record { group = h.0; provider = h.1 }) (λ b h. (h.group, h.provider))
+    (made_format gone_of_parts (λ b. (b.group, b.provider)) (λ a. refl) (λ b. refl) (both_format group_format provider_format))
 
 what_back : (n : ℕ) (w : What) → what_of n ≡ Some w → what_code w ≡ n
 what_back n w e = by (n == 1) (n == 2) (n == 3) (n == 4) refl refl refl refl e

@@ -165,13 +165,13 @@ ack_at bytes = made_at ack_of_parts (both_at group_at (number_at w32)) bytes
 
 pub record IsGone (b : Gone) : Type 0 where
   pub group : IsGroup b.group
-  pub p : IsProvider b.p
+  pub provider : IsProvider b.provider
 
 abbrev pub gone_of_parts : GroupIn × ProviderId → Gone
-gone_of_parts x = record { group = x.0; p = x.1 }
+gone_of_parts x = record { group = x.0; provider = x.1 }
 
 unfoldable pub gone_text : Gone → List ℕ
-gone_text b = group_text b.group ++ provider_text b.p
+gone_text b = group_text b.group ++ provider_text b.provider
 
 unfoldable pub gone_at : List ℕ → Option (Gone × List ℕ)
 gone_at bytes = made_at gone_of_parts (both_at group_at provider_at) bytes

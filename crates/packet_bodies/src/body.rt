@@ -67,7 +67,7 @@ pub struct Ack<'a> {
 #[derive(Drop)]
 pub struct Gone<'a> {
     pub group: GroupRef<'a>,
-    pub p: ProviderId,
+    pub provider: ProviderId,
 }
 
 /// What a status asks for: the rings, the view, the groups, or the votes.

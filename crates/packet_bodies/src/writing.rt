@@ -175,19 +175,19 @@ pub fn put_ack(out: &mut Vec<u8>, body: &Ack) -> Result<(), NoMemory>
 fn put_gone_parts(out: &mut Vec<u8>, body: &Gone) -> Result<(), NoMemory>
     requires coord { IsNode body.now.group.view.coord }
     requires name { IsName body.now.group.name }
-    requires node { IsNode body.now.p.node }
+    requires node { IsNode body.now.provider.node }
     ensures ok { OnOk result (out.new.items ≡ out.old.items ++ gone_text body.now) }
     ensures err { OnErr result (take (length out.old.items) out.new.items ≡ out.old.items) }
 {
     put_group(out, &body.group)?;
-    put_provider(out, body.p)
+    put_provider(out, body.provider)
 }
 
 /// A GONE.
 pub fn put_gone(out: &mut Vec<u8>, body: &Gone) -> Result<(), NoMemory>
     requires coord { IsNode body.now.group.view.coord }
     requires name { IsName body.now.group.name }
-    requires node { IsNode body.now.p.node }
+    requires node { IsNode body.now.provider.node }
     ensures ok { OnOk result (out.new.items ≡ out.old.items ++ gone_text body.now) }
     ensures err { OnErr result (out.new.items ≡ out.old.items) }
 {

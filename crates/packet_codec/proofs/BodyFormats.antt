@@ -160,7 +160,7 @@ body_again (body.Vote v name proto phase p y value message) h =
     read_made vote_of_parts
     (both_format group_format (both_format proto_format (both_format u16_format (both_format provider_format (both_format vote_format (both_format (optional_format bytes_format) (optional_format bytes_format)))))))
     (record { view = v; name = name }, (proto, (phase, (p, (y, (value, message)))))) h
-body_again (body.Gone v name p) h = read_made (λ x. body.Gone x.group.view x.group.name x.p) gone_format (record { group = record { view = v; name = name }; p = p }) h
+body_again (body.Gone v name p) h = read_made (λ x. body.Gone x.group.view x.group.name x.provider) gone_format (record { group = record { view = v; name = name }; provider = p }) h
 body_again (body.Query question what) h = read_made (λ (x : Query). body.Query x.question x.what) query_format (record { question = question; what = what }) h
 body_again (body.Reply question text) h = rw (u32_format.again question text h) refl
 

@@ -26,7 +26,7 @@ body_in (ref.Tell x) = body.Tell x.group.view x.group.name x.provider x.request 
 body_in (ref.Entry x) = body.Entry x.group.view x.group.name x.place x.stable (entry_in x.entry)
 body_in (ref.Ack x) = body.Ack x.group.view x.group.name x.len
 body_in (ref.Vote x) = body.Vote x.group.view x.group.name x.proto x.phase x.provider x.vote (option_copied x.value) (option_copied x.message)
-body_in (ref.Gone x) = body.Gone x.group.view x.group.name x.p
+body_in (ref.Gone x) = body.Gone x.group.view x.group.name x.provider
 body_in (ref.Query x) = body.Query x.question x.what
 body_in (ref.Reply x) = body.Reply x.question x.text
 

@@ -60,7 +60,7 @@ IsBody (body.Entry v name place stable e) = IsGroup (record { view = v; name = n
 IsBody (body.Ack v name len) = IsAck (record { group = record { view = v; name = name }; len = len })
 IsBody (body.Vote v name proto phase p vote value message) =
     IsGroup (record { view = v; name = name }) × (IsProto proto × (IsU16 phase × (IsProvider p × (Unit {0} × (OptionFits AreShort value × OptionFits AreShort message)))))
-IsBody (body.Gone v name p) = IsGone (record { group = record { view = v; name = name }; p = p })
+IsBody (body.Gone v name p) = IsGone (record { group = record { view = v; name = name }; provider = p })
 IsBody (body.Query question what) = IsU32 question
 IsBody (body.Reply question text) = IsU32 question
 

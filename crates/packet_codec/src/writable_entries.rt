@@ -26,7 +26,7 @@ const MAX_ROWS: usize = 255;
 fn is_same_failure(first: Failure, second: Failure) -> bool
     ensures { result ≡ same_failure first second }
 {
-    first.p == second.p && first.cause == second.cause
+    first.provider == second.provider && first.cause == second.cause
 }
 
 fn is_listed(failure: Failure, failures: &[Failure]) -> bool
@@ -52,7 +52,7 @@ fn are_apart(failures: &[Failure]) -> bool
 fn is_each_failure(failures: &[Failure]) -> bool
     ensures { IsTrue result → EachFits IsFailure failures.now }
 {
-    failures.iter().all(|f| is_provider(f.p))
+    failures.iter().all(|f| is_provider(f.provider))
 }
 
 /// Are these 1 to 64 failures that differ, each with a spelling?
@@ -113,12 +113,28 @@ pub fn is_proposal(proposal: &Proposal) -> bool
             attrs,
             source_len,
         } => is_join(ps, attrs, *source_len),
-        Proposal::Leave { p, r } => is_request(*p, *r),
+        Proposal::Leave { provider, request } => is_request(*provider, *request),
         Proposal::Fail { out } => are_fallen(out.as_slice()),
-        Proposal::Expel { p, r, out } => is_request(*p, *r) && are_some_providers(out),
-        Proposal::State { p, r, value } => is_request(*p, *r) && is_text(value),
-        Proposal::Message { p, r, bytes } => is_request(*p, *r) && is_text(bytes),
-        Proposal::Attributes { p, r, attrs } => is_request(*p, *r) && are_attrs(attrs),
+        Proposal::Expel {
+            provider,
+            request,
+            out,
+        } => is_request(*provider, *request) && are_some_providers(out),
+        Proposal::State {
+            provider,
+            request,
+            value,
+        } => is_request(*provider, *request) && is_text(value),
+        Proposal::Message {
+            provider,
+            request,
+            bytes,
+        } => is_request(*provider, *request) && is_text(bytes),
+        Proposal::Attributes {
+            provider,
+            request,
+            attrs,
+        } => is_request(*provider, *request) && are_attrs(attrs),
         Proposal::Reflect { view, place, value } => is_place(*view, *place) && is_text(value),
     }
 }
@@ -126,7 +142,7 @@ pub fn is_proposal(proposal: &Proposal) -> bool
 fn is_each_row(rows: &[Row]) -> bool
     ensures { IsTrue result → EachFits IsRow rows.now }
 {
-    rows.iter().all(|row| is_provider(row.p))
+    rows.iter().all(|row| is_provider(row.provider))
 }
 
 /// Are the rows few enough for a byte to count, each with a spelling?

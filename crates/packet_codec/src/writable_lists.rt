@@ -9,24 +9,12 @@ use crate::writable_entries::{are_attrs, is_proposal, is_sized_entry};
 use crate::writable_ids::{
     are_providers, is_mask, is_member, is_optional_text, is_proto, is_text, is_view,
 };
-use proposal_core::{Entry, GroupState, Running};
-use rsct_packet::{Member, ProtoId, ViewId};
-use view_state::{Install, Part, Source};
-
-/// How many parts, members or sources a list has at most.
-const MAX_PARTS: usize = 255;
+use proposal_core::{Entry, GroupState, MAX_PHASES, Running};
+use rsct_packet::{Member, NODES, ProtoId, ViewId};
+use view_state::{Install, MAX_PARTS, Part, Source};
 
 /// How long a list is at most.
 const LAST_LEN: u128 = 4_294_967_295;
-
-/// The last phase of a protocol.
-const LAST_PHASE: u16 = 200;
-
-/// The nodes.
-const NODES: [u8; 32] = [
-    1, 2, 3, 4, 5, 6, 7, 8, 9, 10, 11, 12, 13, 14, 15, 16, 17, 18, 19, 20, 21, 22, 23, 24, 25, 26,
-    27, 28, 29, 30, 31, 32,
-];
 
 fn is_optional_proto(proto: Option<ProtoId>) -> bool
     ensures { IsTrue result → OptionFits IsProto proto }
@@ -43,7 +31,7 @@ fn is_running(run: &Running) -> bool
 {
     is_proto(run.proto)
         && run.phase >= 1
-        && run.phase <= LAST_PHASE
+        && run.phase <= MAX_PHASES
         && is_proposal(&run.proposal)
         && is_optional_text(&run.proposed)
 }

@@ -21,12 +21,9 @@ use group_attr::Phases;
 use node_state::{Body, Packet, ReportRow};
 use proposal_core::Proposal;
 use rsct_packet::{
-    Name, ProtoId, ProviderId, Text, ViewId, is_group_kind, is_head, is_node_number,
+    MAX_NODES, Name, ProtoId, ProviderId, Text, ViewId, is_group_kind, is_head, is_node_number,
 };
 use view_state::ViewPacket;
-
-/// How many nodes there are.
-const LAST_NODE: u8 = 32;
 
 fn is_ring_body(packet: RingPacket) -> bool
     ensures { IsTrue result → IsRingBody packet }
@@ -152,27 +149,27 @@ fn is_body(body: &Body) -> bool
         Body::Report { rows } => is_report(rows.as_slice()),
         Body::View { packet } => is_view_body(packet),
         Body::Lookup { view, name } => is_group(*view, name),
-        Body::Name { view, name, leader } => is_group(*view, name) && *leader <= LAST_NODE,
+        Body::Name { view, name, leader } => is_group(*view, name) && *leader <= MAX_NODES,
         Body::Request {
             view,
             name,
-            p,
-            r,
+            provider,
+            request,
             phases,
             proposal,
         } => {
             is_group(*view, name)
-                && is_request(*p, *r)
+                && is_request(*provider, *request)
                 && is_proposal(proposal)
                 && has_phases(*phases, proposal)
         }
         Body::Tell {
             view,
             name,
-            p,
-            r,
+            provider,
+            request,
             why,
-        } => is_group(*view, name) && is_request(*p, *r) && is_why(*why),
+        } => is_group(*view, name) && is_request(*provider, *request) && is_why(*why),
         Body::Entry {
             view,
             name,
@@ -186,12 +183,16 @@ fn is_body(body: &Body) -> bool
             name,
             proto,
             phase,
-            p,
+            provider,
             value,
             message,
             ..
-        } => is_group(*view, name) && is_ballot(*proto, *phase, *p, value, message),
-        Body::Gone { view, name, p } => is_group(*view, name) && is_provider(*p),
+        } => is_group(*view, name) && is_ballot(*proto, *phase, *provider, value, message),
+        Body::Gone {
+            view,
+            name,
+            provider,
+        } => is_group(*view, name) && is_provider(*provider),
         Body::Query { question, .. } => is_number(*question),
         Body::Reply { question, .. } => is_number(*question),
     }

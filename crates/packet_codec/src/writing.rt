@@ -236,23 +236,23 @@ fn put_body(alloc: Global, out: &mut Vec<u8>, body: &Body) -> Result<(), NoMemor
         Body::Request {
             view,
             name,
-            p,
-            r,
+            provider,
+            request,
             phases,
             proposal,
         } => {
             put_named(out, *view, name)?;
-            put_asked(alloc, out, *p, *r, *phases, proposal)
+            put_asked(alloc, out, *provider, *request, *phases, proposal)
         }
         Body::Tell {
             view,
             name,
-            p,
-            r,
+            provider,
+            request,
             why,
         } => {
             put_named(out, *view, name)?;
-            put_told(out, *p, *r, why)
+            put_told(out, *provider, *request, why)
         }
         Body::Entry {
             view,
@@ -276,20 +276,24 @@ fn put_body(alloc: Global, out: &mut Vec<u8>, body: &Body) -> Result<(), NoMemor
             name,
             proto,
             phase,
-            p,
+            provider,
             vote,
             value,
             message,
         } => {
             put_named(out, *view, name)?;
-            put_voter(out, *proto, *phase, *p)?;
+            put_voter(out, *proto, *phase, *provider)?;
             put_filled(out, *vote, value, message)
         }
-        Body::Gone { view, name, p } => put_gone(
+        Body::Gone {
+            view,
+            name,
+            provider,
+        } => put_gone(
             out,
             &Gone {
                 group: GroupRef::new(*view, name.bytes()),
-                p: *p,
+                provider: *provider,
             },
         ),
         Body::Query { question, what } => put_query(

@@ -159,7 +159,7 @@ fn ack_is_read(alloc: Global) -> Result<bool, NoMemory> {
 
 /// The provider that is gone is read as it was written.
 fn gone_is_read(alloc: Global) -> Result<bool, NoMemory> {
-    let p = ProviderId {
+    let provider = ProviderId {
         node: 1,
         inc: 1,
         instance: 7,
@@ -167,13 +167,13 @@ fn gone_is_read(alloc: Global) -> Result<bool, NoMemory> {
     };
     let gone = Gone {
         group: GroupRef::new(VIEW, b"db"),
-        p,
+        provider,
     };
     let mut out = Vec::new(alloc);
     put_gone(&mut out, &gone)?;
     match read_gone(&out) {
         None => Ok(false),
-        Some(read) => Ok(read.p == p),
+        Some(read) => Ok(read.provider == provider),
     }
 }
 

@@ -35,16 +35,16 @@ row_none xs i d h e = row_added xs i d h ∙ (ap (λ (r : Option Row). rows_of (
 -- ---- what is carried
 
 front_of : (part : Given → Option (List ℕ)) (gs : List Given) (xs : List Voter) (i : ℕ) (d : Voter) → i < length xs
-    → first_carried part gs (drop i xs) ≡ option_or (carried_in part (find (λ (y : Given). same_provider y.p (get_or xs i d).p) gs)) (first_carried part gs (drop (i + 1) xs))
+    → first_carried part gs (drop i xs) ≡ option_or (carried_in part (find (λ (y : Given). same_provider y.provider (get_or xs i d).provider) gs)) (first_carried part gs (drop (i + 1) xs))
 unfolding first_carried
 front_of part gs xs i d h = let e : drop i xs ≡ get_or xs i d ∷ drop (i + 1) xs = rw add-one (drop-cons xs i d h) in ap (first_carried part gs) e
 
 pub carried_here : (part : Given → Option (List ℕ)) (gs : List Given) (xs : List Voter) (i : ℕ) (d : Voter) (t : List ℕ) → i < length xs
-    → Some t ≡ carried_in part (find (λ (y : Given). same_provider y.p (get_or xs i d).p) gs) → first_carried part gs (drop i xs) ≡ Some t
+    → Some t ≡ carried_in part (find (λ (y : Given). same_provider y.provider (get_or xs i d).provider) gs) → first_carried part gs (drop i xs) ≡ Some t
 carried_here part gs xs i d t h e = front_of part gs xs i d h ∙ ap (λ (o : Option (List ℕ)). option_or o (first_carried part gs (drop (i + 1) xs))) (sym e)
 
 pub carried_on : (part : Given → Option (List ℕ)) (gs : List Given) (xs : List Voter) (i : ℕ) (d : Voter) → i < length xs
-    → None ≡ carried_in part (find (λ (y : Given). same_provider y.p (get_or xs i d).p) gs) → first_carried part gs (drop i xs) ≡ first_carried part gs (drop (i + 1) xs)
+    → None ≡ carried_in part (find (λ (y : Given). same_provider y.provider (get_or xs i d).provider) gs) → first_carried part gs (drop i xs) ≡ first_carried part gs (drop (i + 1) xs)
 carried_on part gs xs i d h e = front_of part gs xs i d h ∙ ap (λ (o : Option (List ℕ)). option_or o (first_carried part gs (drop (i + 1) xs))) (sym e)
 
 pub carried_last : (part : Given → Option (List ℕ)) (gs : List Given) (xs : List Voter) (i : ℕ) → length xs ≤ i → first_carried part gs (drop i xs) ≡ None

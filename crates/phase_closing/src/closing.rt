@@ -8,13 +8,10 @@ ghost use Rattle.node_state.specs.Leading.{carried_in, first_carried, value_of, 
 ghost use Rattle.phase_closing.specs.Parts.{part_of};
 
 use node_state::{Given, Led};
-use proposal_core::{Closed, Entry, Row, Rows, Running, Vote};
+use proposal_core::{Closed, Entry, MAX_PHASES, Row, Rows, Running, Vote};
 use rsct_packet::{List, NoMemory, ProviderId, Text};
 use std::alloc::Global;
 use vote_phases::{Tally, Voter};
-
-/// The last phase of a protocol.
-const LAST_PHASE: u16 = 200;
 
 /// A part of a ballot.
 #[derive(Clone, Copy)]
@@ -29,7 +26,10 @@ fn row_of(voter: &Voter) -> Option<Row>
 {
     match voter.vote {
         None => None,
-        Some(vote) => Some(Row { p: voter.p, vote }),
+        Some(vote) => Some(Row {
+            provider: voter.provider,
+            vote,
+        }),
     }
 }
 
@@ -49,9 +49,9 @@ fn rows_of(alloc: Global, voters: &[Voter]) -> Result<Rows, NoMemory>
 
 /// The ballot of a provider.
 fn ballot_of(given: &[Given], provider: ProviderId) -> Option<&Given>
-    ensures { option_copied result ≡ find (λ (y : Given). same_provider y.p provider) given.now }
+    ensures { option_copied result ≡ find (λ (y : Given). same_provider y.provider provider) given.now }
 {
-    given.iter().find(|x| x.p == provider)
+    given.iter().find(|x| x.provider == provider)
 }
 
 /// What a ballot carries as this part.
@@ -67,7 +67,7 @@ fn part_of(ballot: &Given, part: Part) -> Option<&Text>
 /// What the ballot of a provider carries.
 fn carried_by(given: &[Given], provider: ProviderId, part: Part) -> Option<&Text>
     ensures { option_copied result ≡ carried_in (part_of part)
-        (find (λ (y : Given). same_provider y.p provider) given.now) }
+        (find (λ (y : Given). same_provider y.provider provider) given.now) }
 {
     match ballot_of(given, provider) {
         None => None,
@@ -80,7 +80,7 @@ fn first_carried<'a>(given: &'a [Given], voters: &[Voter], part: Part) -> Option
     ensures { option_copied result ≡ first_carried (part_of part) given.now voters.now }
 {
     for voter in voters {
-        if let Some(text) = carried_by(given, voter.p, part) {
+        if let Some(text) = carried_by(given, voter.provider, part) {
             return Some(text);
         }
     }
@@ -149,7 +149,7 @@ fn closing(
         )?)),
         Vote::Reject => Ok(Entry::Reject(closed_by(alloc, led, tally, run, None)?)),
         Vote::Continue => {
-            if run.phase >= LAST_PHASE {
+            if run.phase >= MAX_PHASES {
                 Ok(Entry::Reject(closed_by(alloc, led, tally, run, None)?))
             } else {
                 Ok(Entry::Phase(closed_by(alloc, led, tally, run, value_of(led, tally))?))

@@ -4,7 +4,7 @@ ghost use Rattle.std.specs.List.{list_any};
 ghost use Rattle.world_model.specs.Play.{is_cut_of, networks_in, healed, with_cuts};
 ghost use Rattle.play_state.specs.Cuts.{cut_in, cut_on, is_other};
 
-use rsct_packet::NoMemory;
+use rsct_packet::{NETWORKS, NoMemory};
 use std::alloc::Global;
 use std::marker::Model;
 
@@ -31,8 +31,6 @@ impl Model for Cuts {
 
     ghost view = { λ c. map cut_in c.rows.items };
 }
-
-const NETWORKS: [u8; 4] = [1, 2, 3, 4];
 
 /// Is it the cut of these two nodes on this network?
 #[tactic(auto, unfolding(world_model::specs::Play::is_cut_of))]

@@ -29,4 +29,4 @@ unfolding cause_at
 cause_format = fits_format (λ c. Unit {0}) (λ c h. tt) (λ c h. cause_small c) (decoded_format cause_of cause_number cause_back (λ y h. cause_forth y) u8_format)
 
 pub failure_format : IsFormat failure_at failure_text IsFailure
-failure_format = fits_format IsFailure (λ f h. h.0) (λ f h. (h, tt)) (made_format failure_of_parts (λ f. (f.p, f.cause)) (λ a. refl) (λ b. refl) (both_format provider_format cause_format))
+failure_format = fits_format IsFailure (λ f h. h.0) (λ f h. (h, tt)) (made_format failure_of_parts (λ f. (f.provider, f.cause)) (λ a. refl) (λ b. refl) (both_format provider_format cause_format))

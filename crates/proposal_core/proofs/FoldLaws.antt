@@ -22,11 +22,11 @@ nobody_off [] = refl
 nobody_off (x ∷ xs) = ap (λ (ys : List ProviderId). x ∷ ys) (nobody_off xs)
 
 -- one more is taken off
-pub fallen_more : (xs : List ProviderId) (out : List Failure) (i : ℕ) (d : Failure) → i < length out → without_all xs (fallen_of (take (i + 1) out)) ≡ without_all (without_all xs (fallen_of (take i out))) ((get_or out i d).p ∷ [])
+pub fallen_more : (xs : List ProviderId) (out : List Failure) (i : ℕ) (d : Failure) → i < length out → without_all xs (fallen_of (take (i + 1) out)) ≡ without_all (without_all xs (fallen_of (take i out))) ((get_or out i d).provider ∷ [])
 fallen_more xs out i d lt =
     ap (λ (fs : List Failure). without_all xs (fallen_of fs)) (take_more out i d lt)
-    ∙ ap (without_all xs) (map-append (λ (f : Failure). f.p) (take i out) (get_or out i d ∷ []))
-    ∙ without_all-append xs (fallen_of (take i out)) ((get_or out i d).p ∷ [])
+    ∙ ap (without_all xs) (map-append (λ (f : Failure). f.provider) (take i out) (get_or out i d ∷ []))
+    ∙ without_all-append xs (fallen_of (take i out)) ((get_or out i d).provider ∷ [])
 
 -- The members are the same whatever attributes come.
 attrs_keep_members : (s : GroupState) (attrs : Option Attrs) → (take_attrs s attrs).members ≡ s.members

@@ -44,4 +44,4 @@ unfolding row_vote_at
 row_vote_format = fits_format (λ v. Unit {0}) (λ v h. tt) (λ v h. row_vote_small v) (decoded_format row_vote_of row_vote_number row_vote_back (λ y h. row_vote_forth y) u8_format)
 
 pub row_format : IsFormat row_at row_text IsRow
-row_format = fits_format IsRow (λ r h. h.0) (λ r h. (h, tt)) (made_format row_of_parts (λ r. (r.p, r.vote)) (λ a. refl) (λ b. refl) (both_format provider_format row_vote_format))
+row_format = fits_format IsRow (λ r h. h.0) (λ r h. (h, tt)) (made_format row_of_parts (λ r. (r.provider, r.vote)) (λ a. refl) (λ b. refl) (both_format provider_format row_vote_format))

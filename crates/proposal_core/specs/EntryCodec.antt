@@ -42,16 +42,16 @@ unfoldable pub row_vote_at : List ℕ → Option (RowVote × List ℕ)
 row_vote_at bytes = decoded_at row_vote_of (number_at w8) bytes
 
 abbrev pub row_of_parts : ProviderId × RowVote → Row
-row_of_parts x = record { p = x.0; vote = x.1 }
+row_of_parts x = record { provider = x.0; vote = x.1 }
 
 abbrev pub row_at : List ℕ → Option (Row × List ℕ)
 row_at bytes = made_at row_of_parts (both_at provider_at row_vote_at) bytes
 
 abbrev pub row_text : Row → List ℕ
-row_text row = provider_text row.p ++ u8_text (row_vote_number row.vote)
+row_text row = provider_text row.provider ++ u8_text (row_vote_number row.vote)
 
 abbrev pub IsRow : Row → Type 0
-IsRow row = IsProvider row.p
+IsRow row = IsProvider row.provider
 
 -- how a phase closed
 

@@ -38,7 +38,7 @@ abbrev pub present : GroupState → List ProviderId
 present s = s.members ++ joiners_in s.running
 
 abbrev pub fallen_of : List Failure → List ProviderId
-fallen_of out = map (λ f. f.p) out
+fallen_of out = map (λ f. f.provider) out
 
 -- whether a proposal can begin where nothing runs
 unfoldable pub can_begin : GroupState → Proposal → Bool

@@ -30,19 +30,19 @@ cause_at bytes = decoded_at cause_of (number_at w8) bytes
 -- whom a failure leave removes: 1 to 64 pairs of provider and cause that differ
 
 abbrev pub failure_of_parts : ProviderId × Cause → Failure
-failure_of_parts p = record { p = p.0; cause = p.1 }
+failure_of_parts p = record { provider = p.0; cause = p.1 }
 
 abbrev pub failure_at : List ℕ → Option (Failure × List ℕ)
 failure_at bytes = made_at failure_of_parts (both_at provider_at cause_at) bytes
 
 abbrev pub failure_text : Failure → List ℕ
-failure_text f = provider_text f.p ++ u8_text (cause_number f.cause)
+failure_text f = provider_text f.provider ++ u8_text (cause_number f.cause)
 
 abbrev pub IsFailure : Failure → Type 0
-IsFailure f = IsProvider f.p
+IsFailure f = IsProvider f.provider
 
 abbrev pub same_failure : Failure → Failure → Bool
-same_failure a b = same_provider a.p b.p && (cause_number a.cause == cause_number b.cause)
+same_failure a b = same_provider a.provider b.provider && (cause_number a.cause == cause_number b.cause)
 
 abbrev pub failures_differ : List Failure → Bool
 failures_differ [] = true

@@ -26,7 +26,7 @@ pub enum RowVote {
 /// A voter and what stands for it.
 #[derive(Clone, Copy, Debug, PartialEq, Eq)]
 pub struct Row {
-    pub p: ProviderId,
+    pub provider: ProviderId,
     pub vote: RowVote,
 }
 

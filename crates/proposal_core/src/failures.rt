@@ -32,9 +32,9 @@ fn read_cause(bytes: &[u8]) -> Option<(Cause, &[u8])>
 fn read_failure(bytes: &[u8]) -> Option<(Failure, &[u8])>
     ensures { Gives result (failure_at bytes.now) }
 {
-    let (p, bytes) = read_provider(bytes)?;
+    let (provider, bytes) = read_provider(bytes)?;
     let (cause, bytes) = read_cause(bytes)?;
-    Some((Failure { p, cause }, bytes))
+    Some((Failure { provider, cause }, bytes))
 }
 
 impl Item for Failure {
@@ -47,7 +47,7 @@ impl Item for Failure {
 
     ghost fits = { IsFailure };
 
-    ghost can_put = { λ x. IsNode x.p.node };
+    ghost can_put = { λ x. IsNode x.provider.node };
 
     #[tactic(auto, using(rsct_packet::proofs::FormatLaws::format_reads, crate::proofs::FailureFormat::failure_format))]
     fn read(bytes: &[u8]) -> Option<(Failure, &[u8])> {
@@ -56,7 +56,7 @@ impl Item for Failure {
 
     fn put(&self, out: &mut Vec<u8>) -> Result<(), NoMemory> {
         let before = out.len();
-        put_provider(out, self.p)?;
+        put_provider(out, self.provider)?;
         if let Err(e) = put_u8(out, cause_number(self.cause)) {
             out.truncate(before);
             return Err(e);
@@ -72,5 +72,5 @@ impl Item for Failure {
 pub fn is_same_failure(first: &Failure, second: &Failure) -> bool
     ensures { result ≡ same_failure first.now second.now }
 {
-    first.p == second.p && cause_number(first.cause) == cause_number(second.cause)
+    first.provider == second.provider && cause_number(first.cause) == cause_number(second.cause)
 }

@@ -33,7 +33,7 @@ pub fn take_off_fallen(providers: &mut Providers, out: &[Failure])
     ensures { providers.new ≡ without_all providers.old (fallen_of out.now) }
 {
     for f in out {
-        providers.retain_not(&[f.p]);
+        providers.retain_not(&[f.provider]);
     }
 }
 
@@ -128,7 +128,7 @@ impl GroupState {
     {
         match proposal {
             Proposal::Join { ps, .. } => self.members.extend(ps)?,
-            Proposal::Leave { p, .. } => self.take_off(&[*p]),
+            Proposal::Leave { provider, .. } => self.take_off(&[*provider]),
             Proposal::Fail { out } => self.take_off_failures(out.as_slice()),
             Proposal::Expel { out, .. } => self.take_off(out.as_slice()),
             Proposal::State { .. } => {}

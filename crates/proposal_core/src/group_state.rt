@@ -172,7 +172,7 @@ impl GroupState {
     {
         match proposal {
             Proposal::Join { ps, .. } => self.members.with(alloc, ps),
-            Proposal::Leave { p, .. } => self.members.without_all(alloc, &[*p]),
+            Proposal::Leave { provider, .. } => self.members.without_all(alloc, &[*provider]),
             Proposal::Fail { out } => {
                 let mut voters = self.members.copy(alloc)?;
                 take_off_fallen(&mut voters, out.as_slice());

@@ -16,6 +16,7 @@ mod texts;
 
 pub use entry::{Closed, Entry, Row, RowVote, Rows, Vote};
 pub use failures::is_same_failure;
+pub use fold::MAX_PHASES;
 pub use group_list::GroupList;
 pub use group_state::{GroupState, Running};
 pub use laws::lists_are_folds;

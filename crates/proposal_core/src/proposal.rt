@@ -20,7 +20,7 @@ pub enum Cause {
 /// A provider that a failure leave removes, and why.
 #[derive(Clone, Copy, Debug, Default, PartialEq, Eq)]
 pub struct Failure {
-    pub p: ProviderId,
+    pub provider: ProviderId,
     pub cause: Cause,
 }
 
@@ -37,8 +37,8 @@ pub enum Proposal {
     },
     /// The provider leaves.
     Leave {
-        p: ProviderId,
-        r: u32,
+        provider: ProviderId,
+        request: u32,
     },
     /// These failed.
     Fail {
@@ -46,26 +46,26 @@ pub enum Proposal {
     },
     /// These are expelled.
     Expel {
-        p: ProviderId,
-        r: u32,
+        provider: ProviderId,
+        request: u32,
         out: Providers,
     },
     /// The state value becomes this one.
     State {
-        p: ProviderId,
-        r: u32,
+        provider: ProviderId,
+        request: u32,
         value: Text,
     },
     /// A message to all.
     Message {
-        p: ProviderId,
-        r: u32,
+        provider: ProviderId,
+        request: u32,
         bytes: Text,
     },
     /// The attributes become these.
     Attributes {
-        p: ProviderId,
-        r: u32,
+        provider: ProviderId,
+        request: u32,
         attrs: Attrs,
     },
     /// The source group's value at this place of its list in this view.
@@ -85,26 +85,29 @@ impl Drop for Proposal {
                 attrs: _attrs,
                 source_len: _,
             } => {}
-            Proposal::Leave { p: _, r: _ } => {}
+            Proposal::Leave {
+                provider: _,
+                request: _,
+            } => {}
             Proposal::Fail { out: _out } => {}
             Proposal::Expel {
-                p: _,
-                r: _,
+                provider: _,
+                request: _,
                 out: _out,
             } => {}
             Proposal::State {
-                p: _,
-                r: _,
+                provider: _,
+                request: _,
                 value: _value,
             } => {}
             Proposal::Message {
-                p: _,
-                r: _,
+                provider: _,
+                request: _,
                 bytes: _bytes,
             } => {}
             Proposal::Attributes {
-                p: _,
-                r: _,
+                provider: _,
+                request: _,
                 attrs: _attrs,
             } => {}
             Proposal::Reflect {
@@ -142,28 +145,47 @@ impl Proposal {
                 attrs: attrs.copy(alloc)?,
                 source_len: *source_len,
             },
-            Proposal::Leave { p, r } => Proposal::Leave { p: *p, r: *r },
+            Proposal::Leave { provider, request } => Proposal::Leave {
+                provider: *provider,
+                request: *request,
+            },
             Proposal::Fail { out } => Proposal::Fail {
                 out: List::of(alloc, out.as_slice())?,
             },
-            Proposal::Expel { p, r, out } => Proposal::Expel {
-                p: *p,
-                r: *r,
+            Proposal::Expel {
+                provider,
+                request,
+                out,
+            } => Proposal::Expel {
+                provider: *provider,
+                request: *request,
                 out: out.copy(alloc)?,
             },
-            Proposal::State { p, r, value } => Proposal::State {
-                p: *p,
-                r: *r,
+            Proposal::State {
+                provider,
+                request,
+                value,
+            } => Proposal::State {
+                provider: *provider,
+                request: *request,
                 value: value.copy(alloc)?,
             },
-            Proposal::Message { p, r, bytes } => Proposal::Message {
-                p: *p,
-                r: *r,
+            Proposal::Message {
+                provider,
+                request,
+                bytes,
+            } => Proposal::Message {
+                provider: *provider,
+                request: *request,
                 bytes: bytes.copy(alloc)?,
             },
-            Proposal::Attributes { p, r, attrs } => Proposal::Attributes {
-                p: *p,
-                r: *r,
+            Proposal::Attributes {
+                provider,
+                request,
+                attrs,
+            } => Proposal::Attributes {
+                provider: *provider,
+                request: *request,
                 attrs: attrs.copy(alloc)?,
             },
             Proposal::Reflect { view, place, value } => Proposal::Reflect {

@@ -41,9 +41,9 @@ fn read_row_vote(bytes: &[u8]) -> Option<(RowVote, &[u8])>
 fn read_row(bytes: &[u8]) -> Option<(Row, &[u8])>
     ensures { Gives result (row_at bytes.now) }
 {
-    let (p, bytes) = read_provider(bytes)?;
+    let (provider, bytes) = read_provider(bytes)?;
     let (vote, bytes) = read_row_vote(bytes)?;
-    Some((Row { p, vote }, bytes))
+    Some((Row { provider, vote }, bytes))
 }
 
 impl Item for Row {
@@ -56,7 +56,7 @@ impl Item for Row {
 
     ghost fits = { IsRow };
 
-    ghost can_put = { λ x. IsNode x.p.node };
+    ghost can_put = { λ x. IsNode x.provider.node };
 
     #[tactic(auto, using(rsct_packet::proofs::FormatLaws::format_reads, crate::proofs::RowFormat::row_format))]
     fn read(bytes: &[u8]) -> Option<(Row, &[u8])> {
@@ -65,7 +65,7 @@ impl Item for Row {
 
     fn put(&self, out: &mut Vec<u8>) -> Result<(), NoMemory> {
         let before = out.len();
-        put_provider(out, self.p)?;
+        put_provider(out, self.provider)?;
         if let Err(e) = put_u8(out, row_vote_number(self.vote)) {
             out.truncate(before);
             return Err(e);

@@ -21,7 +21,7 @@ pub fn who_is_a_member()
     ensures again { (grown (joined (member 1 ∷ []) ∷ joined (member 1 ∷ []) ∷ [])).members
         ≡ member 1 ∷ [] }
     ensures rejected_failure { (grown (joined (member 1 ∷ member 2 ∷ [])
-        ∷ entry.Begin (proposal.Fail (record { p = member 2; cause = Died } ∷ []))
+        ∷ entry.Begin (proposal.Fail (record { provider = member 2; cause = Died } ∷ []))
         ∷ entry.Reject (closed 1 1 None) ∷ [])).members ≡ member 1 ∷ [] }
     ensures rejected_leave { (grown (joined (member 1 ∷ member 2 ∷ [])
         ∷ entry.Begin (proposal.Leave (member 2) 2) ∷ entry.Reject (closed 1 1 None) ∷ [])).members
@@ -80,7 +80,7 @@ pub fn who_votes()
     ensures leave { voters (grown (joined (member 1 ∷ member 2 ∷ [])
         ∷ entry.Begin (proposal.Leave (member 1) 2) ∷ [])) ≡ member 2 ∷ [] }
     ensures failure { voters (grown (joined (member 1 ∷ member 2 ∷ [])
-        ∷ entry.Begin (proposal.Fail (record { p = member 2; cause = Died } ∷ [])) ∷ []))
+        ∷ entry.Begin (proposal.Fail (record { provider = member 2; cause = Died } ∷ [])) ∷ []))
         ≡ member 1 ∷ [] }
     ensures idle { voters (grown (joined (member 1 ∷ []) ∷ [])) ≡ [] }
 {}

@@ -95,7 +95,11 @@ fn join_of(happened: &Happened) -> Option<ProviderId>
     ensures { result ≡ join_of happened.now }
 {
     match happened {
-        Happened::Asked { p, proposal, .. } => join_in(*p, proposal),
+        Happened::Asked {
+            provider,
+            proposal,
+            ..
+        } => join_in(*provider, proposal),
         _ => None,
     }
 }
@@ -172,10 +176,10 @@ impl Clients {
         match happened {
             Happened::Refused { .. } => calling,
             Happened::Noted { client, .. } => key_of_name(made, gone, client.as_slice()),
-            Happened::Heard { p, .. } => key_of_provider(owners, *p),
-            Happened::Cast { p, .. } => key_of_provider(owners, *p),
-            Happened::Asked { p, .. } => key_of_provider(owners, *p),
-            Happened::Told { p, .. } => key_of_provider(owners, *p),
+            Happened::Heard { provider, .. } => key_of_provider(owners, *provider),
+            Happened::Cast { provider, .. } => key_of_provider(owners, *provider),
+            Happened::Asked { provider, .. } => key_of_provider(owners, *provider),
+            Happened::Told { provider, .. } => key_of_provider(owners, *provider),
             _ => None,
         }
     }

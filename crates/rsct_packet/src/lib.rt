@@ -19,7 +19,7 @@ pub use listed::{
     Item, Listed, is_listed, put_list, put_providers, read_list, read_listed, read_providers,
     read_some_providers,
 };
-pub use mask::{Mask, NODES, is_node_number};
+pub use mask::{MAX_NODES, Mask, NETWORKS, NODES, is_node_number};
 pub use optional::{
     put_optional_bytes, put_optional_proto, put_optional_u32, read_optional_bytes,
     read_optional_proto, read_optional_u32,

@@ -6,11 +6,17 @@ ghost use Rattle.rsct_packet.specs.Mask.{no_nodes, is_node, node_numbers, has_no
 use crate::ids::NoMemory;
 use std::alloc::Global;
 
+/// How many nodes a domain has at most: their numbers are from 1 to this.
+pub const MAX_NODES: u8 = 32;
+
 /// The numbers that nodes have, ascending.
 pub const NODES: [u8; 32] = [
     1, 2, 3, 4, 5, 6, 7, 8, 9, 10, 11, 12, 13, 14, 15, 16, 17, 18, 19, 20, 21, 22, 23, 24, 25, 26,
     27, 28, 29, 30, 31, 32,
 ];
+
+/// The numbers that networks have, ascending.
+pub const NETWORKS: [u8; 4] = [1, 2, 3, 4];
 
 /// A set of nodes from 1 to 32: bit `n - 1` stands for node `n`.
 #[derive(Clone, Copy, Debug, PartialEq, Eq)]
@@ -31,7 +37,7 @@ fn is_set(bits: u32, place: u8) -> bool
 pub fn is_node_number(node: u8) -> bool
     ensures { result ≡ is_node node }
 {
-    node >= 1 && node <= 32
+    node >= 1 && node <= MAX_NODES
 }
 
 impl Mask {

@@ -41,12 +41,12 @@ pub fn taken(rt: &impl Abort, answer: Result<(), GsFault>) {
 /// Opens a session of this name, and answers its number.
 pub fn init(alloc: Global, steady: &mut Steady, name: &[u8]) -> Result<u32, GsFault> {
     let t = steady.init(alloc, name, SteadyClient { alloc })?;
-    Ok(t.n)
+    Ok(t.number)
 }
 
 /// Ends the session of this number.
 pub fn goodbye(steady: &mut Steady, client: u32) -> Result<(), GsFault> {
-    steady.goodbye(ClientToken { n: client })
+    steady.goodbye(ClientToken { number: client })
 }
 
 /// Joins a group with the instance number 7, and answers the provider's number.
@@ -57,13 +57,13 @@ pub fn join(
     group: &[u8],
     attrs: Attrs,
 ) -> Result<u32, GsFault> {
-    let m = steady.join(alloc, ClientToken { n: client }, group, 7, attrs)?;
-    Ok(m.n)
+    let m = steady.join(alloc, ClientToken { number: client }, group, 7, attrs)?;
+    Ok(m.number)
 }
 
 /// Asks that the provider leaves.
 pub fn leave(alloc: Global, steady: &mut Steady, member: u32) -> Result<(), GsFault> {
-    steady.leave(alloc, MemberToken { n: member }, Phases::One)
+    steady.leave(alloc, MemberToken { number: member }, Phases::One)
 }
 
 /// Asks that these are expelled.
@@ -75,7 +75,7 @@ pub fn expel(
 ) -> Result<(), GsFault> {
     steady.expel(
         alloc,
-        MemberToken { n: member },
+        MemberToken { number: member },
         Phases::One,
         out.as_slice(),
     )
@@ -91,7 +91,7 @@ pub fn change_state(
     let value = letters(alloc, len)?;
     steady.change_state(
         alloc,
-        MemberToken { n: member },
+        MemberToken { number: member },
         Phases::One,
         value.as_slice(),
     )
@@ -107,7 +107,7 @@ pub fn send_message(
     let message = letters(alloc, len)?;
     steady.send_message(
         alloc,
-        MemberToken { n: member },
+        MemberToken { number: member },
         Phases::One,
         message.as_slice(),
     )
@@ -120,7 +120,7 @@ pub fn change_attributes(
     member: u32,
     attrs: Attrs,
 ) -> Result<(), GsFault> {
-    steady.change_attributes(alloc, MemberToken { n: member }, Phases::One, attrs)
+    steady.change_attributes(alloc, MemberToken { number: member }, Phases::One, attrs)
 }
 
 /// The oldest request.
@@ -151,5 +151,5 @@ pub fn end_request(rt: &impl Abort, steady: &mut Steady) {
 pub fn member(rt: &impl Abort, alloc: Global, steady: &mut Steady) -> u32 {
     let mut list = new_list(alloc);
     let (m, _) = join_db(rt, alloc, steady, &mut list, SteadyClient { alloc });
-    m.n
+    m.number
 }

@@ -56,7 +56,7 @@ fn ballot_of<C: Callbacks>(rt: &impl Abort, alloc: Global, client: &mut C) -> Ba
     };
     let after = GroupState::empty(alloc);
     let n = Notice {
-        p: PROVIDER,
+        provider: PROVIDER,
         view: VIEW,
         group: b"db",
         place: 0,

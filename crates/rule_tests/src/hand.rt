@@ -112,7 +112,7 @@ fn join<C: Callbacks>(
 
 /// The oldest provider.
 pub fn first_provider<C: Callbacks>(rt: &impl Abort, sessions: &Sessions<C>) -> ProviderId {
-    sessions.provider(0).expect(rt, "a provider").p
+    sessions.provider(0).expect(rt, "a provider").provider
 }
 
 /// The entry by which a provider joins.

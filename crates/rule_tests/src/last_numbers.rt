@@ -27,14 +27,14 @@ fn nearly_spent(alloc: Global) -> SessionState {
 fn add(alloc: Global, sessions: &mut SessionState, name: &[u8]) -> Result<u32, GsFault> {
     check_init(sessions, name)?;
     let t = add_session(sessions, alloc, name)?;
-    Ok(t.n)
+    Ok(t.number)
 }
 
 /// The client of the last number joins a group, and the provider's number is answered.
 fn join(alloc: Global, sessions: &mut SessionState, group: &[u8]) -> Result<u32, GsFault> {
-    let t = ClientToken { n: u32::MAX };
+    let t = ClientToken { number: u32::MAX };
     let m = session_calls::join(sessions, alloc, t, group, 7, Attrs::empty())?;
-    Ok(m.n)
+    Ok(m.number)
 }
 
 #[test]

@@ -15,8 +15,8 @@ fn add(
     known: bool,
 ) -> Result<u32, SubFault> {
     assert!(rt; subs.last() < u32::MAX);
-    let token = subs.add(alloc, ClientToken { n: client }, group, known)?;
-    Ok(token.n)
+    let token = subs.add(alloc, ClientToken { number: client }, group, known)?;
+    Ok(token.number)
 }
 
 /// The subscriptions of `db`.
@@ -44,8 +44,8 @@ fn noted(rt: &impl Abort, alloc: Global, subs: &Subs, value: &[u8]) -> List<SubT
 fn live_tokens_are_noted(rt: HostRuntime) {
     let alloc = rt.alloc();
     let mut subs = Subs::new(alloc);
-    let first = SubToken { n: 1 };
-    let third = SubToken { n: 3 };
+    let first = SubToken { number: 1 };
+    let third = SubToken { number: 3 };
     assert!(rt; add(&rt, alloc, &mut subs, 1, b"db", true) == Ok(1));
     assert!(rt; add(&rt, alloc, &mut subs, 2, b"HostMembership", false) == Ok(2));
     assert!(rt; add(&rt, alloc, &mut subs, 2, b"db", true) == Ok(3));

@@ -11,19 +11,19 @@ use subscribe_core::{ClientToken, SubToken};
 
 /// Subscribes the client to a group.
 fn ask(alloc: Global, steady: &mut Steady, group: &[u8], known: bool) -> Result<SubToken, GsFault> {
-    steady.subscribe(alloc, ClientToken { n: 1 }, group, known)
+    steady.subscribe(alloc, ClientToken { number: 1 }, group, known)
 }
 
 /// Subscribes the client to a group with a name of so many bytes, and answers the subscription's number.
 fn subscribe(alloc: Global, steady: &mut Steady, len: usize, known: bool) -> Result<u32, GsFault> {
     let group = letters(alloc, len)?;
     let token = ask(alloc, steady, group.as_slice(), known)?;
-    Ok(token.n)
+    Ok(token.number)
 }
 
 /// Ends the subscription of this number.
 fn unsubscribe(steady: &mut Steady, number: u32) -> Result<(), GsFault> {
-    steady.unsubscribe(ClientToken { n: 1 }, SubToken { n: number })
+    steady.unsubscribe(ClientToken { number: 1 }, SubToken { number })
 }
 
 #[test]
@@ -77,20 +77,18 @@ fn noted(rt: &impl Abort, alloc: Global, steady: &Steady) -> usize {
 
 /// Tells the client of the subscription of this number something, and answers whether it is live.
 fn note(rt: &impl Abort, steady: &mut Steady, number: u32) -> bool {
-    let p = ProviderId {
+    let provider = ProviderId {
         node: 1,
         inc: 1,
         instance: 7,
         join: 1,
     };
     let told = Told::Refused {
-        p,
-        r: 1,
+        provider,
+        request: 1,
         why: Why::NotAMember,
     };
-    steady
-        .note(SubToken { n: number }, &told)
-        .expect(rt, "memory")
+    steady.note(SubToken { number }, &told).expect(rt, "memory")
 }
 
 #[test]

@@ -44,8 +44,8 @@ fn begin<C: Callbacks>(
 ) -> Casts {
     let value = value(rt, alloc);
     let e = Entry::Begin(Proposal::State {
-        p: provider,
-        r: 2,
+        provider,
+        request: 2,
         value,
     });
     hand_on(rt, alloc, sessions, list, &e)
@@ -94,7 +94,7 @@ fn an_object_rejects(rt: HostRuntime) {
 
 /// The provider approves with this value.
 fn cast(alloc: Global, sessions: &mut Sessions<ScriptClient>, value: &[u8]) -> Result<(), GsFault> {
-    sessions.vote(alloc, MemberToken { n: 1 }, Vote::Approve, Some(value))
+    sessions.vote(alloc, MemberToken { number: 1 }, Vote::Approve, Some(value))
 }
 
 /// The provider approves with a value of so many bytes.

@@ -174,10 +174,10 @@ drops_one s p r = record { less = less_told s.sessions p r Dissolved; groups = r
 drops_if : (s : Core) (g : List ℕ) (old : ViewId) (b : Option Base) (o : Option Provider) → Drops s (dissolved_if s g old b o)
 unfolding dissolved_if
 drops_if s g old b None = drops_same s
-drops_if s g old b (Some x) = by (x.takes_part && bytes_eq x.group g && not (is_in_base old x.p b))
+drops_if s g old b (Some x) = by (x.takes_part && bytes_eq x.group g && not (is_in_base old x.provider b))
   where
-    by : (c : Bool) → Drops s (elim c [ true ↦ dissolved s x.p (number_of (outstanding s.sessions x.p)) | false ↦ s ])
-    by true = drops_one s x.p (number_of (outstanding s.sessions x.p))
+    by : (c : Bool) → Drops s (elim c [ true ↦ dissolved s x.provider (number_of (outstanding s.sessions x.provider)) | false ↦ s ])
+    by true = drops_one s x.provider (number_of (outstanding s.sessions x.provider))
     by false = drops_same s
 
 drops_sides : (s : Core) (rows : List GroupRow) (old : ViewId) (bs : List Base) → Drops s (sides_dissolved s rows old bs)

@@ -29,7 +29,7 @@ goes_kept_sent s x k = by x.ballot.filled
   where
     by : (b : Option Filled) → Goes 1 s (send_kept_to s x (leader_of s x.group) b)
     by None = nothing_of 1 s k
-    by (Some b) = goes_sent_if s (leader_of s x.group) (vote_of s x.group x.proto x.phase x.p b) tt k
+    by (Some b) = goes_sent_if s (leader_of s x.group) (vote_of s x.group x.proto x.phase x.provider b) tt k
 
 goes_call_refused : (c : ℕ) (s : Core) (client : List ℕ) (fault : GsFault) → Stands s → Goes c s (refuse_call s client fault)
 unfolding refuse_call
@@ -45,8 +45,8 @@ goes_last_asked : (s : Core) (o : Option Request) → Stands s → Goes 1 s (ask
 unfolding ask_last
 goes_last_asked s None k = nothing_of 1 s k
 goes_last_asked s (Some q) k =
-    let t : Core = recorded s (happened.Asked q.p q.r q.group q.proposal) in
-    let a : Goes 0 s t = goes_recorded s (happened.Asked q.p q.r q.group q.proposal) refl k in
+    let t : Core = recorded s (happened.Asked q.provider q.request q.group q.proposal) in
+    let a : Goes 0 s t = goes_recorded s (happened.Asked q.provider q.request q.group q.proposal) refl k in
     free_then 1 s t (send_request t q) a (goes_request_sent t q a.stands)
 
 goes_proposed : (s : Core) (client : List ℕ) (r : Result SessionState GsFault) → Stands s → Goes 1 s (proposed s client r)
@@ -63,7 +63,7 @@ goes_last_cast s (Some x) k = let a : Goes 0 s (record_ballot s x x.ballot.fille
   where
     note : (b : Option Filled) → Goes 0 s (record_ballot s x b)
     note None = goes_same s k
-    note (Some b) = goes_recorded s (happened.Cast x.p x.proto x.phase b.vote b.value b.message) refl k
+    note (Some b) = goes_recorded s (happened.Cast x.provider x.proto x.phase b.vote b.value b.message) refl k
 
     by : (t : Core) (b : Bool) → Stands t → Goes 1 t (ballot_sent_if t x b)
     by t true h = nothing_of 1 t h
@@ -82,7 +82,7 @@ goes_all_gone s xs k = by (frozen s)
   where
     by : (b : Bool) → Goes (length xs) s (elim b [ true ↦ s | false ↦ fold send_gone s xs ])
     by true = nothing_of (length xs) s k
-    by false = fold_each send_gone (λ t x h. goes_sent_if t (leader_of t x.group) (body.Gone t.views.view x.group x.p) tt h) xs s k
+    by false = fold_each send_gone (λ t x h. goes_sent_if t (leader_of t x.group) (body.Gone t.views.view x.group x.provider) tt h) xs s k
 
 goes_goodbye : (s : Core) (client : List ℕ) (xs : List Provider) (r : Result SessionState GsFault) → Stands s → Goes (length xs) s (goodbye_said s client xs r)
 unfolding goodbye_said

@@ -37,7 +37,7 @@ goes_failures (suc n) f s g k = by (is_empty out) (goes_failures n f t g a.stand
     st = state_of s g
 
     out : List Failure
-    out = filter (λ (x : Failure). among st.members x.p) (next_failures st.attrs.batch (led_of s g).waiting)
+    out = filter (λ (x : Failure). among st.members x.provider) (next_failures st.attrs.batch (led_of s g).waiting)
 
     t : Core
     t = with_waiting s g (failures_left st.attrs.batch)

@@ -136,10 +136,10 @@ holds_dissolved s p r k =
 holds_dissolved_if : (s : Core) (g : List ℕ) (old : ViewId) (b : Option Base) (o : Option Provider) → Stands s → Holds 0 s (dissolved_if s g old b o)
 unfolding dissolved_if
 holds_dissolved_if s g old b None k = holds_same s k
-holds_dissolved_if s g old b (Some x) k = by (x.takes_part && bytes_eq x.group g && not (is_in_base old x.p b))
+holds_dissolved_if s g old b (Some x) k = by (x.takes_part && bytes_eq x.group g && not (is_in_base old x.provider b))
   where
-    by : (c : Bool) → Holds 0 s (elim c [ true ↦ dissolved s x.p (number_of (outstanding s.sessions x.p)) | false ↦ s ])
-    by true = holds_dissolved s x.p (number_of (outstanding s.sessions x.p)) k
+    by : (c : Bool) → Holds 0 s (elim c [ true ↦ dissolved s x.provider (number_of (outstanding s.sessions x.provider)) | false ↦ s ])
+    by true = holds_dissolved s x.provider (number_of (outstanding s.sessions x.provider)) k
     by false = holds_same s k
 
 pub holds_sides : (s : Core) (rows : List GroupRow) (old : ViewId) (bs : List Base) → Stands s → Holds 0 s (sides_dissolved s rows old bs)

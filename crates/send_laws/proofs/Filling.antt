@@ -92,9 +92,9 @@ casts_still : (s : Core) (g : List ℕ) (cs : List Cast) → casts_sent s g None
 unfolding casts_sent
 casts_still s g cs = by (frozen s)
   where
-    by : (b : Bool) → elim b as (λ _. Core) [ true ↦ s | false ↦ fold (λ t (c : Cast). cast_sent_of t g None c.p c.cast) s cs ] ≡ s
+    by : (b : Bool) → elim b as (λ _. Core) [ true ↦ s | false ↦ fold (λ t (c : Cast). cast_sent_of t g None c.provider c.cast) s cs ] ≡ s
     by true = refl
-    by false = fold_still (λ t (c : Cast). cast_sent_of t g None c.p c.cast) (λ t c. cast_still t g c.p c.cast) cs s
+    by false = fold_still (λ t (c : Cast). cast_sent_of t g None c.provider c.cast) (λ t c. cast_still t g c.provider c.cast) cs s
 
 pub noted_groups : (s : Core) (g : List ℕ) (i : ℕ) (before after : GroupState) → (noted s g i before after).groups ≡ s.groups
 unfolding noted notes recorded_all

@@ -84,7 +84,7 @@ pub no_put_heard : (s : Core) (g : List ℕ) (i : ℕ) (e : Entry) (st : GroupSt
 unfolding heard
 no_put_heard s g i e st [] = refl
 no_put_heard s g i e st (c ∷ cs) =
-    omega (arith, puts_both (cast_records c.p c.cast) (flat_map (heard s g i e st) cs), no_put_casts c.p c.cast, no_put_heard s g i e st cs)
+    omega (arith, puts_both (cast_records c.provider c.cast) (flat_map (heard s g i e st) cs), no_put_casts c.provider c.cast, no_put_heard s g i e st cs)
 
 no_put_notes : (s : Core) (g : List ℕ) (place : Option ℕ) (st : GroupState) (us : List Subscription) → puts_of (map (note_of s g place st) us) ≡ 0
 unfolding note_of
@@ -114,9 +114,9 @@ goes_casts : (s : Core) (g : List ℕ) (to : Option ℕ) (cs : List Cast) → St
 unfolding casts_sent
 goes_casts s g to cs k = by (frozen s)
   where
-    by : (b : Bool) → Goes (length cs) s (elim b [ true ↦ s | false ↦ fold (λ t (c : Cast). cast_sent_of t g to c.p c.cast) s cs ])
+    by : (b : Bool) → Goes (length cs) s (elim b [ true ↦ s | false ↦ fold (λ t (c : Cast). cast_sent_of t g to c.provider c.cast) s cs ])
     by true = goes_more 0 (length cs) s s (omega arith) (goes_same s k)
-    by false = fold_each (λ t (c : Cast). cast_sent_of t g to c.p c.cast) (λ t c h. goes_cast t g to c.p c.cast h) cs s k
+    by false = fold_each (λ t (c : Cast). cast_sent_of t g to c.provider c.cast) (λ t c h. goes_cast t g to c.provider c.cast h) cs s k
 
 -- as many packets as there are that hear it, at most
 pub goes_handed : (f : Answering) (s : Core) (to : Option ℕ) (g : List ℕ) (i : ℕ) (before after : GroupState) (e : Entry) → fits before e ≡ true → Room before → Stands s → Goes 64 s (hand_on f s to g i before after e)

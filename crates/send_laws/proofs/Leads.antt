@@ -96,7 +96,7 @@ goes_forgets_least s g k = goes_forgets s g (least_acked s g) k
 pub failure_joins : (p : ProviderId) (c : Cause) (w : WaitingView) → (add_failure p c w).joins ≡ w.joins
 failure_joins p c w = by (takes_failure p w)
   where
-    by : (b : Bool) → (if b then record w { failures = w.failures ++ record { p = p; cause = c } ∷ [] } else w).joins ≡ w.joins
+    by : (b : Bool) → (if b then record w { failures = w.failures ++ record { provider = p; cause = c } ∷ [] } else w).joins ≡ w.joins
     by true = refl
     by false = refl
 

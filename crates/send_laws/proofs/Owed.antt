@@ -57,7 +57,7 @@ sends_request s q = by (frozen s)
   where
     to : (n : Option ℕ) → Sends s (send_request_to s q n)
     to None = sends_sent s s.views.view.coord (body.Lookup s.views.view q.group)
-    to (Some n) = sends_sent s n (body.Request s.views.view q.group q.p q.r q.phases q.proposal)
+    to (Some n) = sends_sent s n (body.Request s.views.view q.group q.provider q.request q.phases q.proposal)
 
     by : (b : Bool) → Sends s (elim b [ true ↦ s | false ↦ send_request_to s q (leader_of s q.group) ])
     by true = sends_none s
@@ -186,7 +186,7 @@ sends_votes s = sends_fold kept_sent_again (λ t x. again t x (runs x.proto x.ph
   where
     to : (t : Core) (x : KeptBallot) (b : Option Filled) → Sends t (send_kept_to t x (leader_of t x.group) b)
     to t x None = sends_none t
-    to t x (Some b) = sends_if t (leader_of t x.group) (vote_of t x.group x.proto x.phase x.p b)
+    to t x (Some b) = sends_if t (leader_of t x.group) (vote_of t x.group x.proto x.phase x.provider b)
 
     again : (t : Core) (x : KeptBallot) (b : Bool) → Sends t (kept_sent_if t x b)
     again t x false = sends_none t

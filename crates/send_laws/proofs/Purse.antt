@@ -193,18 +193,18 @@ casts_silent e st level none (p ∷ ps) (b ∷ bs) =
 
 no_ballots : (g : List ℕ) (cs : List Cast) → Silent cs → ballots_of g cs ≡ []
 no_ballots g [] h = refl
-no_ballots g (c ∷ cs) h = ap (λ o. kept_by g c.p o ++ ballots_of g cs) h.0 ∙ no_ballots g cs h.1
+no_ballots g (c ∷ cs) h = ap (λ o. kept_by g c.provider o ++ ballots_of g cs) h.0 ∙ no_ballots g cs h.1
 
 silent_sent : (s : Core) (g : List ℕ) (to : Option ℕ) (cs : List Cast) → Silent cs → casts_sent s g to cs ≡ s
 unfolding casts_sent cast_sent_of
 silent_sent s g to cs h = by (frozen s)
   where
-    each : (cs : List Cast) → Silent cs → fold (λ t (c : Cast). cast_sent_of t g to c.p c.cast) s cs ≡ s
+    each : (cs : List Cast) → Silent cs → fold (λ t (c : Cast). cast_sent_of t g to c.provider c.cast) s cs ≡ s
     each [] h = refl
     each (c ∷ cs) h =
-        ap (λ o. fold (λ t (x : Cast). cast_sent_of t g to x.p x.cast) (cast_sent_of s g to c.p o) cs) h.0 ∙ each cs h.1
+        ap (λ o. fold (λ t (x : Cast). cast_sent_of t g to x.provider x.cast) (cast_sent_of s g to c.provider o) cs) h.0 ∙ each cs h.1
 
-    by : (b : Bool) → elim b as (λ _. Core) [ true ↦ s | false ↦ fold (λ t (c : Cast). cast_sent_of t g to c.p c.cast) s cs ] ≡ s
+    by : (b : Bool) → elim b as (λ _. Core) [ true ↦ s | false ↦ fold (λ t (c : Cast). cast_sent_of t g to c.provider c.cast) s cs ] ≡ s
     by true = refl
     by false = each cs h
 

@@ -35,7 +35,7 @@ rows_end : (d : DefaultVote) (xs : List Voter) → AllFailed d xs → any_stands
 rows_end d [] h = refl
 rows_end d (x ∷ xs) h = by x.vote h.0 (rows_end d xs h.1)
   where
-    by : (o : Option RowVote) → FailedOr d o → any_stands is_continue (rows_of xs) ≡ false → any_stands is_continue (row_or (elim o as (λ _. Option Row) [ None ↦ None | Some v ↦ Some (record { p = x.p; vote = v }) ]) (rows_of xs)) ≡ false
+    by : (o : Option RowVote) → FailedOr d o → any_stands is_continue (rows_of xs) ≡ false → any_stands is_continue (row_or (elim o as (λ _. Option Row) [ None ↦ None | Some v ↦ Some (record { provider = x.provider; vote = v }) ]) (rows_of xs)) ≡ false
     by None f k = k
     by (Some v) f k = ap (λ b. b || any_stands is_continue (rows_of xs)) (row_ends d v f) ∙ k
 

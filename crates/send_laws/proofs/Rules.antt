@@ -97,7 +97,7 @@ goes_request_sent s q k = by (frozen s)
   where
     to : (n : Option ℕ) → Goes 1 s (send_request_to s q n)
     to None = goes_sent s s.views.view.coord (body.Lookup s.views.view q.group) tt k
-    to (Some n) = goes_sent s n (body.Request s.views.view q.group q.p q.r q.phases q.proposal) tt k
+    to (Some n) = goes_sent s n (body.Request s.views.view q.group q.provider q.request q.phases q.proposal) tt k
 
     by : (b : Bool) → Goes 1 s (elim b [ true ↦ s | false ↦ send_request_to s q (leader_of s q.group) ])
     by true = nothing_of 1 s k
@@ -120,7 +120,7 @@ goes_name s g n k = by (is_name_used s g n) (n == 0)
     by : (b c : Bool) → Goes (length s.sessions.requests) s (elim b [ true ↦ named s g n c | false ↦ s ])
     by false c = nothing_of (length s.sessions.requests) s k
     by true true =
-        goes_more 0 (length s.sessions.requests) s (named s g n true) (omega arith) (fold_free (λ t (q : Request). take_tell t q.p q.r (GroupsFull 64)) (λ t q h. goes_tell t q.p q.r (GroupsFull 64) h) qs s k)
+        goes_more 0 (length s.sessions.requests) s (named s g n true) (omega arith) (fold_free (λ t (q : Request). take_tell t q.provider q.request (GroupsFull 64)) (λ t q h. goes_tell t q.provider q.request (GroupsFull 64) h) qs s k)
     by true false =
         let a : Goes 0 s (set_leader s g n) = goes_led_by s g n k in
         goes_more (length qs) (length s.sessions.requests) s (named s g n false) few (free_then (length qs) s (set_leader s g n) (named s g n false) a (fold_each send_request goes_request_sent qs (set_leader s g n) a.stands))
@@ -129,7 +129,7 @@ goes_name s g n k = by (is_name_used s g n) (n == 0)
 
 goes_decision : (s : Core) (g : List ℕ) (p : ProviderId) (r : ℕ) (y : Option Why) → Stands s → Goes 0 s (keep_decision s g p r y)
 unfolding keep_decision
-goes_decision s g p r y k = goes_led s g (λ l. record l { decided = decisions_with (record { p = p; r = r; why = y }) l.decided }) k (omega arith)
+goes_decision s g p r y k = goes_led s g (λ l. record l { decided = decisions_with (record { provider = p; request = r; why = y }) l.decided }) k (omega arith)
 
 pub goes_refused : (s : Core) (g : List ℕ) (p : ProviderId) (r : ℕ) (y : Why) → Stands s → Goes 1 s (refused s g p r y)
 unfolding refused
@@ -139,10 +139,10 @@ goes_refused s g p r y k =
     let b : Body = body.Tell s.views.view g p r y in free_then 1 s t (sent t p.node b) a (goes_sent t p.node b tt a.stands)
 
 -- a decision is kept in what is led alone
-decision_row : (s : Core) (g : List ℕ) (p : ProviderId) (r : ℕ) (y : Option Why) → Stands s → row_of (keep_decision s g p r y) g ≡ record (row_of s g) { led = record ((row_of s g).led) { decided = decisions_with (record { p = p; r = r; why = y }) (row_of s g).led.decided } }
+decision_row : (s : Core) (g : List ℕ) (p : ProviderId) (r : ℕ) (y : Option Why) → Stands s → row_of (keep_decision s g p r y) g ≡ record (row_of s g) { led = record ((row_of s g).led) { decided = decisions_with (record { provider = p; request = r; why = y }) (row_of s g).led.decided } }
 unfolding keep_decision with_led
 decision_row s g p r y k =
-    row_here g (λ row. record row { led = record (row.led) { decided = decisions_with (record { p = p; r = r; why = y }) row.led.decided } }) (λ x. refl) s k.order
+    row_here g (λ row. record row { led = record (row.led) { decided = decisions_with (record { provider = p; request = r; why = y }) row.led.decided } }) (λ x. refl) s k.order
 
 goes_join_waits : (s : Core) (g : List ℕ) (p : ProviderId) (r : ℕ) (a : Attrs) (idle : Bool) → length (row_of s g).led.waiting.joins < 64 → is_some (row_of s g).leader ≡ true → Stands s → Goes 1 s (wait_join s g p r a idle)
 unfolding wait_join led_of
@@ -228,7 +228,7 @@ goes_request f s from g p r phases x k = by (is_group_refused s g)
 
     at : (o : Option Decision) → Goes 1 s (request_at f s g p r phases x o)
     at None = goes_request_new f s g p r phases x k
-    at (Some d) = after d (nat_lt r d.r) (r == d.r)
+    at (Some d) = after d (nat_lt r d.request) (r == d.request)
 
     by : (b : Bool) → Goes 1 s (elim b [ true ↦ sent s from (body.Name s.views.view g 0) | false ↦ request_at f s g p r phases x (decision_of (led_of s g) p) ])
     by true = goes_sent s from (body.Name s.views.view g 0) tt k

@@ -93,23 +93,23 @@ pub less_without : (s : SessionState) (ps : List ProviderId) → Less 0 s (witho
 unfolding without_providers
 less_without s ps =
     record {
-      kept = omega (arith, kept_few (λ k. not (among ps k.p)) s.kept);
-      requests = kept_few (λ q. not (among ps q.p)) s.requests;
-      providers = kept_few (λ (x : Provider). not (among ps x.p)) s.providers;
+      kept = omega (arith, kept_few (λ k. not (among ps k.provider)) s.kept);
+      requests = kept_few (λ q. not (among ps q.provider)) s.requests;
+      providers = kept_few (λ (x : Provider). not (among ps x.provider)) s.providers;
     }
 
 one_kept : (g : List ℕ) (p : ProviderId) (o : Option (ProtoId × ℕ × BallotView)) → length (kept_by g p o) ≤ 1
 one_kept g p None = omega arith
 one_kept g p (Some c) = omega arith
 
-few_kept : (g : List ℕ) (cs : List Cast) → length (flat_map (λ (c : Cast). kept_by g c.p c.cast) cs) ≤ length cs
+few_kept : (g : List ℕ) (cs : List Cast) → length (flat_map (λ (c : Cast). kept_by g c.provider c.cast) cs) ≤ length cs
 few_kept g [] = omega arith
 few_kept g (c ∷ cs) =
-    omega (arith, one_kept g c.p c.cast, few_kept g cs, length-append (kept_by g c.p c.cast) (flat_map (λ (c : Cast). kept_by g c.p c.cast) cs))
+    omega (arith, one_kept g c.provider c.cast, few_kept g cs, length-append (kept_by g c.provider c.cast) (flat_map (λ (c : Cast). kept_by g c.provider c.cast) cs))
 
 -- the ballots that are cast
 abbrev pub ballots_of : List ℕ → List Cast → List KeptBallot
-ballots_of g cs = flat_map (λ (c : Cast). kept_by g c.p c.cast) cs
+ballots_of g cs = flat_map (λ (c : Cast). kept_by g c.provider c.cast) cs
 
 less_casts : (n : ℕ) (s : SessionState) (g : List ℕ) (cs : List Cast) → length (ballots_of g cs) ≤ n → Less n s (keep_casts s g cs)
 unfolding keep_casts
@@ -152,7 +152,7 @@ pub less_told : (s : SessionState) (p : ProviderId) (r : ℕ) (y : Why) → Less
 unfolding take_telling told_of
 less_told s p r y = by (takes_telling s p r y) (is_join_request (outstanding s p) || is_dissolved y)
   where
-    by : (b c : Bool) → Less 0 s (if b then (if c then without_providers s (p ∷ []) else record s { requests = filter (λ q. not (among (p ∷ []) q.p)) s.requests }) else s)
+    by : (b c : Bool) → Less 0 s (if b then (if c then without_providers s (p ∷ []) else record s { requests = filter (λ q. not (among (p ∷ []) q.provider)) s.requests }) else s)
     by false c = less_same s
     by true true = less_without s (p ∷ [])
-    by true false = record { kept = omega arith; requests = kept_few (λ q. not (among (p ∷ []) q.p)) s.requests; providers = omega arith }
+    by true false = record { kept = omega arith; requests = kept_few (λ q. not (among (p ∷ []) q.provider)) s.requests; providers = omega arith }

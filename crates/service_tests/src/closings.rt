@@ -50,8 +50,8 @@ fn running(phase: u16) -> Running {
             place: 0,
         },
         proposal: Proposal::Leave {
-            p: provider(),
-            r: 2,
+            provider: provider(),
+            request: 2,
         },
         phase,
         proposed: None,

@@ -90,8 +90,8 @@ fn name(rt: &impl Abort, alloc: Global) -> Name {
 
 fn asks(rt: &impl Abort, alloc: Global, provider: ProviderId, proposal: Proposal) -> Request {
     Request {
-        p: provider,
-        r: provider.join,
+        provider,
+        request: provider.join,
         group: name(rt, alloc),
         phases: Phases::One,
         proposal,
@@ -128,8 +128,8 @@ fn joins_wait_and_strangers_are_refused(rt: HostRuntime) {
     decide(&mut core, &mut clients, alloc, &first).expect(&rt, "memory");
     assert!(rt; told(&core) == Some(Why::DuplicateInstance));
     let leave = Proposal::Leave {
-        p: provider(2),
-        r: 2,
+        provider: provider(2),
+        request: 2,
     };
     let second = asks(&rt, alloc, provider(2), leave);
     decide(&mut core, &mut clients, alloc, &second).expect(&rt, "memory");

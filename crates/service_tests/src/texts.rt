@@ -36,8 +36,8 @@ fn name(rt: &impl Abort, alloc: Global) -> Name {
 fn refusals_and_notes(rt: HostRuntime) -> Result<(), Fail> {
     let alloc = rt.alloc();
     let told = Happened::Told {
-        p: provider(),
-        r: 4,
+        provider: provider(),
+        request: 4,
         why: Why::Collide(ProtoId {
             view: view(2),
             place: 3,

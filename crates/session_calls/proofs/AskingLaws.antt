@@ -15,7 +15,7 @@ use Rattle.session_calls.specs.declared.asking.Asked.TheVariants as asks
 use Rattle.session_calls.specs.Asking.{asked_for, asked_by, parameter_fault, proposal_of}
 
 -- what has one fault in each group
-asks_as : (s : SessionState) (o : Option Provider) (phases : Phases) (what : Asked) (parameter : Option GsFault) (make : Provider → ℕ → Proposal) → ((x : Provider) → parameter_fault s x.group what ≡ parameter) → ((x : Provider) → proposal_of what x.p ≡ make x)
+asks_as : (s : SessionState) (o : Option Provider) (phases : Phases) (what : Asked) (parameter : Option GsFault) (make : Provider → ℕ → Proposal) → ((x : Provider) → parameter_fault s x.group what ≡ parameter) → ((x : Provider) → proposal_of what x.provider ≡ make x)
     → member_asks s o phases parameter make ≡ asked_by s o phases what
 asks_as s None phases what parameter make f e = refl
 asks_as s (Some x) phases what parameter make f e = rw (f x, e x) refl

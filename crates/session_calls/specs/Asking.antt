@@ -48,4 +48,4 @@ proposal_of (asks.Attributes attrs) p r = proposal.Attributes p r attrs
 
 abbrev pub asked_by : SessionState → Option Provider → Phases → Asked → Result SessionState GsFault
 asked_by s None phases what = Err fault.BadMemberToken
-asked_by s (Some x) phases what = unless_fault (ask_fault s x (parameter_fault s x.group what)) (asked s x phases (proposal_of what x.p))
+asked_by s (Some x) phases what = unless_fault (ask_fault s x (parameter_fault s x.group what)) (asked s x phases (proposal_of what x.provider))

@@ -51,28 +51,25 @@ impl Asked<'_> {
         ensures { IfOk result (λ proposal. proposal ≡ proposal_of self.entry provider request) }
     {
         Ok(match self {
-            Asked::Leave => Proposal::Leave {
-                p: provider,
-                r: request,
-            },
+            Asked::Leave => Proposal::Leave { provider, request },
             Asked::Expel(out) => Proposal::Expel {
-                p: provider,
-                r: request,
+                provider,
+                request,
                 out: Providers::of(alloc, out)?,
             },
             Asked::State(value) => Proposal::State {
-                p: provider,
-                r: request,
+                provider,
+                request,
                 value: text_of(alloc, value)?,
             },
             Asked::Message(bytes) => Proposal::Message {
-                p: provider,
-                r: request,
+                provider,
+                request,
                 bytes: text_of(alloc, bytes)?,
             },
             Asked::Attributes(attrs) => Proposal::Attributes {
-                p: provider,
-                r: request,
+                provider,
+                request,
                 attrs,
             },
         })
@@ -98,16 +95,16 @@ pub fn ask(
         return Err(GsFault::BadMemberToken);
     };
     asked.check(sessions, asker.group.bytes())?;
-    check_ask(sessions, asker.p)?;
-    let p = asker.p;
+    check_ask(sessions, asker.provider)?;
+    let provider = asker.provider;
     let group = asker.group.copy(alloc)?;
-    let r = sessions.last_request + 1;
-    let proposal = asked.proposal(alloc, p, r)?;
+    let request = sessions.last_request + 1;
+    let proposal = asked.proposal(alloc, provider, request)?;
     put_request(
         sessions,
         Request {
-            p,
-            r,
+            provider,
+            request,
             group,
             phases,
             proposal,

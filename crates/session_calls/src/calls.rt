@@ -18,15 +18,15 @@ use subscribe_core::ClientToken;
 pub fn put_request(sessions: &mut SessionState, request: Request) -> Result<(), NoMemory>
     ensures ok { OnOk result (sessions.new ≡ record
         sessions.old {
-          last_request = request.r;
+          last_request = request.request;
           requests = sessions.old.requests
               ++ request ∷ [];
         }) }
     ensures err { OnErr result (sessions.new ≡ sessions.old) }
 {
-    let r = request.r;
+    let request = request.request;
     sessions.requests.push(request)?;
-    sessions.last_request = r;
+    sessions.last_request = request;
     Ok(())
 }
 
@@ -38,7 +38,7 @@ fn put_joiner(
 ) -> Result<(), NoMemory>
     ensures ok { OnOk result (sessions.new ≡ record
         sessions.old {
-          last_request = request.r;
+          last_request = request.request;
           providers = sessions.old.providers
               ++ provider ∷ [];
           requests = sessions.old.requests ++ request ∷ [];
@@ -65,16 +65,16 @@ fn join_request(
 ) -> Result<Request, NoMemory>
     requires { IsName group.now }
     ensures { IfOk result (λ q. q ≡ record {
-      p = provider;
-      r = provider.join;
+      provider = provider;
+      request = provider.join;
       group = group.now;
       phases = Phases.One;
       proposal = Proposal.Join (provider ∷ []) attrs None;
     }) }
 {
     Ok(Request {
-        p: provider,
-        r: provider.join,
+        provider,
+        request: provider.join,
         group: Name::of_name(alloc, group)?,
         phases: Phases::One,
         proposal: Proposal::Join {
@@ -98,27 +98,27 @@ pub fn join(
     ensures answer { Answers result sessions.old sessions.new
         (joined sessions.old client name.now instance attrs) }
     ensures same { SameSessions sessions.old sessions.new }
-    ensures token { IfOk result (λ m. m.n ≡ sessions.new.last_request) }
+    ensures token { IfOk result (λ m. m.number ≡ sessions.new.last_request) }
 {
     check_join(sessions, client, name, &attrs)?;
-    let r = sessions.last_request + 1;
-    let p = ProviderId {
+    let request = sessions.last_request + 1;
+    let provider = ProviderId {
         node: sessions.me,
         inc: sessions.inc,
         instance,
-        join: r,
+        join: request,
     };
     let group = Name::of_name(alloc, name)?;
-    let q = join_request(alloc, p, name, attrs)?;
+    let q = join_request(alloc, provider, name, attrs)?;
     let x = Provider {
-        p,
+        provider,
         client,
         group,
         takes_part: false,
         opened: None,
     };
     put_joiner(sessions, x, q)?;
-    Ok(MemberToken { n: r })
+    Ok(MemberToken { number: request })
 }
 
 /// Asks that the provider leaves.
@@ -216,13 +216,13 @@ pub fn vote(
     let Some(o) = x.opened else {
         return Err(GsFault::VoteNotExpected);
     };
-    if is_kept(sessions, x.p, o) {
+    if is_kept(sessions, x.provider, o) {
         return Err(GsFault::VoteNotExpected);
     }
     let mut ballot = Ballot::new(true, sessions.level);
     ballot.set(alloc, vote, value, None)?;
     let kept = KeptBallot {
-        p: x.p,
+        provider: x.provider,
         group: x.group.copy(alloc)?,
         proto: o.proto,
         phase: o.phase,

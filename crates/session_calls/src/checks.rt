@@ -159,7 +159,7 @@ fn check_collide(sessions: &SessionState, provider: ProviderId) -> Result<(), Gs
 {
     match outstanding(sessions, provider) {
         None => Ok(()),
-        Some(q) => Err(GsFault::Collide(q.r)),
+        Some(q) => Err(GsFault::Collide(q.request)),
     }
 }
 
@@ -181,14 +181,14 @@ pub fn member(sessions: &SessionState, member: MemberToken) -> Option<&Provider>
         .providers
         .as_slice()
         .iter()
-        .find(|x| x.p.join == member.n)
+        .find(|x| x.provider.join == member.n)
 }
 
 /// Is a ballot of the provider kept for this phase?
 pub fn is_kept(sessions: &SessionState, provider: ProviderId, phase: OpenPhase) -> bool
     ensures { result ≡ list_any (is_kept_for provider phase.proto phase.phase) sessions.now.kept }
 {
-    sessions.kept.as_slice().iter().any(|k| k.p == provider
+    sessions.kept.as_slice().iter().any(|k| k.provider == provider
         && k.proto == phase.proto
         && k.phase == phase.phase)
 }
@@ -203,7 +203,7 @@ pub fn check_init(sessions: &SessionState, name: &[u8]) -> Result<(), GsFault>
         return Err(GsFault::Exists);
     }
     if sessions.sessions.len() >= MAX_SESSIONS {
-        return Err(GsFault::SessionsFull(64));
+        return Err(GsFault::SessionsFull(MAX_SESSIONS as u32));
     }
     check_spent(sessions.last_client)
 }

@@ -17,19 +17,20 @@ use subscribe_core::{ClientToken, SubToken, Subscription};
 fn is_owned(rows: &[Provider], client: ClientToken, provider: ProviderId) -> bool
     ensures { result ≡ is_owned rows.now client provider }
 {
-    rows.iter().any(|x| x.client == client && x.p == provider)
+    rows.iter()
+        .any(|x| x.client == client && x.provider == provider)
 }
 
 fn drop_requests_owned(requests: &mut List<Request>, rows: &[Provider], client: ClientToken)
-    ensures { requests.new ≡ filter (λ q. not (is_owned rows.now client q.p)) requests.old }
+    ensures { requests.new ≡ filter (λ q. not (is_owned rows.now client q.provider)) requests.old }
 {
-    requests.retain(|q| !is_owned(rows, client, q.p));
+    requests.retain(|q| !is_owned(rows, client, q.provider));
 }
 
 fn drop_kept_owned(kept: &mut List<KeptBallot>, rows: &[Provider], client: ClientToken)
-    ensures { kept.new ≡ filter (λ k. not (is_owned rows.now client k.p)) kept.old }
+    ensures { kept.new ≡ filter (λ k. not (is_owned rows.now client k.provider)) kept.old }
 {
-    kept.retain(|k| !is_owned(rows, client, k.p));
+    kept.retain(|k| !is_owned(rows, client, k.provider));
 }
 
 /// Is one of them the subscription of this token?
@@ -74,15 +75,15 @@ pub fn add_session(
 ) -> Result<ClientToken, NoMemory>
     requires { sessions.old.last_client < 4294967295 }
     ensures ok { OnOk result (sessions.new ≡ add_session sessions.old name.now) }
-    ensures token { IfOk result (λ t. t.n ≡ sessions.old.last_client + 1) }
+    ensures token { IfOk result (λ t. t.number ≡ sessions.old.last_client + 1) }
     ensures err { OnErr result (sessions.new ≡ sessions.old) }
 {
     let token = ClientToken {
-        n: sessions.last_client + 1,
+        number: sessions.last_client + 1,
     };
     let name = List::of(alloc, name)?;
     sessions.sessions.push(Session { token, name })?;
-    sessions.last_client = token.n;
+    sessions.last_client = token.number;
     Ok(token)
 }
 
@@ -98,7 +99,7 @@ pub fn subscribe(
     ensures answer { Answers result sessions.old sessions.new
         (subscribe_taken sessions.old client group.now known) }
     ensures same { SameSessions sessions.old sessions.new }
-    ensures token { IfOk result (λ s. s.n ≡ sessions.new.subs.last) }
+    ensures token { IfOk result (λ s. s.number ≡ sessions.new.subs.last) }
 {
     check_subscribe(sessions, client, group, known)?;
     match sessions.subs.add(alloc, client, group, known) {

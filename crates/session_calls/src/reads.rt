@@ -52,7 +52,7 @@ pub fn client_token(sessions: &SessionState, name: &[u8]) -> ClientToken
     ensures { result ≡ client_token sessions.now name.now }
 {
     match session_named(sessions.sessions.as_slice(), name) {
-        None => ClientToken { n: 0 },
+        None => ClientToken { number: 0 },
         Some(x) => x.token,
     }
 }
@@ -63,8 +63,10 @@ pub fn member_token(sessions: &SessionState, client: ClientToken, group: &[u8]) 
     ensures { result ≡ member_token sessions.now client group.now }
 {
     match provider_in(sessions.providers.as_slice(), client, group) {
-        None => MemberToken { n: 0 },
-        Some(x) => MemberToken { n: x.p.join },
+        None => MemberToken { number: 0 },
+        Some(x) => MemberToken {
+            number: x.provider.join,
+        },
     }
 }
 
@@ -74,7 +76,7 @@ pub fn sub_token(sessions: &SessionState, client: ClientToken, group: &[u8]) -> 
     ensures { result ≡ sub_token sessions.now client group.now }
 {
     match subscription_of(sessions.subs.live(), client, group) {
-        None => SubToken { n: 0 },
+        None => SubToken { number: 0 },
         Some(x) => x.token,
     }
 }

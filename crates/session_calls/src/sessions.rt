@@ -22,7 +22,7 @@ pub fn open_session<C: Callbacks>(
     client: C,
 ) -> Result<ClientToken, GsFault>
     ensures answer { Answers result state.old state.new (inited state.old name.now) }
-    ensures token { IfOk result (λ t. t.n ≡ state.new.last_client) }
+    ensures token { IfOk result (λ t. t.number ≡ state.new.last_client) }
     ensures level { state.new.level ≡ state.old.level }
     ensures client { OnOk result (clients.new.items ≡ clients.old.items ++ client ∷ []) }
     ensures refused { OnErr result (clients.new.items ≡ clients.old.items) }

@@ -76,19 +76,19 @@ cast_has_filled e after p v l f c ev holds made = ap ballot_of made ∙ filled_k
 
 -- one provider more was handed the notice, and cast
 notified_more : (s : SessionState) (v : ViewId) (g : List ℕ) (i : ℕ) (e : Entry) (after : GroupState) (cs : List Cast) (c : Cast) (hs : List (List Handed))
-    → notified s v g i e after (cs ++ c ∷ []) hs ≡ add_for (place_of s c.p) (Notified (notice_to v g i e after c.p) (ballot_of c)) (notified s v g i e after cs hs)
+    → notified s v g i e after (cs ++ c ∷ []) hs ≡ add_for (place_of s c.provider) (Notified (notice_to v g i e after c.provider) (ballot_of c)) (notified s v g i e after cs hs)
 unfolding notified
 notified_more s v g i e after [] c hs = refl
-notified_more s v g i e after (d ∷ cs) c hs = notified_more s v g i e after cs c (add_for (place_of s d.p) (Notified (notice_to v g i e after d.p) (ballot_of d)) hs)
+notified_more s v g i e after (d ∷ cs) c hs = notified_more s v g i e after cs c (add_for (place_of s d.provider) (Notified (notice_to v g i e after d.provider) (ballot_of d)) hs)
 
-cast_by : (e : Entry) (after : GroupState) (level : ℕ) (p : ProviderId) (b : Option Filled) → (cast_of e after level p b).p ≡ p
+cast_by : (e : Entry) (after : GroupState) (level : ℕ) (p : ProviderId) (b : Option Filled) → (cast_of e after level p b).provider ≡ p
 unfolding cast_of
 cast_by e after level p b = refl
 
 pub stand_one_more : {C : Type 0} (R : C → List Handed → Type 0) (cs ds es : List C) (s : SessionState) (v : ViewId) (g : List ℕ) (i : ℕ) (e : Entry) (after : GroupState) (before : List Cast) (p : ProviderId) (b : Option Filled) (c : Cast) → c ≡ cast_of e after s.level p b
     → StandAfter R cs ds (notified s v g i e after before) → StandAfter R ds es (add_for (place_of s p) (Notified (notice_to v g i e after p) (ballot_of c))) → StandAfter R cs es (notified s v g i e after (before ++ cast_of e after s.level p b ∷ []))
 stand_one_more R cs ds es s v g i e after before p b c made first next hs h =
-    let same : c.p ≡ p = ap (λ (x : Cast). x.p) made ∙ cast_by e after s.level p b in
+    let same : c.provider ≡ p = ap (λ (x : Cast). x.provider) made ∙ cast_by e after s.level p b in
     let all : notified s v g i e after (before ++ c ∷ []) hs ≡ add_for (place_of s p) (Notified (notice_to v g i e after p) (ballot_of c)) (notified s v g i e after before hs) =
     notified_more s v g i e after before c hs ∙ ap (λ (q : ProviderId). add_for (place_of s q) (Notified (notice_to v g i e after q) (ballot_of c)) (notified s v g i e after before hs)) same in
     rw (← made, all) (next (notified s v g i e after before hs) (first hs h))

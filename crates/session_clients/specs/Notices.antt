@@ -22,7 +22,7 @@ use Rattle.session_state.specs.HandOn.{asks, takes_telling, subscriber_of}
 use Rattle.session_clients.specs.Clients.{add_for, is_at}
 
 abbrev pub notice_to : ViewId → List ℕ → ℕ → Entry → GroupState → ProviderId → NoticeView
-notice_to v g i e after p = record { p = p; view = v; group = g; place = i; entry = e; after = after; votes = asks e after p }
+notice_to v g i e after p = record { provider = p; view = v; group = g; place = i; entry = e; after = after; votes = asks e after p }
 
 abbrev pub ballot_in : Option (ProtoId × ℕ × BallotView) → Option Filled
 ballot_in None = None
@@ -34,7 +34,7 @@ ballot_of c = ballot_in c.cast
 
 -- the lists of clients after those of the providers of cs were handed the notice and cast cs
 unfoldable pub notified : SessionState → ViewId → List ℕ → ℕ → Entry → GroupState → List Cast → List (List Handed) → List (List Handed)
-notified s v g i e after cs hs = fold (λ t c. add_for (place_of s c.p) (Notified (notice_to v g i e after c.p) (ballot_of c)) t) hs cs
+notified s v g i e after cs hs = fold (λ t c. add_for (place_of s c.provider) (Notified (notice_to v g i e after c.provider) (ballot_of c)) t) hs cs
 
 -- whether the client at a place has one of ps
 unfoldable pub hears_at : SessionState → List ProviderId → ℕ → Bool

@@ -24,17 +24,17 @@ fn cast_from(provider: ProviderId, ballot: Ballot, running: &Option<Running>) ->
 {
     if !ballot.asks() || ballot.filled().is_none() {
         return Cast {
-            p: provider,
+            provider,
             cast: None,
         };
     }
     match running {
         None => Cast {
-            p: provider,
+            provider,
             cast: None,
         },
         Some(run) => Cast {
-            p: provider,
+            provider,
             cast: Some((run.proto, run.phase, ballot)),
         },
     }
@@ -102,7 +102,7 @@ fn notify_one<C: Callbacks>(
 {
     let votes = entry.asks(provider);
     let notice = Notice {
-        p: provider,
+        provider,
         view: entry.view,
         group: entry.group.bytes(),
         place: entry.place,

@@ -13,21 +13,21 @@ use session_state::{Cast, KeptBallot, NewEntry, Request, SessionState, brought_b
 use std::alloc::Global;
 
 fn drop_requests_of(requests: &mut List<Request>, providers: &[ProviderId])
-    ensures { requests.new ≡ filter (λ q. not (among providers.now q.p)) requests.old }
+    ensures { requests.new ≡ filter (λ q. not (among providers.now q.provider)) requests.old }
 {
-    requests.retain(|q| !is_among(providers, q.p));
+    requests.retain(|q| !is_among(providers, q.provider));
 }
 
 fn drop_request(requests: &mut List<Request>, provider: ProviderId, request: u32)
     ensures { requests.new ≡ filter (λ q. not (is_request provider request q)) requests.old }
 {
-    requests.retain(|q| !(q.p == provider && q.r == request));
+    requests.retain(|q| !(q.provider == provider && q.request == request));
 }
 
 fn drop_kept_of(kept: &mut List<KeptBallot>, providers: &[ProviderId])
-    ensures { kept.new ≡ filter (λ k. not (among providers.now k.p)) kept.old }
+    ensures { kept.new ≡ filter (λ k. not (among providers.now k.provider)) kept.old }
 {
-    kept.retain(|k| !is_among(providers, k.p));
+    kept.retain(|k| !is_among(providers, k.provider));
 }
 
 fn drop_kept_in(kept: &mut List<KeptBallot>, group: &[u8], proto: ProtoId, phase: u16)
@@ -63,12 +63,12 @@ fn keep_casts(
     casts: &[Cast],
 ) -> Result<(), NoMemory>
     ensures { OnOk result (kept.new ≡ kept.old ++ flat_map
-        (λ c. kept_by group.now c.p c.cast) casts.now) }
+        (λ c. kept_by group.now c.provider c.cast) casts.now) }
 {
     for c in casts {
         if let Some((proto, phase, ballot)) = &c.cast {
             let k = KeptBallot {
-                p: c.p,
+                provider: c.provider,
                 group: group.copy(alloc)?,
                 proto: *proto,
                 phase: *phase,
@@ -107,7 +107,7 @@ pub fn outstanding(sessions: &SessionState, provider: ProviderId) -> Option<&Req
         .requests
         .as_slice()
         .iter()
-        .find(|q| q.p == provider)
+        .find(|q| q.provider == provider)
 }
 
 /// Drops these providers, their requests and their kept ballots.
@@ -127,7 +127,7 @@ fn is_outstanding(sessions: &SessionState, provider: ProviderId, request: u32) -
 {
     match outstanding(sessions, provider) {
         None => false,
-        Some(q) => q.r == request,
+        Some(q) => q.request == request,
     }
 }
 
@@ -345,12 +345,28 @@ fn end_requests_of(sessions: &mut SessionState, proposal: &Proposal)
 {
     match proposal {
         Proposal::Join { ps, .. } => end_joins(sessions, ps.as_slice()),
-        Proposal::Leave { p, r } => end_request(sessions, *p, *r),
+        Proposal::Leave { provider, request } => end_request(sessions, *provider, *request),
         Proposal::Fail { .. } => {}
-        Proposal::Expel { p, r, .. } => end_request(sessions, *p, *r),
-        Proposal::State { p, r, .. } => end_request(sessions, *p, *r),
-        Proposal::Message { p, r, .. } => end_request(sessions, *p, *r),
-        Proposal::Attributes { p, r, .. } => end_request(sessions, *p, *r),
+        Proposal::Expel {
+            provider,
+            request,
+            ..
+        } => end_request(sessions, *provider, *request),
+        Proposal::State {
+            provider,
+            request,
+            ..
+        } => end_request(sessions, *provider, *request),
+        Proposal::Message {
+            provider,
+            request,
+            ..
+        } => end_request(sessions, *provider, *request),
+        Proposal::Attributes {
+            provider,
+            request,
+            ..
+        } => end_request(sessions, *provider, *request),
         Proposal::Reflect { .. } => {}
     }
 }

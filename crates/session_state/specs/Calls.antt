@@ -100,7 +100,7 @@ attributes_fault (Some f) = Some (fault.BadGroupAttributes f)
 
 abbrev pub collide_with : Option Request → Option GsFault
 collide_with None = None
-collide_with (Some q) = Some (fault.Collide q.r)
+collide_with (Some q) = Some (fault.Collide q.request)
 
 unfoldable pub collide_fault : SessionState → ProviderId → Option GsFault
 collide_fault s p = collide_with (outstanding s p)
@@ -118,7 +118,7 @@ init_fault s name =
     (spent_fault s.last_client)))
 
 unfoldable pub add_session : SessionState → List ℕ → SessionState
-add_session s name = record s { last_client = s.last_client + 1; sessions = s.sessions ++ record { token = record { n = s.last_client + 1 }; name = name } ∷ [] }
+add_session s name = record s { last_client = s.last_client + 1; sessions = s.sessions ++ record { token = record { number = s.last_client + 1 }; name = name } ∷ [] }
 
 -- a new session with this name, whose token has the next number
 unfoldable pub inited : SessionState → List ℕ → Result SessionState GsFault
@@ -143,8 +143,8 @@ join_asked s t g instance attrs =
     let p : ProviderId = new_provider s instance in
     record s {
       last_request = s.last_request + 1;
-      providers = s.providers ++ record { p = p; client = t; group = g; takes_part = false; opened = None } ∷ [];
-      requests = s.requests ++ record { p = p; r = s.last_request + 1; group = g; phases = One; proposal = Join (p ∷ []) attrs None } ∷ [];
+      providers = s.providers ++ record { provider = p; client = t; group = g; takes_part = false; opened = None } ∷ [];
+      requests = s.requests ++ record { provider = p; request = s.last_request + 1; group = g; phases = One; proposal = Join (p ∷ []) attrs None } ∷ [];
     }
 
 -- a new provider of the client, whose join is outstanding under the next request number
@@ -158,11 +158,11 @@ unfoldable pub asked : SessionState → Provider → Phases → (ℕ → Proposa
 asked s x phases make =
     record s {
       last_request = s.last_request + 1;
-      requests = s.requests ++ record { p = x.p; r = s.last_request + 1; group = x.group; phases = phases; proposal = make (s.last_request + 1) } ∷ [];
+      requests = s.requests ++ record { provider = x.provider; request = s.last_request + 1; group = x.group; phases = phases; proposal = make (s.last_request + 1) } ∷ [];
     }
 
 unfoldable pub ask_fault : SessionState → Provider → Option GsFault → Option GsFault
-ask_fault s x parameter = or_fault parameter (or_fault (collide_fault s x.p) (spent_fault s.last_request))
+ask_fault s x parameter = or_fault parameter (or_fault (collide_fault s x.provider) (spent_fault s.last_request))
 
 abbrev pub member_asks : SessionState → Option Provider → Phases → Option GsFault → (Provider → ℕ → Proposal) → Result SessionState GsFault
 member_asks s None phases parameter make = Err fault.BadMemberToken
@@ -176,21 +176,21 @@ unfoldable pub request_made : SessionState → MemberToken → Phases → Option
 request_made s m phases parameter make = if_session (is_empty s.sessions) (member_asks s (find (is_member_of m) s.providers) phases parameter make)
 
 unfoldable pub left : SessionState → MemberToken → Phases → Result SessionState GsFault
-left s m phases = request_made s m phases None (λ x r. Leave x.p r)
+left s m phases = request_made s m phases None (λ x r. Leave x.provider r)
 
 unfoldable pub expelled : SessionState → MemberToken → Phases → List ProviderId → Result SessionState GsFault
-expelled s m phases out = request_made s m phases (targets_fault out) (λ x r. Expel x.p r out)
+expelled s m phases out = request_made s m phases (targets_fault out) (λ x r. Expel x.provider r out)
 
 unfoldable pub state_changed : SessionState → MemberToken → Phases → List ℕ → Result SessionState GsFault
-state_changed s m phases value = request_made s m phases (value_fault s (Some value)) (λ x r. State x.p r value)
+state_changed s m phases value = request_made s m phases (value_fault s (Some value)) (λ x r. State x.provider r value)
 
 unfoldable pub message_sent : SessionState → MemberToken → Phases → List ℕ → Result SessionState GsFault
-message_sent s m phases bytes = request_made s m phases (message_fault bytes) (λ x r. Message x.p r bytes)
+message_sent s m phases bytes = request_made s m phases (message_fault bytes) (λ x r. Message x.provider r bytes)
 
 abbrev pub member_changes : SessionState → Option Provider → Phases → Attrs → Result SessionState GsFault
 member_changes s None phases attrs = Err fault.BadMemberToken
 member_changes s (Some x) phases attrs =
-    unless_fault (ask_fault s x (attributes_fault (first_fault attrs x.group))) (asked s x phases (λ r. Attributes x.p r attrs))
+    unless_fault (ask_fault s x (attributes_fault (first_fault attrs x.group))) (asked s x phases (λ r. Attributes x.provider r attrs))
 
 -- the attributes are checked for the provider's own group
 unfoldable pub attributes_changed : SessionState → MemberToken → Phases → Attrs → Result SessionState GsFault
@@ -202,12 +202,12 @@ abbrev pub ballot_of : ℕ → Filled → BallotView
 ballot_of level f = record { votes = true; level = level; filled = Some f }
 
 abbrev pub keeps : SessionState → Provider → OpenPhase → Filled → SessionState
-keeps s x o f = record s { kept = s.kept ++ record { p = x.p; group = x.group; proto = o.proto; phase = o.phase; ballot = ballot_of s.level f } ∷ [] }
+keeps s x o f = record s { kept = s.kept ++ record { provider = x.provider; group = x.group; proto = o.proto; phase = o.phase; ballot = ballot_of s.level f } ∷ [] }
 
 abbrev pub vote_in : SessionState → Provider → Vote → Option (List ℕ) → Option OpenPhase → Result SessionState GsFault
 vote_in s x v value None = Err fault.VoteNotExpected
 vote_in s x v value (Some o) =
-    unless_fault (fault_if (list_any (is_kept_for x.p o.proto o.phase) s.kept) fault.VoteNotExpected) (keeps s x o (record { vote = v; value = value; message = None }))
+    unless_fault (fault_if (list_any (is_kept_for x.provider o.proto o.phase) s.kept) fault.VoteNotExpected) (keeps s x o (record { vote = v; value = value; message = None }))
 
 abbrev pub member_votes : SessionState → Option Provider → Vote → Option (List ℕ) → Result SessionState GsFault
 member_votes s None v value = Err fault.BadMemberToken
@@ -246,7 +246,7 @@ removed_at (Some i) xs = remove xs i
 
 -- whether a provider is of the client
 abbrev pub is_owned : List Provider → ClientToken → ProviderId → Bool
-is_owned xs t p = list_any (λ x. is_client_of t x && same_provider x.p p) xs
+is_owned xs t p = list_any (λ x. is_client_of t x && same_provider x.provider p) xs
 
 -- without the session, its subscriptions, and its providers with their requests and kept ballots
 unfoldable pub end_session : SessionState → ClientToken → SessionState
@@ -254,9 +254,9 @@ end_session s t =
     record s {
       sessions = removed_at (client_place s t) s.sessions;
       providers = filter (λ x. not (is_client_of t x)) s.providers;
-      requests = filter (λ q. not (is_owned s.providers t q.p)) s.requests;
+      requests = filter (λ q. not (is_owned s.providers t q.provider)) s.requests;
       subs = subs_remove_client t s.subs;
-      kept = filter (λ k. not (is_owned s.providers t k.p)) s.kept;
+      kept = filter (λ k. not (is_owned s.providers t k.provider)) s.kept;
     }
 
 unfoldable pub goodbye_taken : SessionState → ClientToken → Result SessionState GsFault

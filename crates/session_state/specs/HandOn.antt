@@ -94,7 +94,7 @@ is_late _ = false
 unfoldable pub opened_after : Entry → GroupState → Provider → Provider
 opened_after e after x =
     if is_late e then x
-    else record x { opened = if asks e after x.p then running_phase after.running else None }
+    else record x { opened = if asks e after x.provider then running_phase after.running else None }
 
 unfoldable pub open_phases : SessionState → Entry → GroupState → List ProviderId → SessionState
 open_phases s e after ps = fold (λ t p. with_provider t p (opened_after e after)) s ps
@@ -107,7 +107,7 @@ cast_in (Some run) level None = None
 cast_in (Some run) level (Some f) = Some (run.proto, run.phase, record { votes = true; level = level; filled = Some f })
 
 abbrev pub cast_with : Bool → Option Running → ℕ → ProviderId → Option Filled → Cast
-cast_with votes running level p b = record { p = p; cast = if votes then cast_in running level b else None }
+cast_with votes running level p b = record { provider = p; cast = if votes then cast_in running level b else None }
 
 -- what a provider that was handed the notice casts, where its client fills the ballot with b
 unfoldable pub cast_of : Entry → GroupState → ℕ → ProviderId → Option Filled → Cast
@@ -121,10 +121,10 @@ casts_of e after level (p ∷ ps) (b ∷ bs) = cast_of e after level p b ∷ cas
 
 abbrev pub kept_by : List ℕ → ProviderId → Option (ProtoId × ℕ × BallotView) → List KeptBallot
 kept_by g p None = []
-kept_by g p (Some c) = record { p = p; group = g; proto = c.0; phase = c.1; ballot = c.2 } ∷ []
+kept_by g p (Some c) = record { provider = p; group = g; proto = c.0; phase = c.1; ballot = c.2 } ∷ []
 
 unfoldable pub keep_casts : SessionState → List ℕ → List Cast → SessionState
-keep_casts s g cs = record s { kept = s.kept ++ flat_map (λ c. kept_by g c.p c.cast) cs }
+keep_casts s g cs = record s { kept = s.kept ++ flat_map (λ c. kept_by g c.provider c.cast) cs }
 
 -- the outstanding requests that a Begin or Once carries are ended
 
@@ -179,7 +179,7 @@ is_dissolved _ = false
 
 abbrev pub is_numbered : ℕ → Option Request → Bool
 is_numbered r None = false
-is_numbered r (Some q) = q.r == r
+is_numbered r (Some q) = q.request == r
 
 -- a telling is for a live provider: of its outstanding request, or that it is dissolved
 unfoldable pub takes_telling : SessionState → ProviderId → ℕ → Why → Bool
@@ -197,7 +197,7 @@ is_join_request (Some q) = is_join q.proposal
 unfoldable pub told_of : SessionState → ProviderId → Why → SessionState
 told_of s p y =
     if is_join_request (outstanding s p) || is_dissolved y then without_providers s (p ∷ [])
-    else record s { requests = filter (λ q. not (among (p ∷ []) q.p)) s.requests }
+    else record s { requests = filter (λ q. not (among (p ∷ []) q.provider)) s.requests }
 
 unfoldable pub take_telling : SessionState → ProviderId → ℕ → Why → SessionState
 take_telling s p r y = if takes_telling s p r y then told_of s p y else s

@@ -22,32 +22,32 @@ no_sessions me inc =
     record { me = me; inc = inc; level = 1; last_request = 0; last_client = 0; sessions = []; providers = []; requests = []; subs = no_subs; kept = [] }
 
 abbrev pub is_session : ClientToken → Session → Bool
-is_session t x = x.token.n == t.n
+is_session t x = x.token.number == t.number
 
 abbrev pub is_named : List ℕ → Session → Bool
 is_named name x = bytes_eq x.name name
 
 abbrev pub is_provider : ProviderId → Provider → Bool
-is_provider p x = same_provider x.p p
+is_provider p x = same_provider x.provider p
 
 -- a member token is the number of the join's request
 abbrev pub is_member_of : MemberToken → Provider → Bool
-is_member_of m x = x.p.join == m.n
+is_member_of m x = x.provider.join == m.number
 
 abbrev pub is_client_of : ClientToken → Provider → Bool
-is_client_of t x = x.client.n == t.n
+is_client_of t x = x.client.number == t.number
 
 abbrev pub is_in_group : ClientToken → List ℕ → Provider → Bool
 is_in_group t g x = is_client_of t x && bytes_eq x.group g
 
 abbrev pub is_asked_by : ProviderId → Request → Bool
-is_asked_by p q = same_provider q.p p
+is_asked_by p q = same_provider q.provider p
 
 abbrev pub is_request : ProviderId → ℕ → Request → Bool
-is_request p r q = same_provider q.p p && q.r == r
+is_request p r q = same_provider q.provider p && q.request == r
 
 abbrev pub is_kept_for : ProviderId → ProtoId → ℕ → KeptBallot → Bool
-is_kept_for p proto phase k = same_provider k.p p && same_proto k.proto proto && k.phase == phase
+is_kept_for p proto phase k = same_provider k.provider p && same_proto k.proto proto && k.phase == phase
 
 abbrev pub is_kept_in : List ℕ → ProtoId → ℕ → KeptBallot → Bool
 is_kept_in g proto phase k = bytes_eq k.group g && same_proto k.proto proto && k.phase == phase
@@ -72,7 +72,7 @@ unfoldable pub outstanding : SessionState → ProviderId → Option Request
 outstanding s p = find (is_asked_by p) s.requests
 
 abbrev pub token_in : Option Session → ClientToken
-token_in None = record { n = 0 }
+token_in None = record { number = 0 }
 token_in (Some x) = x.token
 
 -- the token of the live session of a name, 0 where there is none
@@ -80,15 +80,15 @@ unfoldable pub client_token : SessionState → List ℕ → ClientToken
 client_token s name = token_in (find (is_named name) s.sessions)
 
 abbrev pub member_in : Option Provider → MemberToken
-member_in None = record { n = 0 }
-member_in (Some x) = record { n = x.p.join }
+member_in None = record { number = 0 }
+member_in (Some x) = record { number = x.provider.join }
 
 -- the token of a client's provider of a group, 0 where there is none
 unfoldable pub member_token : SessionState → ClientToken → List ℕ → MemberToken
 member_token s t g = member_in (find (is_in_group t g) s.providers)
 
 abbrev pub sub_in : Option Subscription → SubToken
-sub_in None = record { n = 0 }
+sub_in None = record { number = 0 }
 sub_in (Some x) = x.token
 
 -- the token of a client's subscription to a group, 0 where there is none
@@ -115,9 +115,9 @@ end_request s p r = record s { requests = filter (λ q. not (is_request p r q)) 
 unfoldable pub without_providers : SessionState → List ProviderId → SessionState
 without_providers s ps =
     record s {
-      providers = filter (λ x. not (among ps x.p)) s.providers;
-      requests = filter (λ q. not (among ps q.p)) s.requests;
-      kept = filter (λ k. not (among ps k.p)) s.kept;
+      providers = filter (λ x. not (among ps x.provider)) s.providers;
+      requests = filter (λ q. not (among ps q.provider)) s.requests;
+      kept = filter (λ k. not (among ps k.provider)) s.kept;
     }
 
 -- opens each word of this file, for a computation

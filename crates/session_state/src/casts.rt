@@ -5,14 +5,17 @@ use rsct_packet::{List, ProtoId, ProviderId};
 /// A provider that was handed a notice, and the ballot that its client filled, with the protocol and the phase
 /// that it is for.
 pub struct Cast {
-    pub p: ProviderId,
+    pub provider: ProviderId,
     pub cast: Option<(ProtoId, u16, Ballot)>,
 }
 
 // Written out: a drop is one call then, whose proof is made once.
 impl Drop for Cast {
     fn drop(self) {
-        let Cast { p: _, cast: _cast } = self;
+        let Cast {
+            provider: _,
+            cast: _cast,
+        } = self;
     }
 }
 

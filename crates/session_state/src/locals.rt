@@ -32,7 +32,7 @@ fn place(rows: &[Provider], provider: ProviderId) -> Option<usize>
     ensures value { result ≡ position (is_provider provider) rows.now }
     ensures within { IfSome result (λ i. i < length rows.now) }
 {
-    rows.iter().position(|row| row.p == provider)
+    rows.iter().position(|row| row.provider == provider)
 }
 
 /// The provider takes part.
@@ -50,7 +50,7 @@ fn note_entry(row: &mut Provider, entry: &NewEntry<'_>)
     if is_late(entry.entry) {
         return;
     }
-    row.opened = if entry.asks(row.p) {
+    row.opened = if entry.asks(row.provider) {
         running_phase(&entry.after.running)
     } else {
         None
@@ -58,9 +58,9 @@ fn note_entry(row: &mut Provider, entry: &NewEntry<'_>)
 }
 
 fn keep_all_but(rows: &mut Vec<Provider>, providers: &[ProviderId])
-    ensures { rows.new.items ≡ filter (λ x. not (among providers.now x.p)) rows.old.items }
+    ensures { rows.new.items ≡ filter (λ x. not (among providers.now x.provider)) rows.old.items }
 {
-    rows.retain(|x| !is_among(providers, x.p));
+    rows.retain(|x| !is_among(providers, x.provider));
 }
 
 fn keep_others(rows: &mut Vec<Provider>, client: ClientToken)
@@ -94,7 +94,7 @@ impl Locals {
     pub fn get(&self, provider: ProviderId) -> Option<&Provider>
         ensures { option_copied result ≡ find (is_provider provider) self.now }
     {
-        self.rows.iter().find(|x| x.p == provider)
+        self.rows.iter().find(|x| x.provider == provider)
     }
 
     pub fn push(&mut self, provider: Provider) -> Result<(), NoMemory>
@@ -135,7 +135,7 @@ impl Locals {
 
     /// Takes these off.
     pub fn retain_not(&mut self, providers: &[ProviderId])
-        ensures { self.new ≡ filter (λ x. not (among providers.now x.p)) self.old }
+        ensures { self.new ≡ filter (λ x. not (among providers.now x.provider)) self.old }
     {
         keep_all_but(&mut self.rows, providers);
     }

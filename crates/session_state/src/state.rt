@@ -12,7 +12,7 @@ use subscribe_core::{ClientToken, Subs};
 /// A provider of a client in a group: the number of its join's request.
 #[derive(Clone, Copy, Debug, PartialEq, Eq)]
 pub struct MemberToken {
-    pub n: u32,
+    pub number: u32,
 }
 
 /// A live session: its token, and its client's name.
@@ -33,7 +33,7 @@ pub struct OpenPhase {
 /// it.
 #[derive(Drop)]
 pub struct Provider {
-    pub p: ProviderId,
+    pub provider: ProviderId,
     pub client: ClientToken,
     pub group: Name,
     pub takes_part: bool,
@@ -42,8 +42,8 @@ pub struct Provider {
 
 /// An outstanding request of a provider: its number, and what it proposes, in one phase or many.
 pub struct Request {
-    pub p: ProviderId,
-    pub r: u32,
+    pub provider: ProviderId,
+    pub request: u32,
     pub group: Name,
     pub phases: Phases,
     pub proposal: Proposal,
@@ -53,8 +53,8 @@ pub struct Request {
 impl Drop for Request {
     fn drop(self) {
         let Request {
-            p: _,
-            r: _,
+            provider: _,
+            request: _,
             group: _group,
             phases: _,
             proposal: _proposal,
@@ -64,7 +64,7 @@ impl Drop for Request {
 
 /// A ballot that is kept for a provider, protocol and phase until the phase closes.
 pub struct KeptBallot {
-    pub p: ProviderId,
+    pub provider: ProviderId,
     pub group: Name,
     pub proto: ProtoId,
     pub phase: u16,
@@ -74,7 +74,7 @@ pub struct KeptBallot {
 impl Drop for KeptBallot {
     fn drop(self) {
         let KeptBallot {
-            p: _,
+            provider: _,
             group: _group,
             proto: _,
             phase: _,

@@ -22,7 +22,7 @@ abbrev pub lacks_source : Option GroupState → ProviderId → Bool
 lacks_source source p = not (allowed source p.node)
 
 abbrev pub cast_out : ProviderId → Failure
-cast_out p = record { p = p; cause = Cast }
+cast_out p = record { provider = p; cause = Cast }
 
 -- the members on nodes without a source member, in membership order
 unfoldable pub cast_outs : List ProviderId → Option GroupState → List Failure

@@ -39,7 +39,7 @@ fn cast_outs(
     for p in members {
         if !allowed(source, p.node) {
             out.push(Failure {
-                p: *p,
+                provider: *p,
                 cause: Cause::Cast,
             })?;
         }

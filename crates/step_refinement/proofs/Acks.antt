@@ -155,14 +155,14 @@ led_keeps x n inc v l m d u h =
       waiting = λ p e i. let z = h.waiting p e (subst (λ js. among js p ≡ true) u i) in
           record { proposal = z.proposal; sent = z.sent; joins = z.joins; open_still = z.open_still; unbegun = z.unbegun; decided = decided p p.join z.decided };
       later = h.later;
-      again = λ p z why e q. h.again p z why (ap (λ ds. find (λ d. same_provider d.p p) ds) (sym d) ∙ e) q;
+      again = λ p z why e q. h.again p z why (ap (λ ds. find (λ d. same_provider d.provider p) ds) (sym d) ∙ e) q;
       leads_it = λ p i. h.leads_it p (subst (λ js. among js p ≡ true) u i);
       apart = ap differ u ∙ h.apart;
-      lasts = λ p z i e. h.lasts p z (subst (λ js. among js p ≡ true) u i) (ap (λ ds. find (λ y. same_provider y.p p) ds) (sym d) ∙ e);
+      lasts = λ p z i e. h.lasts p z (subst (λ js. among js p ≡ true) u i) (ap (λ ds. find (λ y. same_provider y.provider p) ds) (sym d) ∙ e);
     }
   where
     decided : (p : ProviderId) (r : ℕ) → Decided l p r → Decided m p r
-    decided p r z = record { last = z.last; kept_it = ap (λ ds. find (λ d. same_provider d.p p) ds) d ∙ z.kept_it; later = z.later }
+    decided p r z = record { last = z.last; kept_it = ap (λ ds. find (λ d. same_provider d.provider p) ds) d ∙ z.kept_it; later = z.later }
 
 module _ (g : List ℕ) (w : Scene) (n : ℕ) (s : Core) (t : Tied g w n s) where
   abbrev x : Ghost

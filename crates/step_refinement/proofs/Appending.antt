@@ -107,13 +107,13 @@ casts_rows k to cs c = by (frozen c)
     one c p None = (refl, refl)
     one c p (Some x) = ballot c to p x (x.2).filled
 
-    all : (cs : List Cast) (c : Core) → ((fold (λ d x. cast_sent_of d k to x.p x.cast) c cs).groups ≡ c.groups) × ((fold (λ d x. cast_sent_of d k to x.p x.cast) c cs).config ≡ c.config)
+    all : (cs : List Cast) (c : Core) → ((fold (λ d x. cast_sent_of d k to x.provider x.cast) c cs).groups ≡ c.groups) × ((fold (λ d x. cast_sent_of d k to x.provider x.cast) c cs).config ≡ c.config)
     all [] c = (refl, refl)
     all (x ∷ cs) c =
-        let a = all cs (cast_sent_of c k to x.p x.cast) in
-        let b = one c x.p x.cast in (a.0 ∙ b.0, a.1 ∙ b.1)
+        let a = all cs (cast_sent_of c k to x.provider x.cast) in
+        let b = one c x.provider x.cast in (a.0 ∙ b.0, a.1 ∙ b.1)
 
-    by : (b : Bool) → ((elim b as (λ _. Core) [ true ↦ c | false ↦ fold (λ d x. cast_sent_of d k to x.p x.cast) c cs ]).groups ≡ c.groups) × ((elim b as (λ _. Core) [ true ↦ c | false ↦ fold (λ d x. cast_sent_of d k to x.p x.cast) c cs ]).config ≡ c.config)
+    by : (b : Bool) → ((elim b as (λ _. Core) [ true ↦ c | false ↦ fold (λ d x. cast_sent_of d k to x.provider x.cast) c cs ]).groups ≡ c.groups) × ((elim b as (λ _. Core) [ true ↦ c | false ↦ fold (λ d x. cast_sent_of d k to x.provider x.cast) c cs ]).config ≡ c.config)
     by true = (refl, refl)
     by false = all cs c
 
@@ -235,7 +235,7 @@ pub record Leading (g : List ℕ) (w : Scene) (n : ℕ) (s c : Core) : Type 0 wh
 pub joins_kept : (p : ProviderId) (why : Cause) (x : WaitingView) → (add_failure p why x).joins ≡ x.joins
 joins_kept p why x = by (takes_failure p x)
   where
-    by : (b : Bool) → (if b then record x { failures = x.failures ++ record { p = p; cause = why } ∷ [] } else x).joins ≡ x.joins
+    by : (b : Bool) → (if b then record x { failures = x.failures ++ record { provider = p; cause = why } ∷ [] } else x).joins ≡ x.joins
     by true = refl
     by false = refl
 

@@ -101,25 +101,25 @@ module _ (g : List ℕ) (w : Scene) (n : ℕ) where
   unfolding dissolved_if provider_of outstanding
   dissolved_arrives c h old b p t = at (find (is_provider p) c.sessions.providers) refl
     where
-      one : (y : Provider) → Has y c.sessions.providers → Arrived (dissolved c y.p (number_of (outstanding c.sessions y.p)))
+      one : (y : Provider) → Has y c.sessions.providers → Arrived (dissolved c y.provider (number_of (outstanding c.sessions y.provider)))
       one y i =
           let k = t.tied.own.0.owes.providers y i in
-          told_arrives c y.p (number_of (outstanding c.sessions y.p)) t k.0 k.1 (provider_found c.sessions y i) (λ u. numbered u (find (is_asked_by y.p) c.sessions.requests) refl)
+          told_arrives c y.provider (number_of (outstanding c.sessions y.provider)) t k.0 k.1 (provider_found c.sessions y i) (λ u. numbered u (find (is_asked_by y.provider) c.sessions.requests) refl)
         where
-          numbered : (u : Tied g w n c) (o : Option Request) → find (is_asked_by y.p) c.sessions.requests ≡ o → Numbered u.ghost y.p (number_of o)
+          numbered : (u : Tied g w n c) (o : Option Request) → find (is_asked_by y.provider) c.sessions.requests ≡ o → Numbered u.ghost y.provider (number_of o)
           numbered u None e = inl refl
           numbered u (Some q) e =
-              let j = find_has (is_asked_by y.p) c.sessions.requests q e in
-              inr (q.group, subst (λ z. Has (asking z q.r q.group) u.ghost.asked) (provider_same q.p y.p j.1) (u.own.0.owes.own q j.0).2)
+              let j = find_has (is_asked_by y.provider) c.sessions.requests q e in
+              inr (q.group, subst (λ z. Has (asking z q.request q.group) u.ghost.asked) (provider_same q.provider y.provider j.1) (u.own.0.owes.own q j.0).2)
 
-      by : (y : Provider) → Has y c.sessions.providers → (d : Bool) → Arrived (elim d as (λ _. Core) [ true ↦ dissolved c y.p (number_of (outstanding c.sessions y.p)) | false ↦ c ])
+      by : (y : Provider) → Has y c.sessions.providers → (d : Bool) → Arrived (elim d as (λ _. Core) [ true ↦ dissolved c y.provider (number_of (outstanding c.sessions y.provider)) | false ↦ c ])
       by y i true = one y i
       by y i false = t
 
       at : (o : Option Provider) → find (is_provider p) c.sessions.providers ≡ o → Arrived (dissolved_if c h old b o)
       at None e = t
       at (Some y) e =
-          by y (find_has (is_provider p) c.sessions.providers y e).0 (y.takes_part && bytes_eq y.group h && not (is_in_base old y.p b))
+          by y (find_has (is_provider p) c.sessions.providers y e).0 (y.takes_part && bytes_eq y.group h && not (is_in_base old y.provider b))
 
   group_arrives : (ps : List ProviderId) (c : Core) (h : List ℕ) (old : ViewId) (b : Option Base) → Arrived c → Arrived (fold (λ (d : Core) p. dissolved_if d h old b (provider_of d.sessions p)) c ps)
   group_arrives [] c h old b t = t

@@ -386,7 +386,7 @@ module _ (g : List ℕ) (w : Scene) (n : ℕ) (e : Event) (free : is_fixed w.con
             own = λ q h. absurd h;
             requests = λ q h. absurd h;
             attended = λ q h. absurd h;
-            given = λ a h e f. absurd (let l = t.sound.started a h in let q : (t.ghost.nodes a.p.node).inc ≡ w.incs n = ap (λ m. (t.ghost.nodes m).inc) e ∙ inc_is in omega arith);
+            given = λ a h e f. absurd (let l = t.sound.started a h in let q : (t.ghost.nodes a.provider.node).inc ≡ w.incs n = ap (λ m. (t.ghost.nodes m).inc) e ∙ inc_is in omega arith);
           };
           decides = record {
             refused = λ p r q c h. absurd (let f = unled in cc);

@@ -179,7 +179,7 @@ module _ (g : List ℕ) where
   failures_onward (suc k) f c h = by (is_empty out) (failures_onward k)
     where
       out : List Failure
-      out = filter (λ (x : Failure). among (state_of c h).members x.p) (next_failures (state_of c h).attrs.batch (led_of c h).waiting)
+      out = filter (λ (x : Failure). among (state_of c h).members x.provider) (next_failures (state_of c h).attrs.batch (led_of c h).waiting)
 
       t : Core
       t = with_led c h (λ l. record l { waiting = failures_left (state_of c h).attrs.batch l.waiting })
@@ -187,10 +187,10 @@ module _ (g : List ℕ) where
       first : Onward g c t
       first = onward_led c h (λ l. record l { waiting = failures_left (state_of c h).attrs.batch l.waiting }) (λ l. omega arith)
 
-      by : (b : Bool) → ((f : Answering) (d : Core) (j : List ℕ) → Onward g d (failures_begin k f d j).core) → Onward g c (elim b as (λ _. Pass) [ true ↦ failures_begin k f t h | false ↦ begun_now (begins f t h (Fail (filter (λ (x : Failure). among (state_of c h).members x.p) (next_failures (state_of c h).attrs.batch (led_of c h).waiting))) (state_of c h).attrs.phases) ]).core
+      by : (b : Bool) → ((f : Answering) (d : Core) (j : List ℕ) → Onward g d (failures_begin k f d j).core) → Onward g c (elim b as (λ _. Pass) [ true ↦ failures_begin k f t h | false ↦ begun_now (begins f t h (Fail (filter (λ (x : Failure). among (state_of c h).members x.provider) (next_failures (state_of c h).attrs.batch (led_of c h).waiting))) (state_of c h).attrs.phases) ]).core
       by true rest = onward_then c t (failures_begin k f t h).core first (rest f t h)
       by false rest =
-          onward_then c t (begins f t h (Fail (filter (λ (x : Failure). among (state_of c h).members x.p) (next_failures (state_of c h).attrs.batch (led_of c h).waiting))) (state_of c h).attrs.phases) first (begins_onward f t h (Fail (filter (λ (x : Failure). among (state_of c h).members x.p) (next_failures (state_of c h).attrs.batch (led_of c h).waiting))) (state_of c h).attrs.phases)
+          onward_then c t (begins f t h (Fail (filter (λ (x : Failure). among (state_of c h).members x.provider) (next_failures (state_of c h).attrs.batch (led_of c h).waiting))) (state_of c h).attrs.phases) first (begins_onward f t h (Fail (filter (λ (x : Failure). among (state_of c h).members x.provider) (next_failures (state_of c h).attrs.batch (led_of c h).waiting))) (state_of c h).attrs.phases)
 
   source_onward : (f : Answering) (c : Core) (h : List ℕ) (st : GroupState) (o : Option (List ℕ)) → Onward g c (source_begins f c h st o).core
   unfolding source_begins due_begins
@@ -206,7 +206,7 @@ module _ (g : List ℕ) where
   unfolding refused keep_decision sent send_on
   refused_onward c h p r why =
       let d : Core = keep_decision c h p r (Some why) in
-      onward_then c d (refused c h p r why) (onward_led c h (λ l. record l { decided = decisions_with (record { p = p; r = r; why = Some why }) l.decided }) (λ l. omega arith)) (onward_groups d (refused c h p r why) refl)
+      onward_then c d (refused c h p r why) (onward_led c h (λ l. record l { decided = decisions_with (record { provider = p; request = r; why = Some why }) l.decided }) (λ l. omega arith)) (onward_groups d (refused c h p r why) refl)
 
   all_refused_onward : (h : List ℕ) (src : Option (List ℕ)) (ps : List ProviderId) (c : Core) → Onward g c (source_refused c h src ps)
   unfolding source_refused
@@ -301,7 +301,7 @@ module _ (g : List ℕ) where
 
   -- where a group has no list, no failure of a member waits
   module _ (f : Answering) where
-    nobody_fails : (xs : List Failure) → is_empty (filter (λ (x : Failure). among [] x.p) xs) ≡ true
+    nobody_fails : (xs : List Failure) → is_empty (filter (λ (x : Failure). among [] x.provider) xs) ≡ true
     nobody_fails [] = refl
     nobody_fails (x ∷ xs) = nobody_fails xs
 
@@ -311,7 +311,7 @@ module _ (g : List ℕ) where
     failures_none (suc k) c o e = by (is_empty out) empty (failures_none k)
       where
         out : List Failure
-        out = filter (λ (x : Failure). among (state_of c g).members x.p) (next_failures (state_of c g).attrs.batch (led_of c g).waiting)
+        out = filter (λ (x : Failure). among (state_of c g).members x.provider) (next_failures (state_of c g).attrs.batch (led_of c g).waiting)
 
         F : GroupRow → GroupRow
         F row = record row { led = record (row.led) { waiting = failures_left (state_of c g).attrs.batch row.led.waiting } }
@@ -321,7 +321,7 @@ module _ (g : List ℕ) where
 
         empty : is_empty out ≡ true
         empty =
-            subst (λ (l : Option GroupView). is_empty (filter (λ (x : Failure). among (list_or_new l).state.members x.p) (next_failures (state_of c g).attrs.batch (led_of c g).waiting)) ≡ true) (sym e) (nobody_fails (next_failures (state_of c g).attrs.batch (led_of c g).waiting))
+            subst (λ (l : Option GroupView). is_empty (filter (λ (x : Failure). among (list_or_new l).state.members x.provider) (next_failures (state_of c g).attrs.batch (led_of c g).waiting)) ≡ true) (sym e) (nobody_fails (next_failures (state_of c g).attrs.batch (led_of c g).waiting))
 
         by : (b : Bool) → b ≡ true → ((c : Core) → InNameOrder c.groups → (row_of c g).list ≡ None → ((failures_begin k f c g).began ≡ false) × ((row_of (failures_begin k f c g).core g).list ≡ None)) → let p : Pass = elim b as (λ _. Pass) [ true ↦ failures_begin k f t g | false ↦ begun_now (begins f t g (Fail out) (state_of c g).attrs.phases) ] in (p.began ≡ false) × ((row_of p.core g).list ≡ None)
         by true q rest = rest t (rows_ordered g F (λ x. refl) c o) (ap (λ (row : GroupRow). row.list) (row_here g F (λ x. refl) c o) ∙ e)

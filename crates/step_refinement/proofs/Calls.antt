@@ -68,9 +68,9 @@ none_is : (o : Option GsFault) (s u : SessionState) → unless_fault o s ≡ Ok 
 none_is None s u e = refl
 none_is (Some x) s u e = absurd (cc)
 
-asks_nothing : (s : SessionState) (x : Provider) (parameter : Option GsFault) (now u : SessionState) → unless_fault (ask_fault s x parameter) now ≡ Ok u → outstanding s x.p ≡ None
+asks_nothing : (s : SessionState) (x : Provider) (parameter : Option GsFault) (now u : SessionState) → unless_fault (ask_fault s x parameter) now ≡ Ok u → outstanding s x.provider ≡ None
 unfolding ask_fault collide_fault
-asks_nothing s x parameter now u e = by parameter (outstanding s x.p) (none_is _ now u e)
+asks_nothing s x parameter now u e = by parameter (outstanding s x.provider) (none_is _ now u e)
   where
     by : (a : Option GsFault) (o : Option Request) → or_fault a (or_fault (collide_with o) (spent_fault s.last_request)) ≡ None → o ≡ None
     by None None k = refl
@@ -82,35 +82,35 @@ pub record Proposes (s u : SessionState) (q : Request) : Type 0 where
   pub me : u.me ≡ s.me
   pub inc : u.inc ≡ s.inc
   pub last : u.last_request ≡ s.last_request + 1
-  pub number : q.r ≡ s.last_request + 1
-  pub made : Has (q.p, q.r) (requests_of q.proposal)
+  pub number : q.request ≡ s.last_request + 1
+  pub made : Has (q.provider, q.request) (requests_of q.proposal)
   pub more : u.requests ≡ s.requests ++ q ∷ []
-  pub providers : (y : Provider) → Has y u.providers → Has y s.providers ⊎ ((y.p ≡ q.p) × (q.p.node ≡ s.me) × (q.p.inc ≡ s.inc))
+  pub providers : (y : Provider) → Has y u.providers → Has y s.providers ⊎ ((y.provider ≡ q.provider) × (q.provider.node ≡ s.me) × (q.provider.inc ≡ s.inc))
   pub kept : (y : Provider) → Has y s.providers → Has y u.providers
-  pub there : (y : Provider) × Has y u.providers × (y.p ≡ q.p)
+  pub there : (y : Provider) × Has y u.providers × (y.provider ≡ q.provider)
   pub turn : Attended s → (v : ViewId) (rs : List Happened) → InTurn v rs s → InTurn v rs u
 
 join_proposes : (s : SessionState) (t : ClientToken) (g : List ℕ) (instance : ℕ) (attrs : Attrs) (u : SessionState) → u ≡ join_asked s t g instance attrs → (q : Request) × Proposes s u q
 unfolding join_asked
 join_proposes s t g instance attrs u e =
     let p : ProviderId = record { node = s.me; inc = s.inc; instance = instance; join = s.last_request + 1 } in
-    let y : Provider = record { p = p; client = t; group = g; takes_part = false; opened = None } in
-    let q : Request = record { p = p; r = s.last_request + 1; group = g; phases = One; proposal = Join (p ∷ []) attrs None } in
+    let y : Provider = record { provider = p; client = t; group = g; takes_part = false; opened = None } in
+    let q : Request = record { provider = p; request = s.last_request + 1; group = g; phases = One; proposal = Join (p ∷ []) attrs None } in
     (q, subst (λ z. Proposes s z q) (sym e) (record { me = refl; inc = refl; last = refl; number = refl; made = inl refl; more = refl; providers = λ z h. new z y (has_append z s.providers (y ∷ []) h) refl; kept = λ z h. append_has_left z s.providers (y ∷ []) h; there = (y, append_has_right y s.providers (y ∷ []) (inl refl), refl); turn = λ a v rs h. joined_turn v rs s y q a h refl refl refl refl }))
   where
-    new : (z y : Provider) → Has z s.providers ⊎ Has z (y ∷ []) → y.p ≡ record { node = s.me; inc = s.inc; instance = instance; join = s.last_request + 1 } → Has z s.providers ⊎ ((z.p ≡ record { node = s.me; inc = s.inc; instance = instance; join = s.last_request + 1 }) × (s.me ≡ s.me) × (s.inc ≡ s.inc))
+    new : (z y : Provider) → Has z s.providers ⊎ Has z (y ∷ []) → y.provider ≡ record { node = s.me; inc = s.inc; instance = instance; join = s.last_request + 1 } → Has z s.providers ⊎ ((z.provider ≡ record { node = s.me; inc = s.inc; instance = instance; join = s.last_request + 1 }) × (s.me ≡ s.me) × (s.inc ≡ s.inc))
     new z y (inl h) k = inl h
-    new z y (inr (inl e)) k = inr (ap (λ (a : Provider). a.p) e ∙ k, refl, refl)
+    new z y (inr (inl e)) k = inr (ap (λ (a : Provider). a.provider) e ∙ k, refl, refl)
     new z y (inr (inr e)) k = absurd e
 
-asked_proposes : (s : SessionState) (x : Provider) (phases : Phases) (make : ℕ → Proposal) (u : SessionState) → Has x s.providers → Has (x.p, s.last_request + 1) (requests_of (make (s.last_request + 1))) → outstanding s x.p ≡ None → u ≡ asked s x phases make → (q : Request) × Proposes s u q
+asked_proposes : (s : SessionState) (x : Provider) (phases : Phases) (make : ℕ → Proposal) (u : SessionState) → Has x s.providers → Has (x.provider, s.last_request + 1) (requests_of (make (s.last_request + 1))) → outstanding s x.provider ≡ None → u ≡ asked s x phases make → (q : Request) × Proposes s u q
 unfolding asked
 asked_proposes s x phases make u h made free e =
-    let q : Request = record { p = x.p; r = s.last_request + 1; group = x.group; phases = phases; proposal = make (s.last_request + 1) } in
+    let q : Request = record { provider = x.provider; request = s.last_request + 1; group = x.group; phases = phases; proposal = make (s.last_request + 1) } in
     (q, subst (λ z. Proposes s z q) (sym e) (record { me = refl; inc = refl; last = refl; number = refl; made = made; more = refl; providers = λ z i. inl i; kept = λ z i. i; there = (x, h, refl); turn = λ a v rs h. asked_turn v rs s q h free }))
 
 -- the request of a provider of a token
-member_proposes : (s : SessionState) (m : MemberToken) (phases : Phases) (parameter : Option GsFault) (make : Provider → ℕ → Proposal) (u : SessionState) → ((x : Provider) (r : ℕ) → Has (x.p, r) (requests_of (make x r))) → request_made s m phases parameter make ≡ Ok u → (q : Request) × Proposes s u q
+member_proposes : (s : SessionState) (m : MemberToken) (phases : Phases) (parameter : Option GsFault) (make : Provider → ℕ → Proposal) (u : SessionState) → ((x : Provider) (r : ℕ) → Has (x.provider, r) (requests_of (make x r))) → request_made s m phases parameter make ≡ Ok u → (q : Request) × Proposes s u q
 unfolding request_made
 member_proposes s m phases parameter make u made e =
     by (find (is_member_of m) s.providers) refl (if_taken (is_empty s.sessions) (member_asks s (find (is_member_of m) s.providers) phases parameter make) u e)
@@ -128,7 +128,7 @@ attributes_propose s m phases attrs u e =
     by : (o : Option Provider) → find (is_member_of m) s.providers ≡ o → member_changes s o phases attrs ≡ Ok u → (q : Request) × Proposes s u q
     by None k d = absurd (cc)
     by (Some x) k d =
-        asked_proposes s x phases (λ r. Attributes x.p r attrs) u (find_has (is_member_of m) s.providers x k).0 (inl refl) (asks_nothing s x _ (asked s x phases (λ r. Attributes x.p r attrs)) u d) (taken_is _ (asked s x phases (λ r. Attributes x.p r attrs)) u d)
+        asked_proposes s x phases (λ r. Attributes x.provider r attrs) u (find_has (is_member_of m) s.providers x k).0 (inl refl) (asks_nothing s x _ (asked s x phases (λ r. Attributes x.provider r attrs)) u d) (taken_is _ (asked s x phases (λ r. Attributes x.provider r attrs)) u d)
 
 -- nothing is asked, and what is outstanding stays in turn
 abbrev Less : SessionState → SessionState → Type 0
@@ -178,50 +178,50 @@ ended_later s t = (
     level = refl;
     last = refl;
     providers = λ y h. (y, (has_filter (λ x. not (is_client_of t x)) y s.providers h).0, refl);
-    requests = λ q h. (has_filter (λ (q : Request). not (is_owned s.providers t q.p)) q s.requests h).0;
-    attended = λ a q h. let i = has_filter (λ (q : Request). not (is_owned s.providers t q.p)) q s.requests h in
+    requests = λ q h. (has_filter (λ (q : Request). not (is_owned s.providers t q.provider)) q s.requests h).0;
+    attended = λ a q h. let i = has_filter (λ (q : Request). not (is_owned s.providers t q.provider)) q s.requests h in
         let k = a q i.0 in (k.0, filter_has (λ x. not (is_client_of t x)) k.0 s.providers k.1 (apart k.0 q k.1 k.2 i.1), k.2);
   },
   λ v rs h. in_turn v rs h,
 )
   where
-    owned : (xs : List Provider) (y : Provider) (p : ProviderId) → Has y xs → y.p ≡ p → is_client_of t y ≡ true → is_owned xs t p ≡ true
+    owned : (xs : List Provider) (y : Provider) (p : ProviderId) → Has y xs → y.provider ≡ p → is_client_of t y ≡ true → is_owned xs t p ≡ true
     owned [] y p h e c = absurd h
     owned (x ∷ xs) y p (inl q) e c =
-        ap (λ (z : Provider). (is_client_of t z && same_provider z.p p) || is_owned xs t p) (sym q) ∙ ap (λ b. (b && same_provider y.p p) || is_owned xs t p) c ∙ ap (λ b. b || is_owned xs t p) (ap (λ z. same_provider z p) e ∙ provider_self p)
-    owned (x ∷ xs) y p (inr h) e c = either (is_client_of t x && same_provider x.p p) (is_owned xs t p) (owned xs y p h e c)
+        ap (λ (z : Provider). (is_client_of t z && same_provider z.provider p) || is_owned xs t p) (sym q) ∙ ap (λ b. (b && same_provider y.provider p) || is_owned xs t p) c ∙ ap (λ b. b || is_owned xs t p) (ap (λ z. same_provider z p) e ∙ provider_self p)
+    owned (x ∷ xs) y p (inr h) e c = either (is_client_of t x && same_provider x.provider p) (is_owned xs t p) (owned xs y p h e c)
       where
         either : (a b : Bool) → b ≡ true → (a || b) ≡ true
         either true b e = refl
         either false b e = e
 
-    apart : (y : Provider) (q : Request) → Has y s.providers → y.p ≡ q.p → not (is_owned s.providers t q.p) ≡ true → not (is_client_of t y) ≡ true
+    apart : (y : Provider) (q : Request) → Has y s.providers → y.provider ≡ q.provider → not (is_owned s.providers t q.provider) ≡ true → not (is_client_of t y) ≡ true
     apart y q h e c = by (is_client_of t y) refl
       where
         by : (b : Bool) → is_client_of t y ≡ b → not b ≡ true
         by false d = refl
-        by true d = absurd (let k = owned s.providers y q.p h e d in let z : not true ≡ true = ap not (sym k) ∙ c in cc)
+        by true d = absurd (let k = owned s.providers y q.provider h e d in let z : not true ≡ true = ap not (sym k) ∙ c in cc)
 
-    owned_by : (xs : List Provider) (p : ProviderId) → is_owned xs t p ≡ true → (x : Provider) × Has x xs × (is_client_of t x ≡ true) × (x.p ≡ p)
+    owned_by : (xs : List Provider) (p : ProviderId) → is_owned xs t p ≡ true → (x : Provider) × Has x xs × (is_client_of t x ≡ true) × (x.provider ≡ p)
     owned_by [] p e = absurd (cc)
-    owned_by (x ∷ xs) p e = by (is_client_of t x) (same_provider x.p p) refl refl e (owned_by xs p)
+    owned_by (x ∷ xs) p e = by (is_client_of t x) (same_provider x.provider p) refl refl e (owned_by xs p)
       where
-        by : (a b : Bool) → is_client_of t x ≡ a → same_provider x.p p ≡ b → ((a && b) || is_owned xs t p) ≡ true → (is_owned xs t p ≡ true → (x : Provider) × Has x xs × (is_client_of t x ≡ true) × (x.p ≡ p)) → (y : Provider) × Has y (x ∷ xs) × (is_client_of t y ≡ true) × (y.p ≡ p)
-        by true true i j k rest = (x, inl refl, i, provider_same x.p p j)
+        by : (a b : Bool) → is_client_of t x ≡ a → same_provider x.provider p ≡ b → ((a && b) || is_owned xs t p) ≡ true → (is_owned xs t p ≡ true → (x : Provider) × Has x xs × (is_client_of t x ≡ true) × (x.provider ≡ p)) → (y : Provider) × Has y (x ∷ xs) × (is_client_of t y ≡ true) × (y.provider ≡ p)
+        by true true i j k rest = (x, inl refl, i, provider_same x.provider p j)
         by true false i j k rest = let z = rest k in (z.0, inr z.1, z.2, z.3)
         by false b i j k rest = let z = rest k in (z.0, inr z.1, z.2, z.3)
 
     in_turn : (v : ViewId) (rs : List Happened) → InTurn v rs s → InTurn v rs (end_session s t)
     in_turn v rs h =
-        fewer_turn rs rs (λ x i. i) v s (end_session s t) [] (record { last = refl; providers = λ y i. (y, (has_filter (λ x. not (is_client_of t x)) y s.providers i).0, refl, refl); requests = λ q i. (has_filter (λ (q : Request). not (is_owned s.providers t q.p)) q s.requests i).0; stays = λ y i q j e. stays y i q j e (is_owned s.providers t q.p) refl }) (λ q i j k. absurd k) h
+        fewer_turn rs rs (λ x i. i) v s (end_session s t) [] (record { last = refl; providers = λ y i. (y, (has_filter (λ x. not (is_client_of t x)) y s.providers i).0, refl, refl); requests = λ q i. (has_filter (λ (q : Request). not (is_owned s.providers t q.provider)) q s.requests i).0; stays = λ y i q j e. stays y i q j e (is_owned s.providers t q.provider) refl }) (λ q i j k. absurd k) h
       where
-        stays : (y : Provider) → Has y (filter (λ x. not (is_client_of t x)) s.providers) → (q : Request) → Has q s.requests → q.p ≡ y.p → (b : Bool) → is_owned s.providers t q.p ≡ b → Has q (filter (λ (q : Request). not (is_owned s.providers t q.p)) s.requests) ⊎ Has {A = ProviderId × ℕ} (q.p, q.r) []
-        stays y i q j e false k = inl (filter_has (λ (q : Request). not (is_owned s.providers t q.p)) q s.requests j (ap not k))
+        stays : (y : Provider) → Has y (filter (λ x. not (is_client_of t x)) s.providers) → (q : Request) → Has q s.requests → q.provider ≡ y.provider → (b : Bool) → is_owned s.providers t q.provider ≡ b → Has q (filter (λ (q : Request). not (is_owned s.providers t q.provider)) s.requests) ⊎ Has {A = ProviderId × ℕ} (q.provider, q.request) []
+        stays y i q j e false k = inl (filter_has (λ (q : Request). not (is_owned s.providers t q.provider)) q s.requests j (ap not k))
         stays y i q j e true k =
             absurd (let there = has_filter (λ x. not (is_client_of t x)) y s.providers i in
-            let o = owned_by s.providers q.p k in
+            let o = owned_by s.providers q.provider k in
             let same : o.0.client ≡ y.client = h.owner o.0 y o.1 there.0 (o.3 ∙ e) in
-            let mine : is_client_of t y ≡ true = ap (λ (c : ClientToken). c.n == t.n) (sym same) ∙ o.2 in
+            let mine : is_client_of t y ≡ true = ap (λ (c : ClientToken). c.number == t.number) (sym same) ∙ o.2 in
             let z : not true ≡ true = ap not (sym mine) ∙ there.1 in cc)
 
 last_of : (xs : List Request) (q : Request) (o : Option Request) → last_or o (xs ++ q ∷ []) ≡ Some q
@@ -257,21 +257,21 @@ module _ (g : List ℕ) (w : Scene) (n : ℕ) (s : Core) (t : Tied g w n s) wher
     abbrev x : Ghost
     x = t.ghost
 
-    mine : (q.p.node ≡ n) × (q.p.inc ≡ s.views.inc)
+    mine : (q.provider.node ≡ n) × (q.provider.inc ≡ s.views.inc)
     mine = by (a.providers a.there.0 a.there.1)
       where
-        by : Has a.there.0 s.sessions.providers ⊎ ((a.there.0.p ≡ q.p) × (q.p.node ≡ s.sessions.me) × (q.p.inc ≡ s.sessions.inc)) → (q.p.node ≡ n) × (q.p.inc ≡ s.views.inc)
+        by : Has a.there.0 s.sessions.providers ⊎ ((a.there.0.provider ≡ q.provider) × (q.provider.node ≡ s.sessions.me) × (q.provider.inc ≡ s.sessions.inc)) → (q.provider.node ≡ n) × (q.provider.inc ≡ s.views.inc)
         by (inl h) = let k = t.own.0.owes.providers a.there.0 h in
             (ap (λ (z : ProviderId). z.node) (sym a.there.2) ∙ k.0, ap (λ (z : ProviderId). z.inc) (sym a.there.2) ∙ k.1)
         by (inr k) = (k.1 ∙ t.own.0.owes.me, k.2 ∙ t.own.0.owes.inc_of)
 
     -- its number is new
-    unasked : (h : List ℕ) → Has (asking q.p q.r h) x.asked → ⊥
-    unasked h i = let k = t.own.0.owes.given (asking q.p q.r h) i mine.0 mine.1 in let l = a.number in omega arith
+    unasked : (h : List ℕ) → Has (asking q.provider q.request h) x.asked → ⊥
+    unasked h i = let k = t.own.0.owes.given (asking q.provider q.request h) i mine.0 mine.1 in let l = a.number in omega arith
 
-    module _ (all : List Line) (life : Lives (opening_of w.config) (record x { all = all })) (old : (l : Line) → Has l x.all → Has l all) (same : kept all ≡ kept x.all) (told_old : (p : ProviderId) (r : ℕ) (v : ViewId) → Has (Noted (Told p r v)) all → Has (Noted (Told p r v)) x.all) (asked_new : (p : ProviderId) (r : ℕ) (y : Proposal) → Has (Noted (Asked p r y)) all → Has (Noted (Asked p r y)) x.all ⊎ ((q.p ≡ p) × (q.r ≡ r) × (q.group ≡ g))) (line : q.group ≡ g → Has (Noted (Asked q.p q.r q.proposal)) all) (lines : all ≡ lines_now g w (recorded (with_sessions s u) (happened.Asked q.p q.r q.group q.proposal))) where
+    module _ (all : List Line) (life : Lives (opening_of w.config) (record x { all = all })) (old : (l : Line) → Has l x.all → Has l all) (same : kept all ≡ kept x.all) (told_old : (p : ProviderId) (r : ℕ) (v : ViewId) → Has (Noted (Told p r v)) all → Has (Noted (Told p r v)) x.all) (asked_new : (p : ProviderId) (r : ℕ) (y : Proposal) → Has (Noted (Asked p r y)) all → Has (Noted (Asked p r y)) x.all ⊎ ((q.provider ≡ p) × (q.request ≡ r) × (q.group ≡ g))) (line : q.group ≡ g → Has (Noted (Asked q.provider q.request q.proposal)) all) (lines : all ≡ lines_now g w (recorded (with_sessions s u) (happened.Asked q.provider q.request q.group q.proposal))) where
       abbrev y : Ghost
-      y = record x { all = all; asked = asking q.p q.r q.group ∷ x.asked }
+      y = record x { all = all; asked = asking q.provider q.request q.group ∷ x.asked }
 
       goes : Goes x y
       goes = record { packets = λ p h. h; records = λ r h. subst (Has r) (sym same) h; lines = old; leads = λ v l e. e; bases = λ v z. refl; asks = refl; shut = λ v h. h; asked = λ b h. inr h }
@@ -283,9 +283,9 @@ module _ (g : List ℕ) (w : Scene) (n : ℕ) (s : Core) (t : Tied g w n s) wher
       spares m ne =
           record { goes = goes; list = refl; leads = λ v z. refl; refusals = λ v p r h. inl h; stables = λ v k h. inl h; puts = puts_old m; told = λ p r v e h. told_old p r v h; shut = λ v e h. h; shut_led = λ v i e h. h; asked = λ b e h. asked_old b e h }
         where
-          asked_old : (b : Asking) → b.p.node ≡ m → Has b (asking q.p q.r q.group ∷ x.asked) → Has b x.asked
+          asked_old : (b : Asking) → b.provider.node ≡ m → Has b (asking q.provider q.request q.group ∷ x.asked) → Has b x.asked
           asked_old b e (inr h) = h
-          asked_old b e (inl z) = absurd (ne (sym e ∙ ap (λ (c : Asking). c.p.node) z ∙ mine.0))
+          asked_old b e (inl z) = absurd (ne (sym e ∙ ap (λ (c : Asking). c.provider.node) z ∙ mine.0))
 
       sound : Sound g y
       sound =
@@ -293,27 +293,27 @@ module _ (g : List ℕ) (w : Scene) (n : ℕ) (s : Core) (t : Tied g w n s) wher
             refused = λ v p r h. seen_on x y goes v (t.sound.refused v p r h);
             unled = t.sound.unled;
             shut = λ v h. let k = t.sound.shut v h in (seen_on x y goes v k.0, k.1);
-            asked = λ p r z h. ⊎_elim (λ (i : Has (Noted (Asked p r z)) x.all). inr (t.sound.asked p r z i)) (λ (i : (q.p ≡ p) × (q.r ≡ r) × (q.group ≡ g)). inl (λ j. asking (sym i.0 j) (sym i.1 j) (sym i.2 j))) (asked_new p r z h);
+            asked = λ p r z h. ⊎_elim (λ (i : Has (Noted (Asked p r z)) x.all). inr (t.sound.asked p r z i)) (λ (i : (q.provider ≡ p) × (q.request ≡ r) × (q.group ≡ g)). inl (λ j. asking (sym i.0 j) (sym i.1 j) (sym i.2 j))) (asked_new p r z h);
             one = λ p r h k i j. one p r h k i j;
             started = λ b h. started b h;
             told = λ p r v h. numbered_on x y goes p r (t.sound.told p r v (told_old p r v h));
           }
         where
-          new_old : (p : ProviderId) (r : ℕ) (h k : List ℕ) → asking p r h ≡ asking q.p q.r q.group → Has (asking p r k) x.asked → ⊥
-          new_old p r h k e i = unasked k (subst (λ (z : Asking). Has (asking z.p z.r k) x.asked) e i)
+          new_old : (p : ProviderId) (r : ℕ) (h k : List ℕ) → asking p r h ≡ asking q.provider q.request q.group → Has (asking p r k) x.asked → ⊥
+          new_old p r h k e i = unasked k (subst (λ (z : Asking). Has (asking z.provider z.request k) x.asked) e i)
 
-          one : (p : ProviderId) (r : ℕ) (h k : List ℕ) → Has (asking p r h) (asking q.p q.r q.group ∷ x.asked) → Has (asking p r k) (asking q.p q.r q.group ∷ x.asked) → h ≡ k
+          one : (p : ProviderId) (r : ℕ) (h k : List ℕ) → Has (asking p r h) (asking q.provider q.request q.group ∷ x.asked) → Has (asking p r k) (asking q.provider q.request q.group ∷ x.asked) → h ≡ k
           one p r h k (inr i) (inr j) = t.sound.one p r h k i j
           one p r h k (inl i) (inl j) = ap (λ (z : Asking). z.group) (i ∙ sym j)
           one p r h k (inl i) (inr j) = absurd (new_old p r h k i j)
           one p r h k (inr i) (inl j) = absurd (new_old p r k h j i)
 
-          started : (b : Asking) → Has b (asking q.p q.r q.group ∷ x.asked) → b.p.inc ≤ (x.nodes b.p.node).inc
+          started : (b : Asking) → Has b (asking q.provider q.request q.group ∷ x.asked) → b.provider.inc ≤ (x.nodes b.provider.node).inc
           started b (inr h) = t.sound.started b h
           started b (inl e) =
-              let i : (x.nodes q.p.node).inc ≡ q.p.inc = ap (λ m. (x.nodes m).inc) mine.0 ∙ t.own.0.stands.inc ∙ sym mine.1 in
-              let l : q.p.inc ≤ (x.nodes q.p.node).inc = omega arith in
-              subst (λ (z : Asking). z.p.inc ≤ (x.nodes z.p.node).inc) (sym e) l
+              let i : (x.nodes q.provider.node).inc ≡ q.provider.inc = ap (λ m. (x.nodes m).inc) mine.0 ∙ t.own.0.stands.inc ∙ sym mine.1 in
+              let l : q.provider.inc ≤ (x.nodes q.provider.node).inc = omega arith in
+              subst (λ (z : Asking). z.provider.inc ≤ (x.nodes z.provider.node).inc) (sym e) l
 
       -- what is new was neither put nor told
       owed_new : q.group ≡ g → Owed y n s.views.inc q
@@ -323,24 +323,24 @@ module _ (g : List ℕ) (w : Scene) (n : ℕ) (s : Core) (t : Tied g w n s) wher
             inc_of = mine.1;
             asked = line e;
             unput = λ v k d h c. unput v k d (puts_old n v k d h) c;
-            untold = λ v h. untold (t.sound.told q.p q.r v (told_old q.p q.r v h));
+            untold = λ v h. untold (t.sound.told q.provider q.request v (told_old q.provider q.request v h));
           }
         where
           o : Whole (opening_of w.config) x.nodes x.ps x.all x.leads x.bases
           o = whole t.life
 
-          unput : (v : ViewId) (k : ℕ) (d : Entry) → Has (Put n v k d) (kept x.all) → Has (q.p, q.r) (carried d) → ⊥
+          unput : (v : ViewId) (k : ℕ) (d : Entry) → Has (Put n v k d) (kept x.all) → Has (q.provider, q.request) (carried d) → ⊥
           unput v k d h c =
-              let i = o.once.asked v k q.p q.r d (o.good.inv.records (Put n v k d) h) c in
-              let j = o.once.sent v q.p q.r i.0 i.1 in unasked g (t.sound.asked q.p q.r i.0 j.1)
+              let i = o.once.asked v k q.provider q.request d (o.good.inv.records (Put n v k d) h) c in
+              let j = o.once.sent v q.provider q.request i.0 i.1 in unasked g (t.sound.asked q.provider q.request i.0 j.1)
 
-          untold : Numbered x q.p q.r → ⊥
+          untold : Numbered x q.provider q.request → ⊥
           untold (inl z) = let l = a.number in omega arith
           untold (inr z) = unasked z.0 z.1
 
       owed_old : (z : Request) → Owed x n s.views.inc z → Owed y n s.views.inc z
       owed_old z h =
-          record { node = h.node; inc_of = h.inc_of; asked = old (Noted (Asked z.p z.r z.proposal)) h.asked; unput = λ v k d i. h.unput v k d (puts_old n v k d i); untold = λ v i. h.untold v (told_old z.p z.r v i) }
+          record { node = h.node; inc_of = h.inc_of; asked = old (Noted (Asked z.provider z.request z.proposal)) h.asked; unput = λ v k d i. h.unput v k d (puts_old n v k d i); untold = λ v i. h.untold v (told_old z.provider z.request v i) }
 
       owes : Owes y g n s.views.inc u
       owes =
@@ -348,7 +348,7 @@ module _ (g : List ℕ) (w : Scene) (n : ℕ) (s : Core) (t : Tied g w n s) wher
           record {
             me = a.me ∙ k.me;
             inc_of = a.inc ∙ k.inc_of;
-            providers = λ z h. ⊎_elim (λ (i : Has z s.sessions.providers). k.providers z i) (λ (i : (z.p ≡ q.p) × (q.p.node ≡ s.sessions.me) × (q.p.inc ≡ s.sessions.inc)). (ap (λ (b : ProviderId). b.node) i.0 ∙ mine.0, ap (λ (b : ProviderId). b.inc) i.0 ∙ mine.1)) (a.providers z h);
+            providers = λ z h. ⊎_elim (λ (i : Has z s.sessions.providers). k.providers z i) (λ (i : (z.provider ≡ q.provider) × (q.provider.node ≡ s.sessions.me) × (q.provider.inc ≡ s.sessions.inc)). (ap (λ (b : ProviderId). b.node) i.0 ∙ mine.0, ap (λ (b : ProviderId). b.inc) i.0 ∙ mine.1)) (a.providers z h);
             own = λ z h. own z (asked_or z h);
             requests = λ z h c. requests z c (asked_or z h);
             attended = λ z h. attended z (asked_or z h);
@@ -363,28 +363,28 @@ module _ (g : List ℕ) (w : Scene) (n : ℕ) (s : Core) (t : Tied g w n s) wher
               by (inr (inl e)) = inr e
               by (inr (inr e)) = absurd e
 
-          own : (z : Request) → Has z s.sessions.requests ⊎ (z ≡ q) → (z.p.node ≡ n) × (z.p.inc ≡ s.views.inc) × Has (asking z.p z.r z.group) (asking q.p q.r q.group ∷ x.asked) × Has (z.p, z.r) (requests_of z.proposal)
+          own : (z : Request) → Has z s.sessions.requests ⊎ (z ≡ q) → (z.provider.node ≡ n) × (z.provider.inc ≡ s.views.inc) × Has (asking z.provider z.request z.group) (asking q.provider q.request q.group ∷ x.asked) × Has (z.provider, z.request) (requests_of z.proposal)
           own z (inl i) = let k = t.own.0.owes.own z i in (k.0, k.1, inr k.2, k.3)
-          own z (inr e) = subst (λ (b : Request). (b.p.node ≡ n) × (b.p.inc ≡ s.views.inc) × Has (asking b.p b.r b.group) (asking q.p q.r q.group ∷ x.asked) × Has (b.p, b.r) (requests_of b.proposal)) (sym e) (mine.0, mine.1, inl refl, a.made)
+          own z (inr e) = subst (λ (b : Request). (b.provider.node ≡ n) × (b.provider.inc ≡ s.views.inc) × Has (asking b.provider b.request b.group) (asking q.provider q.request q.group ∷ x.asked) × Has (b.provider, b.request) (requests_of b.proposal)) (sym e) (mine.0, mine.1, inl refl, a.made)
 
           requests : (z : Request) → z.group ≡ g → Has z s.sessions.requests ⊎ (z ≡ q) → Owed y n s.views.inc z
           requests z c (inl i) = owed_old z (t.own.0.owes.requests z i c)
           requests z c (inr e) = subst (Owed y n s.views.inc) (sym e) (owed_new (ap (λ (b : Request). b.group) (sym e) ∙ c))
 
-          attended : (z : Request) → Has z s.sessions.requests ⊎ (z ≡ q) → (b : Provider) × Has b u.providers × (b.p ≡ z.p)
+          attended : (z : Request) → Has z s.sessions.requests ⊎ (z ≡ q) → (b : Provider) × Has b u.providers × (b.provider ≡ z.provider)
           attended z (inl i) = let k = t.own.0.owes.attended z i in (k.0, a.kept k.0 k.1, k.2)
-          attended z (inr e) = (a.there.0, a.there.1, a.there.2 ∙ ap (λ (b : Request). b.p) (sym e))
+          attended z (inr e) = (a.there.0, a.there.1, a.there.2 ∙ ap (λ (b : Request). b.provider) (sym e))
 
-          given : (b : Asking) → Has b (asking q.p q.r q.group ∷ x.asked) → b.p.node ≡ n → b.p.inc ≡ s.views.inc → b.r ≤ u.last_request
+          given : (b : Asking) → Has b (asking q.provider q.request q.group ∷ x.asked) → b.provider.node ≡ n → b.provider.inc ≡ s.views.inc → b.request ≤ u.last_request
           given b (inr h) e f = let k = t.own.0.owes.given b h e f in let l = a.last in omega arith
-          given b (inl z) e f = let k : b.r ≡ q.r = ap (λ (c : Asking). c.r) z in let l = a.last in let m = a.number in omega arith
+          given b (inl z) e f = let k : b.request ≡ q.request = ap (λ (c : Asking). c.request) z in let l = a.last in let m = a.number in omega arith
 
       own_asks : NodeOf y g n (is_fixed s.config.mode) s.views (row_of s g) s.groups u s.names
       own_asks =
           let k = t.own.0 in
           node_by x y goes n refl g (is_fixed s.config.mode) s.views (row_of s g) s.groups s.sessions u s.names s.names k.row_is.covers owes (decides_by x y goes n refl (λ v l e. e) (λ v p r h. h) s.views.inc s.views.view (row_of s g).led k.decides) (record { named = k.names.named; unnamed = k.names.unnamed; full = k.names.full }) (record { few = k.idles.few; shut = k.idles.shut }) k
 
-      asks_with : Tied g w n (recorded (with_sessions s u) (happened.Asked q.p q.r q.group q.proposal))
+      asks_with : Tied g w n (recorded (with_sessions s u) (happened.Asked q.provider q.request q.group q.proposal))
       unfolding recorded with_sessions row_of
       asks_with =
           record {
@@ -395,34 +395,34 @@ module _ (g : List ℕ) (w : Scene) (n : ℕ) (s : Core) (t : Tied g w n s) wher
             others = λ m ne. node_if_on x y m (spares m ne) refl w.config g (w.incs m) (w.cores m) (t.others m ne);
             packets = λ p i. shows_on x y goes g p (t.packets p i);
             sound = sound;
-            placed = placed_pushed w n s (happened.Asked q.p q.r q.group q.proposal) (λ m o. refl) t.placed;
+            placed = placed_pushed w n s (happened.Asked q.provider q.request q.group q.proposal) (λ m o. refl) t.placed;
             nobody = t.nobody;
-            turns = turns_pushed w n s.views.view s.records u t.ghost.ps (turns_sessions w n s.views.view s.records s.sessions t.ghost.ps t.turns u (a.turn t.own.0.owes.attended s.views.view (s.records ++ records_of w.before) t.turns.own)) (happened.Asked q.p q.r q.group q.proposal);
+            turns = turns_pushed w n s.views.view s.records u t.ghost.ps (turns_sessions w n s.views.view s.records s.sessions t.ghost.ps t.turns u (a.turn t.own.0.owes.attended s.views.view (s.records ++ records_of w.before) t.turns.own)) (happened.Asked q.provider q.request q.group q.proposal);
           }
 
     -- of this group, or of another
-    pub asks_tied : Tied g w n (recorded (with_sessions s u) (happened.Asked q.p q.r q.group q.proposal))
+    pub asks_tied : Tied g w n (recorded (with_sessions s u) (happened.Asked q.provider q.request q.group q.proposal))
     unfolding recorded with_sessions
     asks_tied = by (cases_text q.group g)
       where
-        pushed : lines_now g w (recorded (with_sessions s u) (happened.Asked q.p q.r q.group q.proposal)) ≡ (if bytes_eq q.group g then Noted (Asked q.p q.r q.proposal) ∷ [] else []) ++ lines_now g w s
-        pushed = lines_pushed g s.records (happened.Asked q.p q.r q.group q.proposal) w.before (lines_of g w.before)
+        pushed : lines_now g w (recorded (with_sessions s u) (happened.Asked q.provider q.request q.group q.proposal)) ≡ (if bytes_eq q.group g then Noted (Asked q.provider q.request q.proposal) ∷ [] else []) ++ lines_now g w s
+        pushed = lines_pushed g s.records (happened.Asked q.provider q.request q.group q.proposal) w.before (lines_of g w.before)
 
-        told : (p : ProviderId) (r : ℕ) (v : ViewId) → Has (Noted (Told p r v)) (Noted (Asked q.p q.r q.proposal) ∷ x.all) → Has (Noted (Told p r v)) x.all
+        told : (p : ProviderId) (r : ℕ) (v : ViewId) → Has (Noted (Told p r v)) (Noted (Asked q.provider q.request q.proposal) ∷ x.all) → Has (Noted (Told p r v)) x.all
         told p r v (inl e) = absurd (cc)
         told p r v (inr h) = h
 
-        new : q.group ≡ g → (p : ProviderId) (r : ℕ) (y : Proposal) → Has (Noted (Asked p r y)) (Noted (Asked q.p q.r q.proposal) ∷ x.all) → Has (Noted (Asked p r y)) x.all ⊎ ((q.p ≡ p) × (q.r ≡ r) × (q.group ≡ g))
+        new : q.group ≡ g → (p : ProviderId) (r : ℕ) (y : Proposal) → Has (Noted (Asked p r y)) (Noted (Asked q.provider q.request q.proposal) ∷ x.all) → Has (Noted (Asked p r y)) x.all ⊎ ((q.provider ≡ p) × (q.request ≡ r) × (q.group ≡ g))
         new e p r y (inr h) = inl h
         new e p r y (inl z) =
-            let b : q.p ≡ p = cc in
-            let c : q.r ≡ r = cc in inr (b, c, e)
+            let b : q.provider ≡ p = cc in
+            let c : q.request ≡ r = cc in inr (b, c, e)
 
-        by : (q.group ≡ g) ⊎ (q.group ≡ g → ⊥) → Tied g w n (recorded (with_sessions s u) (happened.Asked q.p q.r q.group q.proposal))
+        by : (q.group ≡ g) ⊎ (q.group ≡ g → ⊥) → Tied g w n (recorded (with_sessions s u) (happened.Asked q.provider q.request q.group q.proposal))
         by (inl e) =
-            asks_with (Noted (Asked q.p q.r q.proposal) ∷ x.all) (Asks x.nodes x.ps x.all x.leads x.bases q.p q.r q.proposal t.life) (λ l h. inr h) refl told (new e) (λ z. inl refl) (ap (λ l. Noted (Asked q.p q.r q.proposal) ∷ l) t.lines ∙ ap (λ b. (if b then Noted (Asked q.p q.r q.proposal) ∷ [] else []) ++ lines_now g w s) (sym (text_self g) ∙ ap (λ z. bytes_eq z g) (sym e)) ∙ sym pushed)
+            asks_with (Noted (Asked q.provider q.request q.proposal) ∷ x.all) (Asks x.nodes x.ps x.all x.leads x.bases q.provider q.request q.proposal t.life) (λ l h. inr h) refl told (new e) (λ z. inl refl) (ap (λ l. Noted (Asked q.provider q.request q.proposal) ∷ l) t.lines ∙ ap (λ b. (if b then Noted (Asked q.provider q.request q.proposal) ∷ [] else []) ++ lines_now g w s) (sym (text_self g) ∙ ap (λ z. bytes_eq z g) (sym e)) ∙ sym pushed)
         by (inr ne) =
-            asks_with x.all t.life (λ l h. h) refl (λ p r v h. h) (λ p r y h. inl h) (λ z. absurd (ne z)) (t.lines ∙ ap (λ b. (if b then Noted (Asked q.p q.r q.proposal) ∷ [] else []) ++ lines_now g w s) (sym (text_other q.group g ne)) ∙ sym pushed)
+            asks_with x.all t.life (λ l h. h) refl (λ p r v h. h) (λ p r y h. inl h) (λ z. absurd (ne z)) (t.lines ∙ ap (λ b. (if b then Noted (Asked q.provider q.request q.proposal) ∷ [] else []) ++ lines_now g w s) (sym (text_other q.group g ne)) ∙ sym pushed)
 
   -- ---- the calls
 
@@ -439,14 +439,14 @@ module _ (g : List ℕ) (w : Scene) (n : ℕ) (s : Core) (t : Tied g w n s) wher
       let last : last_or None u.requests ≡ Some k.0 = ap (last_or None) k.1.more ∙ last_of s.sessions.requests k.0 None in
       subst (λ o. Tied g w n (ask_last (with_sessions s u) o)) (sym last) (asked_sent k.0 k.1)
     where
-      asked_sent : (q : Request) → Proposes s.sessions u q → Tied g w n (send_request (recorded (with_sessions s u) (happened.Asked q.p q.r q.group q.proposal)) q)
+      asked_sent : (q : Request) → Proposes s.sessions u q → Tied g w n (send_request (recorded (with_sessions s u) (happened.Asked q.provider q.request q.group q.proposal)) q)
       asked_sent q a =
-          request_tied g w n (recorded (with_sessions s u) (happened.Asked q.p q.r q.group q.proposal)) q (in_requests q a) (asks_tied u q a)
+          request_tied g w n (recorded (with_sessions s u) (happened.Asked q.provider q.request q.group q.proposal)) q (in_requests q a) (asks_tied u q a)
         where
-          sessions_of : (q : Request) → Has q u.requests → Has q (recorded (with_sessions s u) (happened.Asked q.p q.r q.group q.proposal)).sessions.requests
+          sessions_of : (q : Request) → Has q u.requests → Has q (recorded (with_sessions s u) (happened.Asked q.provider q.request q.group q.proposal)).sessions.requests
           sessions_of q h = h
 
-          in_requests : (q : Request) → Proposes s.sessions u q → Has q (recorded (with_sessions s u) (happened.Asked q.p q.r q.group q.proposal)).sessions.requests
+          in_requests : (q : Request) → Proposes s.sessions u q → Has q (recorded (with_sessions s u) (happened.Asked q.provider q.request q.group q.proposal)).sessions.requests
           in_requests q a = sessions_of q (subst (Has q) (sym a.more) (append_has_right q s.sessions.requests (q ∷ []) (inl refl)))
 
 module _ (g : List ℕ) (w : Scene) (n : ℕ) where
@@ -457,7 +457,7 @@ module _ (g : List ℕ) (w : Scene) (n : ℕ) where
     where
       recorded_so : (o : Option Filled) → Tied g w n (record_ballot c k o)
       recorded_so None = t
-      recorded_so (Some b) = tied_unseen g w n c t (happened.Cast k.p k.proto k.phase b.vote b.value b.message) ((λ rs. refl), λ m o. refl)
+      recorded_so (Some b) = tied_unseen g w n c t (happened.Cast k.provider k.proto k.phase b.vote b.value b.message) ((λ rs. refl), λ m o. refl)
 
       by : (b : Bool) (d : Core) → Tied g w n d → Tied g w n (ballot_sent_if d k b)
       by true d u = u
@@ -476,7 +476,7 @@ module _ (g : List ℕ) (w : Scene) (n : ℕ) where
   gone_fold : (xs : List Provider) (c : Core) → Tied g w n c → Tied g w n (fold send_gone c xs)
   unfolding send_gone
   gone_fold [] c t = t
-  gone_fold (x ∷ xs) c t = gone_fold xs (send_gone c x) (known_tied g w n c (leader_of c x.group) (body.Gone c.views.view x.group x.p) (λ y to. tt) t)
+  gone_fold (x ∷ xs) c t = gone_fold xs (send_gone c x) (known_tied g w n c (leader_of c x.group) (body.Gone c.views.view x.group x.provider) (λ y to. tt) t)
 
   all_gone_tied : (c : Core) (xs : List Provider) → Tied g w n c → Tied g w n (send_all_gone c xs)
   unfolding send_all_gone

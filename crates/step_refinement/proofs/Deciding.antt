@@ -51,27 +51,27 @@ use Rattle.step_refinement.proofs.SessionLaws.{provider_self, provider_same}
 
 module _ (x : Ghost) (n inc : ℕ) (v : ViewId) (l : Led) (p : ProviderId) (r : ℕ) (newer : NoOlder l p r) (ripe : Ripe l p r) (h : LeaderKeeps x n inc v l) where
   -- the decision that is kept now, or one that was kept
-  kept_or : (why : Option Why) (q : ProviderId) (d : Decision) → decision_of (with_decision p r why l) q ≡ Some d → ((q ≡ p) × (d.r ≡ r) × (d.why ≡ why)) ⊎ (decision_of l q ≡ Some d)
+  kept_or : (why : Option Why) (q : ProviderId) (d : Decision) → decision_of (with_decision p r why l) q ≡ Some d → ((q ≡ p) × (d.request ≡ r) × (d.why ≡ why)) ⊎ (decision_of l q ≡ Some d)
   unfolding decision_of
   kept_or why q d e = by (same_provider p q) refl
     where
-      parts : record { p = p; r = r; why = why } ≡ d → (d.r ≡ r) × (d.why ≡ why)
-      parts s = (ap (λ (z : Decision). z.r) (sym s), ap (λ (z : Decision). z.why) (sym s))
+      parts : record { provider = p; request = r; why = why } ≡ d → (d.request ≡ r) × (d.why ≡ why)
+      parts s = (ap (λ (z : Decision). z.request) (sym s), ap (λ (z : Decision). z.why) (sym s))
 
-      by : (b : Bool) → same_provider p q ≡ b → ((q ≡ p) × (d.r ≡ r) × (d.why ≡ why)) ⊎ (find (λ (z : Decision). same_provider z.p q) l.decided ≡ Some d)
+      by : (b : Bool) → same_provider p q ≡ b → ((q ≡ p) × (d.request ≡ r) × (d.why ≡ why)) ⊎ (find (λ (z : Decision). same_provider z.provider q) l.decided ≡ Some d)
       by true s =
           let same : p ≡ q = provider_same p q s in
-          let k : find (λ (z : Decision). same_provider z.p q) (decisions_with (record { p = p; r = r; why = why }) l.decided) ≡ Some (record { p = p; r = r; why = why }) = ap (λ y. find (λ (z : Decision). same_provider z.p y) (decisions_with (record { p = p; r = r; why = why }) l.decided)) (sym same) ∙ with_here (record { p = p; r = r; why = why }) l.decided in
-          let f : Some (record { p = p; r = r; why = why }) ≡ Some d = sym k ∙ e in
-          let c : record { p = p; r = r; why = why } ≡ d = cc in
+          let k : find (λ (z : Decision). same_provider z.provider q) (decisions_with (record { provider = p; request = r; why = why }) l.decided) ≡ Some (record { provider = p; request = r; why = why }) = ap (λ y. find (λ (z : Decision). same_provider z.provider y) (decisions_with (record { provider = p; request = r; why = why }) l.decided)) (sym same) ∙ with_here (record { provider = p; request = r; why = why }) l.decided in
+          let f : Some (record { provider = p; request = r; why = why }) ≡ Some d = sym k ∙ e in
+          let c : record { provider = p; request = r; why = why } ≡ d = cc in
           let z = parts c in inl (sym same, z.0, z.1)
-      by false s = inr (sym (with_there (record { p = p; r = r; why = why }) l.decided q s) ∙ e)
+      by false s = inr (sym (with_there (record { provider = p; request = r; why = why }) l.decided q s) ∙ e)
 
   -- no join that waits was decided on later
-  lasts_on : (why : Option Why) (q : ProviderId) (d : Decision) → among l.waiting.joins q ≡ true → decision_of (with_decision p r why l) q ≡ Some d → d.r ≤ q.join
+  lasts_on : (why : Option Why) (q : ProviderId) (d : Decision) → among l.waiting.joins q ≡ true → decision_of (with_decision p r why l) q ≡ Some d → d.request ≤ q.join
   lasts_on why q d i e = by (kept_or why q d e)
     where
-      by : ((q ≡ p) × (d.r ≡ r) × (d.why ≡ why)) ⊎ (decision_of l q ≡ Some d) → d.r ≤ q.join
+      by : ((q ≡ p) × (d.request ≡ r) × (d.why ≡ why)) ⊎ (decision_of l q ≡ Some d) → d.request ≤ q.join
       by (inr k) = h.lasts q d i k
       by (inl k) =
           let le : r ≤ p.join = ripe (subst (λ z. among l.waiting.joins z ≡ true) k.0 i) in
@@ -93,7 +93,7 @@ module _ (x : Ghost) (n inc : ℕ) (v : ViewId) (l : Led) (p : ProviderId) (r : 
         lasts = lasts_on None;
       }
     where
-      again : (q : ProviderId) (d : Decision) (why : Why) → ((q ≡ p) × (d.r ≡ r) × (d.why ≡ None)) ⊎ (decision_of l q ≡ Some d) → d.why ≡ Some why → Has (group.Refusal v q d.r) x.ps
+      again : (q : ProviderId) (d : Decision) (why : Why) → ((q ≡ p) × (d.request ≡ r) × (d.why ≡ None)) ⊎ (decision_of l q ≡ Some d) → d.why ≡ Some why → Has (group.Refusal v q d.request) x.ps
       again q d why (inl k) c = absurd (let f : None ≡ Some why = sym k.2 ∙ c in cc)
       again q d why (inr k) c = h.again q d why k c
 
@@ -133,7 +133,7 @@ module _ (x : Ghost) (n inc : ℕ) (v : ViewId) (l : Led) (p : ProviderId) (r : 
           let b : Lt v v = subst (Lt v) a lt in
           let c = lt_refl v in cc
 
-      again : (q : ProviderId) (d : Decision) (y : Why) → ((q ≡ p) × (d.r ≡ r) × (d.why ≡ Some why)) ⊎ (decision_of l q ≡ Some d) → d.why ≡ Some y → Has (group.Refusal v q d.r) (group.Refusal v p r ∷ x.ps)
+      again : (q : ProviderId) (d : Decision) (y : Why) → ((q ≡ p) × (d.request ≡ r) × (d.why ≡ Some why)) ⊎ (decision_of l q ≡ Some d) → d.why ≡ Some y → Has (group.Refusal v q d.request) (group.Refusal v p r ∷ x.ps)
       again q d y (inl k) c = inl (λ i. group.Refusal v (k.0 i) (k.1 i))
       again q d y (inr k) c = inr (h.again q d y k c)
 
@@ -146,20 +146,20 @@ waiting_leader x n inc v l m p a same more led sent joins decided last fresh apa
       begun = λ q k i e b c d. moved q k (h.begun q k i e b c d);
       waiting = λ q e i. waits q (among_push l.waiting.joins p q (subst (λ js. among js q ≡ true) more i));
       later = h.later;
-      again = λ q d why e c. h.again q d why (ap (λ ds. find (λ (z : Decision). same_provider z.p q) ds) (sym same) ∙ e) c;
+      again = λ q d why e c. h.again q d why (ap (λ ds. find (λ (z : Decision). same_provider z.provider q) ds) (sym same) ∙ e) c;
       leads_it = λ q i. led;
       apart = ap differ more ∙ differ_push l.waiting.joins p h.apart apart;
-      lasts = λ q d i e. lasts q d (among_push l.waiting.joins p q (subst (λ js. among js q ≡ true) more i)) (ap (λ ds. find (λ (z : Decision). same_provider z.p q) ds) (sym same) ∙ e);
+      lasts = λ q d i e. lasts q d (among_push l.waiting.joins p q (subst (λ js. among js q ≡ true) more i)) (ap (λ ds. find (λ (z : Decision). same_provider z.provider q) ds) (sym same) ∙ e);
     }
   where
-    lasts : (q : ProviderId) (d : Decision) → (among l.waiting.joins q ≡ true) ⊎ (q ≡ p) → find (λ (z : Decision). same_provider z.p q) l.decided ≡ Some d → d.r ≤ q.join
+    lasts : (q : ProviderId) (d : Decision) → (among l.waiting.joins q ≡ true) ⊎ (q ≡ p) → find (λ (z : Decision). same_provider z.provider q) l.decided ≡ Some d → d.request ≤ q.join
     lasts q d (inl i) e = h.lasts q d i e
     lasts q d (inr s) e =
-        let le : d.r ≤ p.join = last d (ap (λ y. find (λ (z : Decision). same_provider z.p y) l.decided) (sym s) ∙ e) in
+        let le : d.request ≤ p.join = last d (ap (λ y. find (λ (z : Decision). same_provider z.provider y) l.decided) (sym s) ∙ e) in
         let k : q.join ≡ p.join = ap (λ (z : ProviderId). z.join) s in omega arith
 
     moved : (q : ProviderId) (k : ℕ) → Decided l q k → Decided m q k
-    moved q k z = record { last = z.last; kept_it = ap (λ ds. find (λ (d : Decision). same_provider d.p q) ds) same ∙ z.kept_it; later = z.later }
+    moved q k z = record { last = z.last; kept_it = ap (λ ds. find (λ (d : Decision). same_provider d.provider q) ds) same ∙ z.kept_it; later = z.later }
 
     new : Waits x v (x.nodes n).list m p
     new = record { proposal = a; sent = sent; joins = joins; open_still = fresh.unrefused; unbegun = fresh.unbegun; decided = moved p p.join decided }

@@ -92,32 +92,32 @@ apart_instances (x ∷ xs) ys p e = apart_instances xs ys p (rest (same_instance
 
 -- ---- decisions
 
-pub with_here : (d : Decision) (xs : List Decision) → find (λ (z : Decision). same_provider z.p d.p) (decisions_with d xs) ≡ Some d
+pub with_here : (d : Decision) (xs : List Decision) → find (λ (z : Decision). same_provider z.provider d.provider) (decisions_with d xs) ≡ Some d
 unfolding decisions_with
-with_here d [] = ap (λ b. if b then Some d else None) (provider_self d.p)
-with_here d (x ∷ xs) = by (same_provider x.p d.p) refl (with_here d xs)
+with_here d [] = ap (λ b. if b then Some d else None) (provider_self d.provider)
+with_here d (x ∷ xs) = by (same_provider x.provider d.provider) refl (with_here d xs)
   where
-    by : (b : Bool) → same_provider x.p d.p ≡ b → find (λ (z : Decision). same_provider z.p d.p) (decisions_with d xs) ≡ Some d → find (λ (z : Decision). same_provider z.p d.p) (elim b as (λ _. List Decision) [ true ↦ d ∷ xs | false ↦ x ∷ decisions_with d xs ]) ≡ Some d
-    by true q k = ap (λ b. if b then Some d else find (λ (z : Decision). same_provider z.p d.p) xs) (provider_self d.p)
-    by false q k = ap (λ b. if b then Some x else find (λ (z : Decision). same_provider z.p d.p) (decisions_with d xs)) q ∙ k
+    by : (b : Bool) → same_provider x.provider d.provider ≡ b → find (λ (z : Decision). same_provider z.provider d.provider) (decisions_with d xs) ≡ Some d → find (λ (z : Decision). same_provider z.provider d.provider) (elim b as (λ _. List Decision) [ true ↦ d ∷ xs | false ↦ x ∷ decisions_with d xs ]) ≡ Some d
+    by true q k = ap (λ b. if b then Some d else find (λ (z : Decision). same_provider z.provider d.provider) xs) (provider_self d.provider)
+    by false q k = ap (λ b. if b then Some x else find (λ (z : Decision). same_provider z.provider d.provider) (decisions_with d xs)) q ∙ k
 
-pub with_there : (d : Decision) (xs : List Decision) (q : ProviderId) → same_provider d.p q ≡ false → find (λ (z : Decision). same_provider z.p q) (decisions_with d xs) ≡ find (λ (z : Decision). same_provider z.p q) xs
+pub with_there : (d : Decision) (xs : List Decision) (q : ProviderId) → same_provider d.provider q ≡ false → find (λ (z : Decision). same_provider z.provider q) (decisions_with d xs) ≡ find (λ (z : Decision). same_provider z.provider q) xs
 unfolding decisions_with
 with_there d [] q ne = ap (λ b. if b then Some d else None) ne
-with_there d (x ∷ xs) q ne = by (same_provider x.p d.p) refl (with_there d xs q ne)
+with_there d (x ∷ xs) q ne = by (same_provider x.provider d.provider) refl (with_there d xs q ne)
   where
-    by : (b : Bool) → same_provider x.p d.p ≡ b → find (λ (z : Decision). same_provider z.p q) (decisions_with d xs) ≡ find (λ (z : Decision). same_provider z.p q) xs → find (λ (z : Decision). same_provider z.p q) (elim b as (λ _. List Decision) [ true ↦ d ∷ xs | false ↦ x ∷ decisions_with d xs ]) ≡ find (λ (z : Decision). same_provider z.p q) (x ∷ xs)
+    by : (b : Bool) → same_provider x.provider d.provider ≡ b → find (λ (z : Decision). same_provider z.provider q) (decisions_with d xs) ≡ find (λ (z : Decision). same_provider z.provider q) xs → find (λ (z : Decision). same_provider z.provider q) (elim b as (λ _. List Decision) [ true ↦ d ∷ xs | false ↦ x ∷ decisions_with d xs ]) ≡ find (λ (z : Decision). same_provider z.provider q) (x ∷ xs)
     by true s k =
-        ap (λ b. if b then Some d else find (λ (z : Decision). same_provider z.p q) xs) ne ∙ ap (λ b. if b then Some x else find (λ (z : Decision). same_provider z.p q) xs) (sym (ap (λ z. same_provider z q) (provider_same x.p d.p s) ∙ ne))
-    by false s k = ap (λ z. if same_provider x.p q then Some x else z) k
+        ap (λ b. if b then Some d else find (λ (z : Decision). same_provider z.provider q) xs) ne ∙ ap (λ b. if b then Some x else find (λ (z : Decision). same_provider z.provider q) xs) (sym (ap (λ z. same_provider z q) (provider_same x.provider d.provider s) ∙ ne))
+    by false s k = ap (λ z. if same_provider x.provider q then Some x else z) k
 
 -- its number is greater than that of the last decision on its requester
 abbrev pub Newer : Led → ProviderId → ℕ → Type 0
-Newer l p r = (d : Decision) → decision_of l p ≡ Some d → d.r < r
+Newer l p r = (d : Decision) → decision_of l p ≡ Some d → d.request < r
 
 -- or as great
 abbrev pub NoOlder : Led → ProviderId → ℕ → Type 0
-NoOlder l p r = (d : Decision) → decision_of l p ≡ Some d → d.r ≤ r
+NoOlder l p r = (d : Decision) → decision_of l p ≡ Some d → d.request ≤ r
 
 -- nor does an earlier join of the requester wait
 abbrev pub Ripe : Led → ProviderId → ℕ → Type 0
@@ -153,20 +153,20 @@ fresh_of x n inc v l p r led unshut k newer =
         let b = newer d.last d.kept_it in omega arith
 
 abbrev pub with_decision : ProviderId → ℕ → Option Why → Led → Led
-with_decision p r why l = record l { decided = decisions_with (record { p = p; r = r; why = why }) l.decided }
+with_decision p r why l = record l { decided = decisions_with (record { provider = p; request = r; why = why }) l.decided }
 
 pub decided_now : (l : Led) (p : ProviderId) (r : ℕ) (why : Option Why) → Decided (with_decision p r why l) p r
 unfolding decision_of
 decided_now l p r why =
-    record { last = record { p = p; r = r; why = why }; kept_it = with_here (record { p = p; r = r; why = why }) l.decided; later = omega arith }
+    record { last = record { provider = p; request = r; why = why }; kept_it = with_here (record { provider = p; request = r; why = why }) l.decided; later = omega arith }
 
 -- no later one was kept
 pub no_older_now : (l : Led) (p : ProviderId) (r : ℕ) (why : Option Why) → NoOlder (with_decision p r why l) p r
 unfolding decision_of
 no_older_now l p r why d e =
-    let k : Some (record { p = p; r = r; why = why }) ≡ Some d = sym (with_here (record { p = p; r = r; why = why }) l.decided) ∙ e in
-    let c : record { p = p; r = r; why = why } ≡ d = cc in
-    let n : d.r ≡ r = ap (λ (z : Decision). z.r) (sym c) in omega arith
+    let k : Some (record { provider = p; request = r; why = why }) ≡ Some d = sym (with_here (record { provider = p; request = r; why = why }) l.decided) ∙ e in
+    let c : record { provider = p; request = r; why = why } ≡ d = cc in
+    let n : d.request ≡ r = ap (λ (z : Decision). z.request) (sym c) in omega arith
 
 -- earlier decisions stand, or a later one in their place
 pub decided_still : (l : Led) (p : ProviderId) (r : ℕ) (why : Option Why) → NoOlder l p r → (q : ProviderId) (k : ℕ) → Decided l q k → Decided (with_decision p r why l) q k
@@ -174,13 +174,13 @@ unfolding decision_of
 decided_still l p r why newer q k h = by (same_provider p q) refl
   where
     d : Decision
-    d = record { p = p; r = r; why = why }
+    d = record { provider = p; request = r; why = why }
 
     by : (b : Bool) → same_provider p q ≡ b → Decided (with_decision p r why l) q k
     by true e =
         let s : p ≡ q = provider_same p q e in
-        let a : h.last.r ≤ r = newer h.last (ap (λ z. find (λ (y : Decision). same_provider y.p z) l.decided) s ∙ h.kept_it) in
+        let a : h.last.request ≤ r = newer h.last (ap (λ z. find (λ (y : Decision). same_provider y.provider z) l.decided) s ∙ h.kept_it) in
         let b = h.later in
-        subst (λ z. Decided (with_decision p r why l) z k) s (record { last = record { p = p; r = r; why = why }; kept_it = with_here (record { p = p; r = r; why = why }) l.decided; later = omega arith })
+        subst (λ z. Decided (with_decision p r why l) z k) s (record { last = record { provider = p; request = r; why = why }; kept_it = with_here (record { provider = p; request = r; why = why }) l.decided; later = omega arith })
     by false e =
-        record { last = h.last; kept_it = with_there (record { p = p; r = r; why = why }) l.decided q e ∙ h.kept_it; later = h.later }
+        record { last = h.last; kept_it = with_there (record { provider = p; request = r; why = why }) l.decided q e ∙ h.kept_it; later = h.later }

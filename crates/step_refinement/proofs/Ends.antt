@@ -117,14 +117,14 @@ no_older_still : (l : Led) (p q : ProviderId) (why : Option Why) → NoOlder l q
 unfolding decision_of
 no_older_still l p q why h d e = by (same_provider p q) refl
   where
-    by : (b : Bool) → same_provider p q ≡ b → d.r ≤ q.join
+    by : (b : Bool) → same_provider p q ≡ b → d.request ≤ q.join
     by true s =
         let same : p ≡ q = provider_same p q s in
-        let k : find (λ (z : Decision). same_provider z.p q) (decisions_with (record { p = p; r = p.join; why = why }) l.decided) ≡ Some (record { p = p; r = p.join; why = why }) = ap (λ y. find (λ (z : Decision). same_provider z.p y) (decisions_with (record { p = p; r = p.join; why = why }) l.decided)) (sym same) ∙ with_here (record { p = p; r = p.join; why = why }) l.decided in
-        let f : Some (record { p = p; r = p.join; why = why }) ≡ Some d = sym k ∙ e in
-        let c : record { p = p; r = p.join; why = why } ≡ d = cc in
-        let n : d.r ≡ q.join = ap (λ (z : Decision). z.r) (sym c) ∙ ap (λ (z : ProviderId). z.join) same in omega arith
-    by false s = h d (sym (with_there (record { p = p; r = p.join; why = why }) l.decided q s) ∙ e)
+        let k : find (λ (z : Decision). same_provider z.provider q) (decisions_with (record { provider = p; request = p.join; why = why }) l.decided) ≡ Some (record { provider = p; request = p.join; why = why }) = ap (λ y. find (λ (z : Decision). same_provider z.provider y) (decisions_with (record { provider = p; request = p.join; why = why }) l.decided)) (sym same) ∙ with_here (record { provider = p; request = p.join; why = why }) l.decided in
+        let f : Some (record { provider = p; request = p.join; why = why }) ≡ Some d = sym k ∙ e in
+        let c : record { provider = p; request = p.join; why = why } ≡ d = cc in
+        let n : d.request ≡ q.join = ap (λ (z : Decision). z.request) (sym c) ∙ ap (λ (z : ProviderId). z.join) same in omega arith
+    by false s = h d (sym (with_there (record { provider = p; request = p.join; why = why }) l.decided q s) ∙ e)
 
 module _ (g : List ℕ) (w : Scene) (n : ℕ) (s : Core) (f : Answering) (thawed : s.views.promise ≡ s.views.view) where
   -- what carries no request begins
@@ -136,7 +136,7 @@ module _ (g : List ℕ) (w : Scene) (n : ℕ) (s : Core) (f : Answering) (thawed
   fewer_fail c h l = record l { waiting = failures_left (state_of c h).attrs.batch l.waiting }
 
   abbrev who_fails : Core → List ℕ → GroupState → List Failure
-  who_fails c h st = filter (λ (x : Failure). among st.members x.p) (next_failures (state_of c h).attrs.batch (led_of c h).waiting)
+  who_fails c h st = filter (λ (x : Failure). among st.members x.provider) (next_failures (state_of c h).attrs.batch (led_of c h).waiting)
 
   -- where a member fails, there is a list
   fails_unshut : (c : Core) (h : List ℕ) → (h ≡ g → leads s h ≡ true) → InNameOrder c.groups → (t : Leading g w n s (with_led c h (fewer_fail c h))) → is_empty (who_fails c h (state_of c h)) ≡ false → h ≡ g → Has c.views.view t.tied.ghost.shut → ⊥
@@ -144,7 +144,7 @@ module _ (g : List ℕ) (w : Scene) (n : ℕ) (s : Core) (f : Answering) (thawed
   fails_unshut c h led order t some same =
       state_open g w n s (with_led c h (fewer_fail c h)) h t led same (λ e. none (ap (λ (row : GroupRow). (list_or_new row.list).state) (sym (row_here h (λ row. record row { led = fewer_fail c h row.led }) (λ x. refl) c order)) ∙ e))
     where
-      nobody : (xs : List Failure) → is_empty (filter (λ (x : Failure). among [] x.p) xs) ≡ true
+      nobody : (xs : List Failure) → is_empty (filter (λ (x : Failure). among [] x.provider) xs) ≡ true
       nobody [] = refl
       nobody (x ∷ xs) = nobody xs
 
@@ -159,14 +159,14 @@ module _ (g : List ℕ) (w : Scene) (n : ℕ) (s : Core) (f : Answering) (thawed
   failures_end (suc k) c h led t = by (is_empty out) refl (failures_end k)
     where
       out : List Failure
-      out = filter (λ (x : Failure). among (state_of c h).members x.p) (next_failures (state_of c h).attrs.batch (led_of c h).waiting)
+      out = filter (λ (x : Failure). among (state_of c h).members x.provider) (next_failures (state_of c h).attrs.batch (led_of c h).waiting)
 
       now : Leading g w n s (with_led c h (λ l. record l { waiting = failures_left (state_of c h).attrs.batch l.waiting }))
       now = led_goes g w n s c h (λ l. record l { waiting = failures_left (state_of c h).attrs.batch l.waiting }) (λ l. (refl, refl, refl)) t
 
-      by : (b : Bool) → is_empty out ≡ b → ((d : Core) (j : List ℕ) → (j ≡ g → leads s j ≡ true) → Leading g w n s d → Leading g w n s (failures_begin k f d j).core) → Leading g w n s (elim b as (λ _. Pass) [ true ↦ failures_begin k f (with_led c h (λ l. record l { waiting = failures_left (state_of c h).attrs.batch l.waiting })) h | false ↦ begun_now (begins f (with_led c h (λ l. record l { waiting = failures_left (state_of c h).attrs.batch l.waiting })) h (Fail (filter (λ (x : Failure). among (state_of c h).members x.p) (next_failures (state_of c h).attrs.batch (led_of c h).waiting))) (state_of c h).attrs.phases) ]).core
+      by : (b : Bool) → is_empty out ≡ b → ((d : Core) (j : List ℕ) → (j ≡ g → leads s j ≡ true) → Leading g w n s d → Leading g w n s (failures_begin k f d j).core) → Leading g w n s (elim b as (λ _. Pass) [ true ↦ failures_begin k f (with_led c h (λ l. record l { waiting = failures_left (state_of c h).attrs.batch l.waiting })) h | false ↦ begun_now (begins f (with_led c h (λ l. record l { waiting = failures_left (state_of c h).attrs.batch l.waiting })) h (Fail (filter (λ (x : Failure). among (state_of c h).members x.provider) (next_failures (state_of c h).attrs.batch (led_of c h).waiting))) (state_of c h).attrs.phases) ]).core
       by true e rest = rest (with_led c h (λ l. record l { waiting = failures_left (state_of c h).attrs.batch l.waiting })) h led now
-      by false e rest = plain_begins (with_led c h (λ l. record l { waiting = failures_left (state_of c h).attrs.batch l.waiting })) h (Fail (filter (λ (x : Failure). among (state_of c h).members x.p) (next_failures (state_of c h).attrs.batch (led_of c h).waiting))) (state_of c h).attrs.phases refl led now (fails_unshut c h led t.tied.own.0.order now e)
+      by false e rest = plain_begins (with_led c h (λ l. record l { waiting = failures_left (state_of c h).attrs.batch l.waiting })) h (Fail (filter (λ (x : Failure). among (state_of c h).members x.provider) (next_failures (state_of c h).attrs.batch (led_of c h).waiting))) (state_of c h).attrs.phases refl led now (fails_unshut c h led t.tied.own.0.order now e)
 
   due_end : (c : Core) (h : List ℕ) (st : GroupState) (k : List ℕ) (o : Option Due) → (h ≡ g → leads s h ≡ true) → (t : Leading g w n s c) → (h ≡ g → Has c.views.view t.tied.ghost.shut → ⊥) → Leading g w n s (due_begins f c h st k o).core
   unfolding due_begins

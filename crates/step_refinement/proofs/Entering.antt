@@ -247,19 +247,19 @@ module _ (g : List ℕ) (w : Scene) (n : ℕ) (f : Answering) (s : Core) (t : Le
   hearing : (a : Note) → HeardIn g w n x s es a → Hearing move.bases tr a
   hearing a h =
       record {
-        p = h.p;
+        provider = h.provider;
         v = s.views.view;
         i = length full + length h.front;
         e = h.e;
         s = h.state;
         is = h.is;
         put = subst (λ z. Has (Put z s.views.view (length full + length h.front) h.e) tr) (sym h.own) (subst (Has (Put n s.views.view (length full + length h.front) h.e)) (sym kept_tr) (inr (subst (λ z. Has (Put n s.views.view (length full + length h.front) h.e) (puts_from n s.views.view (length full) z (kept x.all))) (sym h.split) (put_there n s.views.view h.front h.rest h.e (length full) (kept x.all)))));
-        state = h.state_is ∙ ap (state_of_list x.bases s.views.view) (sym taken) ∙ ap (λ b. fold_from s.views.view (base_state b) 0 (take (length full + length h.front + 1) (puts_of h.p.node s.views.view tr))) (sym (move.bases_same s.views.view (n, s.views.inc, s.views.members, t.own.0.stands.seated)));
+        state = h.state_is ∙ ap (state_of_list x.bases s.views.view) (sym taken) ∙ ap (λ b. fold_from s.views.view (base_state b) 0 (take (length full + length h.front + 1) (puts_of h.provider.node s.views.view tr))) (sym (move.bases_same s.views.view (n, s.views.inc, s.views.members, t.own.0.stands.seated)));
       }
     where
-      taken : take (length full + length h.front + 1) (puts_of h.p.node s.views.view tr) ≡ full ++ (h.front ++ h.e ∷ [])
+      taken : take (length full + length h.front + 1) (puts_of h.provider.node s.views.view tr) ≡ full ++ (h.front ++ h.e ∷ [])
       taken =
-          let a : puts_of h.p.node s.views.view tr ≡ full ++ es = ap (λ m. puts_of m s.views.view tr) h.own ∙ puts_tr in
+          let a : puts_of h.provider.node s.views.view tr ≡ full ++ es = ap (λ m. puts_of m s.views.view tr) h.own ∙ puts_tr in
           let b : full ++ es ≡ (full ++ h.front) ++ h.e ∷ h.rest = ap (λ z. full ++ z) h.split ∙ sym (append_assoc full h.front (h.e ∷ h.rest)) in
           let d : length full + length h.front ≡ length (full ++ h.front) = sym (length-append full h.front) in
           (λ j. take (d j + 1) ((a ∙ b) j)) ∙ take_front (full ++ h.front) h.rest h.e ∙ append_assoc full h.front (h.e ∷ [])
@@ -336,7 +336,7 @@ module _ (g : List ℕ) (w : Scene) (n : ℕ) (f : Answering) (s : Core) (t : Le
   told_only p r u h = at (note_based (Told p r u) n i.view (move.bases i.view) (Kept (In n s.views.inc i.view i.members) ∷ fills.lines) (subst (Has (Noted (Told p r u))) (sym (based_append n i.view (move.bases i.view) (Kept (In n s.views.inc i.view i.members)) fills.lines)) h))
     where
       apart : (a : Note) → HeardIn g w n x s es a → Noted (Told p r u) ≡ Noted a → ⊥
-      apart a h q = let z : Noted (Told p r u) ≡ Noted (Heard h.p s.views.view (length full + length h.front) h.e h.state.members h.state.value) = q ∙ ap (λ k. Noted k) h.is in cc
+      apart a h q = let z : Noted (Told p r u) ≡ Noted (Heard h.provider s.views.view (length full + length h.front) h.e h.state.members h.state.value) = q ∙ ap (λ k. Noted k) h.is in cc
 
       at : ((b : Origin) × (move.bases i.view ≡ Some b) × (Told p r u ≡ Based n i.view b)) ⊎ Has (Noted (Told p r u)) (Kept (In n s.views.inc i.view i.members) ∷ fills.lines) → Has (Noted (Told p r u)) x.all
       at (inl q) = absurd (let z = q.2 in cc)
@@ -347,7 +347,7 @@ module _ (g : List ℕ) (w : Scene) (n : ℕ) (f : Answering) (s : Core) (t : Le
   asked_only p r q h = at (note_based (Asked p r q) n i.view (move.bases i.view) (Kept (In n s.views.inc i.view i.members) ∷ fills.lines) (subst (Has (Noted (Asked p r q))) (sym (based_append n i.view (move.bases i.view) (Kept (In n s.views.inc i.view i.members)) fills.lines)) h))
     where
       apart : (a : Note) → HeardIn g w n x s es a → Noted (Asked p r q) ≡ Noted a → ⊥
-      apart a h e = let z : Noted (Asked p r q) ≡ Noted (Heard h.p s.views.view (length full + length h.front) h.e h.state.members h.state.value) = e ∙ ap (λ k. Noted k) h.is in cc
+      apart a h e = let z : Noted (Asked p r q) ≡ Noted (Heard h.provider s.views.view (length full + length h.front) h.e h.state.members h.state.value) = e ∙ ap (λ k. Noted k) h.is in cc
 
       at : ((b : Origin) × (move.bases i.view ≡ Some b) × (Asked p r q ≡ Based n i.view b)) ⊎ Has (Noted (Asked p r q)) (Kept (In n s.views.inc i.view i.members) ∷ fills.lines) → Has (Noted (Asked p r q)) x.all
       at (inl e) = absurd (let z = e.2 in cc)
@@ -436,9 +436,9 @@ module _ (g : List ℕ) (w : Scene) (n : ℕ) (f : Answering) (s : Core) (t : Le
       record {
         node = o.node;
         inc_of = o.inc_of;
-        asked = goes.lines (Noted (Asked q.p q.r q.proposal)) o.asked;
+        asked = goes.lines (Noted (Asked q.provider q.request q.proposal)) o.asked;
         unput = λ u j e a b. ⊎_elim (λ (d : Has (Put n u j e) (kept x.all)). o.unput u j e d b) (λ (d : Has e es). fills.gone q e h d b) (put_new n u s.views.view j e (length full) es (kept x.all) (put_only n u j e a));
-        untold = λ u a. o.untold u (told_only q.p q.r u a);
+        untold = λ u a. o.untold u (told_only q.provider q.request u a);
       }
 
   owes_new : Owes y g n s.views.inc (level_set c i.members)

@@ -73,11 +73,11 @@ unsent c k cs = by (frozen c)
     one c p None = refl
     one c p (Some x) = ballot c p x (x.2).filled
 
-    all : (cs : List Cast) (c : Core) → fold (λ d x. cast_sent_of d k None x.p x.cast) c cs ≡ c
+    all : (cs : List Cast) (c : Core) → fold (λ d x. cast_sent_of d k None x.provider x.cast) c cs ≡ c
     all [] c = refl
-    all (x ∷ cs) c = all cs (cast_sent_of c k None x.p x.cast) ∙ one c x.p x.cast
+    all (x ∷ cs) c = all cs (cast_sent_of c k None x.provider x.cast) ∙ one c x.provider x.cast
 
-    by : (b : Bool) → elim b as (λ _. Core) [ true ↦ c | false ↦ fold (λ d x. cast_sent_of d k None x.p x.cast) c cs ] ≡ c
+    by : (b : Bool) → elim b as (λ _. Core) [ true ↦ c | false ↦ fold (λ d x. cast_sent_of d k None x.provider x.cast) c cs ] ≡ c
     by true = refl
     by false = all cs c
 
@@ -92,7 +92,7 @@ module _ (g : List ℕ) (w : Scene) (n : ℕ) (x : Ghost) (s : Core) where
 
   -- a provider of the node heard an entry that was filled in, at its place
   pub record HeardIn (es : List Entry) (y : Note) : Type 0 where
-    pub p : ProviderId
+    pub provider : ProviderId
     pub own : p.node ≡ n
     pub front : List Entry
     pub e : Entry
@@ -105,7 +105,7 @@ module _ (g : List ℕ) (w : Scene) (n : ℕ) (x : Ghost) (s : Core) where
   heard_more : (es more : List Entry) (y : Note) → HeardIn es y → HeardIn (es ++ more) y
   heard_more es more y h =
       record {
-        p = h.p;
+        provider = h.provider;
         own = h.own;
         front = h.front;
         e = h.e;
@@ -125,7 +125,7 @@ module _ (g : List ℕ) (w : Scene) (n : ℕ) (x : Ghost) (s : Core) where
     pub order : InNameOrder c.groups
     pub keeps : Keeps x s.views.view (full ++ es) (list_of c g)
     pub later : Later s.sessions c.sessions
-    pub gone : (q : Request) (e : Entry) → Has q c.sessions.requests → Has e es → Has (q.p, q.r) (carried e) → ⊥
+    pub gone : (q : Request) (e : Entry) → Has q c.sessions.requests → Has e es → Has (q.provider, q.request) (carried e) → ⊥
     pub lines : List Line
     pub among : Sprinkled (HeardIn es) (lines_from n s.views.view (length full) es x.all) lines
     pub is : lines_now g w c ≡ lines
@@ -133,7 +133,7 @@ module _ (g : List ℕ) (w : Scene) (n : ℕ) (x : Ghost) (s : Core) where
     pub turn : InTurn s.views.view (c.records ++ records_of w.before) c.sessions
     pub recorded_on : (r : Happened) → Has r (s.records ++ records_of w.before) → Has r (c.records ++ records_of w.before)
 
-  module _ (me : s.views.me ≡ n) (mine : (q : Request) → Has q s.sessions.requests → q.p.node ≡ n) (own : (q : ProviderId) → ((y : SessionState) → Later s.sessions y → (b : GroupState) (k : List ℕ) (e : Entry) → Has q (hearers y k b e) → q.node ≡ n)) where
+  module _ (me : s.views.me ≡ n) (mine : (q : Request) → Has q s.sessions.requests → q.provider.node ≡ n) (own : (q : ProviderId) → ((y : SessionState) → Later s.sessions y → (b : GroupState) (k : List ℕ) (e : Entry) → Has q (hearers y k b e) → q.node ≡ n)) where
     unseen_too : (es : List Entry) (c : Core) (r : Happened) → Passes g r → Fills es c → Fills es (recorded c r)
     unfolding recorded list_of row_of
     unseen_too es c r unseen t =
@@ -210,7 +210,7 @@ module _ (g : List ℕ) (w : Scene) (n : ℕ) (x : Ghost) (s : Core) where
         subst (λ z. Keeps x s.views.view z (with_entry (list_of c g) c.views.view e)) (append_assoc full es (e ∷ [])) b
 
     -- the own group's entry
-    put_own : (es : List Entry) (c : Core) (e : Entry) (u : SessionState) → FitIn x s.views.view (full ++ (es ++ e ∷ [])) → Later c.sessions u → ((q : Request) → Has q u.requests → Has (q.p, q.r) (carried e) → ⊥) → Fewer c.sessions u (carried e) → Fills es c → Fills (es ++ e ∷ []) (with_sessions (put c g e) u) × (state_of (put c g e) g ≡ state_of_list x.bases s.views.view (full ++ (es ++ e ∷ [])))
+    put_own : (es : List Entry) (c : Core) (e : Entry) (u : SessionState) → FitIn x s.views.view (full ++ (es ++ e ∷ [])) → Later c.sessions u → ((q : Request) → Has q u.requests → Has (q.provider, q.request) (carried e) → ⊥) → Fewer c.sessions u (carried e) → Fills es c → Fills (es ++ e ∷ []) (with_sessions (put c g e) u) × (state_of (put c g e) g ≡ state_of_list x.bases s.views.view (full ++ (es ++ e ∷ [])))
     unfolding put recorded with_sessions with_row row_of list_of state_of
     put_own es c e u fit l gone f t =
         let here : list_of (with_row c g (put_row e c)) g ≡ with_entry (list_of c g) c.views.view e = ap (λ (row : GroupRow). list_or_new row.list) (row_here g (put_row e c) (λ y. refl) c t.order) in
@@ -241,8 +241,8 @@ module _ (g : List ℕ) (w : Scene) (n : ℕ) (x : Ghost) (s : Core) where
         view_is : c.views.view ≡ s.views.view
         view_is = ap (λ z. z.view) t.views
 
-        last : (q : Request) → Has q u.requests → (d : Entry) → Has d (e ∷ []) → Has (q.p, q.r) (carried d) → ⊥
-        last q i d (inl a) b = gone q i (subst (λ z. Has {A = ProviderId × ℕ} (q.p, q.r) (carried z)) a b)
+        last : (q : Request) → Has q u.requests → (d : Entry) → Has d (e ∷ []) → Has (q.provider, q.request) (carried d) → ⊥
+        last q i d (inl a) b = gone q i (subst (λ z. Has {A = ProviderId × ℕ} (q.provider, q.request) (carried z)) a b)
         last q i d (inr z) b = z
 
     -- an entry is put and handed on: the group's own, or another's
@@ -258,7 +258,7 @@ module _ (g : List ℕ) (w : Scene) (n : ℕ) (x : Ghost) (s : Core) where
         let k = put_own es c e u fit (handed_later c.sessions g before st e bs) (handed_gone c.sessions g before st e bs) (handed_fewer c.sessions g before st e bs) t in
         let new : (p : ProviderId) → p.node ≡ n → HeardIn (es ++ e ∷ []) (Heard p c.views.view (len_of c g) e st.members st.value) = λ p at.
         record {
-          p = p;
+          provider = p;
           own = at;
           front = es;
           e = e;

@@ -167,13 +167,13 @@ module _ (x y : Ghost) (o : Goes x y) where
 
 module _ (x y : Ghost) (o : Goes x y) (m : ℕ) where
   -- what is owed goes on, where none of it is put or told, and nothing is asked
-  pub owes_by : ((a : Asking) → a.p.node ≡ m → Has a y.asked → Has a x.asked) → ((u : ViewId) (k : ℕ) (e : Entry) → Has (Put m u k e) (kept y.all) → Has (Put m u k e) (kept x.all)) → ((p : ProviderId) (r : ℕ) (u : ViewId) → p.node ≡ m → Has (Noted (Told p r u)) y.all → Has (Noted (Told p r u)) x.all) → (g : List ℕ) (inc : ℕ) (s : SessionState) → Owes x g m inc s → Owes y g m inc s
+  pub owes_by : ((a : Asking) → a.provider.node ≡ m → Has a y.asked → Has a x.asked) → ((u : ViewId) (k : ℕ) (e : Entry) → Has (Put m u k e) (kept y.all) → Has (Put m u k e) (kept x.all)) → ((p : ProviderId) (r : ℕ) (u : ViewId) → p.node ≡ m → Has (Noted (Told p r u)) y.all → Has (Noted (Told p r u)) x.all) → (g : List ℕ) (inc : ℕ) (s : SessionState) → Owes x g m inc s → Owes y g m inc s
   owes_by asked puts told g inc s h =
       record {
         me = h.me;
         inc_of = h.inc_of;
         providers = h.providers;
-        own = λ q i. let k = h.own q i in (k.0, k.1, o.asked (asking q.p q.r q.group) k.2, k.3);
+        own = λ q i. let k = h.own q i in (k.0, k.1, o.asked (asking q.provider q.request q.group) k.2, k.3);
         requests = λ q i e. owed q (h.requests q i e);
         attended = h.attended;
         given = λ a i e. h.given a (asked a e i) e;
@@ -186,7 +186,7 @@ module _ (x y : Ghost) (o : Goes x y) (m : ℕ) where
             inc_of = h.inc_of;
             asked = o.lines _ h.asked;
             unput = λ u k e i. h.unput u k e (puts u k e i);
-            untold = λ u i. h.untold u (told q.p q.r u h.node i);
+            untold = λ u i. h.untold u (told q.provider q.request u h.node i);
           }
 
   -- what a leader keeps goes on, where it is named nowhere, and nothing is refused
@@ -205,7 +205,7 @@ module _ (x y : Ghost) (o : Goes x y) (m : ℕ) where
               decided = z.decided;
             };
         later = λ u l e p r i. h.later u l (leads u (member m inc) e) p r (refusals u p r i);
-        again = λ p d why e q. o.packets (group.Refusal v p d.r) (h.again p d why e q);
+        again = λ p d why e q. o.packets (group.Refusal v p d.request) (h.again p d why e q);
         leads_it = λ p i. o.leads v (member m inc) (h.leads_it p i);
         apart = h.apart;
         lasts = h.lasts;
@@ -264,7 +264,7 @@ pub record Spares (x y : Ghost) (m : ℕ) : Type 0 where
   pub stables : (v : ViewId) (k : ℕ) → Has (group.Stable v k) y.ps → Has (group.Stable v k) x.ps ⊎ ((i : ℕ) → y.leads v ≡ Some (member m i) → ⊥)
   pub shut : (v : ViewId) → v.coord ≡ m → Has v y.shut → Has v x.shut
   pub shut_led : (v : ViewId) (i : ℕ) → y.leads v ≡ Some (member m i) → Has v y.shut → Has v x.shut
-  pub asked : (a : Asking) → a.p.node ≡ m → Has a y.asked → Has a x.asked
+  pub asked : (a : Asking) → a.provider.node ≡ m → Has a y.asked → Has a x.asked
 
 -- nobody is named, nothing is refused, nobody asks, and who is told had asked
 pub record Still (x y : Ghost) : Type 0 where
@@ -312,7 +312,7 @@ module _ (x y : Ghost) (o : Still x y) where
             (seen_on x y o.goes v k.0, ⊎_elim (λ (e : x.leads v ≡ None). inl (o.leads v (inl k.0) ∙ e)) (λ (c : Closed x.nodes x.leads x.asks v). inr (o.closed v (o.shut v h) c)) k.1);
         asked = λ p r q h. o.goes.asked (asking p r g) (t.asked p r q (o.asks p r q h));
         one = λ p r h k a b. t.one p r h k (o.asked (asking p r h) a) (o.asked (asking p r k) b);
-        started = λ a h. let i = t.started a (o.asked a h) in let j = o.incs a.p.node in omega arith;
+        started = λ a h. let i = t.started a (o.asked a h) in let j = o.incs a.provider.node in omega arith;
         told = λ p r u h. ⊎_elim (λ (i : Has (Noted (Told p r u)) x.all). numbered_on x y o.goes p r (t.told p r u i)) (λ (i : Numbered x p r). numbered_on x y o.goes p r i) (o.told p r u h);
       }
 
@@ -348,7 +348,7 @@ module _ (x y : Ghost) (m : ℕ) (o : Spares x y m) where
               decided = z.decided;
             };
         later = λ u l e p r i. let k = old u p r e i in h.later u l (sym (o.leads u (inr (p, r, k))) ∙ e) p r k;
-        again = λ p d why e q. o.goes.packets (group.Refusal v p d.r) (h.again p d why e q);
+        again = λ p d why e q. o.goes.packets (group.Refusal v p d.request) (h.again p d why e q);
         leads_it = λ p i. o.goes.leads v (member m inc) (h.leads_it p i);
         apart = h.apart;
         lasts = h.lasts;

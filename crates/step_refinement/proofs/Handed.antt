@@ -68,15 +68,15 @@ module _ (g : List ℕ) (n : ℕ) (h : List ℕ) (v : ViewId) (i : ℕ) (e : Ent
       at (Some b) (inl q) = subst (Passes g) (sym q) ((λ rs. refl), λ m o. refl)
       at (Some b) (inr z) = absurd z
 
-  fine_heard : (c : Core) → c.views.view ≡ v → (cs : List Cast) → ((x : Cast) → Has x cs → x.p.node ≡ n) → (r : Happened) → Has r (flat_map (heard c h i e st) cs) → Fine g h n v i e st r
+  fine_heard : (c : Core) → c.views.view ≡ v → (cs : List Cast) → ((x : Cast) → Has x cs → x.provider.node ≡ n) → (r : Happened) → Has r (flat_map (heard c h i e st) cs) → Fine g h n v i e st r
   unfolding heard
   fine_heard c at [] own r k = absurd k
   fine_heard c at (x ∷ cs) own r k =
       ⊎_elim (λ (a : Has r (heard c h i e st x)). one a) (λ (b : Has r (flat_map (heard c h i e st) cs)). fine_heard c at cs (λ y j. own y (inr j)) r b) (has_append r (heard c h i e st x) (flat_map (heard c h i e st) cs) k)
     where
-      one : Has r (happened.Heard x.p c.views.view h i e st.members st.value ∷ cast_records x.p x.cast) → Fine g h n v i e st r
-      one (inl q) = inr (x.p, own x (inl refl), q ∙ ap (λ z. happened.Heard x.p z h i e st.members st.value) at)
-      one (inr j) = inl (unseen_casts x.p x.cast r j)
+      one : Has r (happened.Heard x.provider c.views.view h i e st.members st.value ∷ cast_records x.provider x.cast) → Fine g h n v i e st r
+      one (inl q) = inr (x.provider, own x (inl refl), q ∙ ap (λ z. happened.Heard x.provider z h i e st.members st.value) at)
+      one (inr j) = inl (unseen_casts x.provider x.cast r j)
 
   -- what is recorded as the entry is handed on
   pub handed_records : (f : Answering) (c : Core) (before : GroupState) → c.views.view ≡ v → ((p : ProviderId) → Has p (hearers c.sessions h before e) → p.node ≡ n) → P (with_sessions c (session.handed_on c.sessions h before st e (fills f (length c.records) c.sessions e st (hearers c.sessions h before e)))) → P (with_sessions (noted (recorded_all c (flat_map (heard c h i e st) (casts_out c.sessions h before st e (fills f (length c.records) c.sessions e st (hearers c.sessions h before e))))) h i before st) (session.handed_on c.sessions h before st e (fills f (length c.records) c.sessions e st (hearers c.sessions h before e))))
@@ -96,7 +96,7 @@ module _ (g : List ℕ) (n : ℕ) (h : List ℕ) (v : ViewId) (i : ℕ) (e : Ent
       u = session.handed_on c.sessions h before st e bs
 
       told : P (recorded_all (with_sessions c u) rs)
-      told = all_too rs (with_sessions c u) (fine_heard c at cs (λ x j. own x.p (cast_has e st c.sessions.level (hearers c.sessions h before e) bs x j))) t
+      told = all_too rs (with_sessions c u) (fine_heard c at cs (λ x j. own x.provider (cast_has e st c.sessions.level (hearers c.sessions h before e) bs x j))) t
 
       by : (b : Bool) → P (with_sessions (elim b [ true ↦ notes (recorded_all c rs) h (Some i) st | false ↦ recorded_all c rs ]) u)
       by false = told
@@ -216,15 +216,15 @@ module _ (g : List ℕ) (w : Scene) (n : ℕ) (h : List ℕ) (v : ViewId) (i : �
       ballot (Some b) (Some m) =
           record { tied = tied_sent g w n c t.tied m (body.Vote c.views.view k x.0 x.1 p b.vote b.value b.message) tt; same = t.same }
 
-  casts_fold : (views : Views) (k : List ℕ) (to : Option ℕ) (cs : List Cast) (c : Core) → Going views c → Going views (fold (λ d x. cast_sent_of d k to x.p x.cast) c cs)
+  casts_fold : (views : Views) (k : List ℕ) (to : Option ℕ) (cs : List Cast) (c : Core) → Going views c → Going views (fold (λ d x. cast_sent_of d k to x.provider x.cast) c cs)
   casts_fold views k to [] c t = t
-  casts_fold views k to (x ∷ cs) c t = casts_fold views k to cs (cast_sent_of c k to x.p x.cast) (cast_too views c k to x.p x.cast t)
+  casts_fold views k to (x ∷ cs) c t = casts_fold views k to cs (cast_sent_of c k to x.provider x.cast) (cast_too views c k to x.provider x.cast t)
 
   casts_too : (views : Views) (k : List ℕ) (to : Option ℕ) (cs : List Cast) (c : Core) → Going views c → Going views (casts_sent c k to cs)
   unfolding casts_sent
   casts_too views k to cs c t = by (frozen c)
     where
-      by : (b : Bool) → Going views (elim b [ true ↦ c | false ↦ fold (λ d x. cast_sent_of d k to x.p x.cast) c cs ])
+      by : (b : Bool) → Going views (elim b [ true ↦ c | false ↦ fold (λ d x. cast_sent_of d k to x.provider x.cast) c cs ])
       by true = t
       by false = casts_fold views k to cs c t
 

@@ -443,17 +443,17 @@ module _ (v : ViewId) (h : List ℕ) (k : ℕ) (g : List ℕ) (w : Scene) (n : �
           let d = refused_shut g w n c t q r (subst (λ z. Has z t.ghost.shut) (sym here) ((shown c t e).1 zero)) in
           let u = tell_tied g w n c q r (GroupsFull 64) d.0 (λ z i a b. inl d.1) in (u.0, u.1 ∙ d.2)
 
-  all_refused : k ≡ 0 → (qs : List Request) (c : Core) (t : Tied g w n c) → c.views ≡ s.views → ((q : Request) → Has q qs → Has (asking q.p q.r h) t.ghost.asked) → Tied g w n (fold (λ d (q : Request). take_tell d q.p q.r (GroupsFull 64)) c qs)
+  all_refused : k ≡ 0 → (qs : List Request) (c : Core) (t : Tied g w n c) → c.views ≡ s.views → ((q : Request) → Has q qs → Has (asking q.provider q.request h) t.ghost.asked) → Tied g w n (fold (λ d (q : Request). take_tell d q.provider q.request (GroupsFull 64)) c qs)
   all_refused zero [] c t same asked = t
   all_refused zero (q ∷ qs) c t same asked =
-      let u = one_refused zero c t same q.p q.r (asked q (inl refl)) in
-      all_refused zero qs (take_tell c q.p q.r (GroupsFull 64)) u.0 (told_views c q.p q.r (GroupsFull 64) ∙ same) (λ z i. subst (Has (asking z.p z.r h)) (sym u.1) (asked z (inr i)))
+      let u = one_refused zero c t same q.provider q.request (asked q (inl refl)) in
+      all_refused zero qs (take_tell c q.provider q.request (GroupsFull 64)) u.0 (told_views c q.provider q.request (GroupsFull 64) ∙ same) (λ z i. subst (Has (asking z.provider z.request h)) (sym u.1) (asked z (inr i)))
 
-  asked_of : (t : Tied g w n s) (q : Request) → Has q (requests_of s h) → Has q s.sessions.requests × Has (asking q.p q.r h) t.ghost.asked
+  asked_of : (t : Tied g w n s) (q : Request) → Has q (requests_of s h) → Has q s.sessions.requests × Has (asking q.provider q.request h) t.ghost.asked
   unfolding requests_of
   asked_of t q i =
       let j = has_filter (λ (q : Request). bytes_eq q.group h) q s.sessions.requests i in
-      (j.0, subst (λ z. Has (asking q.p q.r z) t.ghost.asked) (text_same q.group h j.1) (t.own.0.owes.own q j.0).2)
+      (j.0, subst (λ z. Has (asking q.provider q.request z) t.ghost.asked) (text_same q.group h j.1) (t.own.0.owes.own q j.0).2)
 
   name_tied : (t : Tied g w n s) → (b : Bool) → (k == 0) ≡ b → Tied g w n (named s h k b)
   unfolding named set_leader with_row

@@ -40,38 +40,38 @@ use Rattle.step_refinement.proofs.Leads.{known_leads, unknown_asks}
 module _ (g : List ℕ) (w : Scene) (n : ℕ) where
   -- a request of the group, to its leader
   -- it is a join, or its provider's join was put
-  in_turn : (s : Core) (q : Request) (t : Tied g w n s) → Has q s.sessions.requests → (q.r ≡ q.p.join) ⊎ JoinPut (s.records ++ records_of w.before) q.p s.views.view
+  in_turn : (s : Core) (q : Request) (t : Tied g w n s) → Has q s.sessions.requests → (q.request ≡ q.provider.join) ⊎ JoinPut (s.records ++ records_of w.before) q.provider s.views.view
   in_turn s q t h = by (t.turns.own.joined y.0 y.1)
     where
-      y : (y : Provider) × Has y s.sessions.providers × (y.p ≡ q.p)
+      y : (y : Provider) × Has y s.sessions.providers × (y.provider ≡ q.provider)
       y = t.own.0.owes.attended q h
 
-      by : ((a : Request) × Has a s.sessions.requests × (a.p ≡ y.0.p) × (a.r ≡ y.0.p.join) × (is_join a.proposal ≡ true)) ⊎ JoinPut (s.records ++ records_of w.before) y.0.p s.views.view → (q.r ≡ q.p.join) ⊎ JoinPut (s.records ++ records_of w.before) q.p s.views.view
+      by : ((a : Request) × Has a s.sessions.requests × (a.provider ≡ y.0.provider) × (a.request ≡ y.0.provider.join) × (is_join a.proposal ≡ true)) ⊎ JoinPut (s.records ++ records_of w.before) y.0.provider s.views.view → (q.request ≡ q.provider.join) ⊎ JoinPut (s.records ++ records_of w.before) q.provider s.views.view
       by (inr a) = inr (subst (λ p. JoinPut (s.records ++ records_of w.before) p s.views.view) y.2 a)
       by (inl a) =
           let same : a.0 ≡ q = t.turns.own.single a.0 q a.1 h (a.2 ∙ y.2) in
-          inl (ap (λ (z : Request). z.r) (sym same) ∙ a.3 ∙ ap (λ (p : ProviderId). p.join) y.2)
+          inl (ap (λ (z : Request). z.request) (sym same) ∙ a.3 ∙ ap (λ (p : ProviderId). p.join) y.2)
 
-  request_own : (s : Core) (q : Request) (to : ℕ) (t : Tied g w n s) → Has q s.sessions.requests → ShowsLeader t.ghost s.views.view to → Has (asking q.p q.r q.group) t.ghost.asked × Has (q.p, q.r) (requests_of q.proposal) → Owed t.ghost n s.views.inc q → Tied g w n (sent s to (body.Request s.views.view q.group q.p q.r q.phases q.proposal))
+  request_own : (s : Core) (q : Request) (to : ℕ) (t : Tied g w n s) → Has q s.sessions.requests → ShowsLeader t.ghost s.views.view to → Has (asking q.provider q.request q.group) t.ghost.asked × Has (q.provider, q.request) (requests_of q.proposal) → Owed t.ghost n s.views.inc q → Tied g w n (sent s to (body.Request s.views.view q.group q.provider q.request q.phases q.proposal))
   unfolding row_of sent send_on packet_on
   request_own s q to t there leader asked owed =
       let x : Ghost = t.ghost in
       let h = t.own.0 in
-      let r : group.Packet = group.Request (x.nodes n).view q.p q.r q.proposal in
+      let r : group.Packet = group.Request (x.nodes n).view q.provider q.request q.proposal in
       let y : Ghost = with_packet x r in
-      let p : Packet = packet_on s (network_to s to) to (body.Request s.views.view q.group q.p q.r q.phases q.proposal) in
+      let p : Packet = packet_on s (network_to s to) to (body.Request s.views.view q.group q.provider q.request q.phases q.proposal) in
       let up : 0 < (x.nodes n).inc = subst (λ k. 0 < k) (sym h.stands.inc) h.stands.up in
       let o : Goes x y = packet_goes x r in
       let spares : (m : ℕ) → Spares x y m = λ m. packet_spares x r m (λ e. absurd (omega arith)) (λ e. absurd (omega arith)) in
-      let new : Shows y g p = (asked.0, asked.1, λ e. record { sent = inl (ap (λ v. group.Request v q.p q.r q.proposal) (sym h.stands.view)); leader = record { inc = leader.inc; leads = leader.leads } }) in
-      let unput : (u : ViewId) (k : ℕ) (e : Entry) → Has (Put q.p.node u k e) (kept x.all) → Has (q.p, q.r) (carried e) → ⊥ = λ u k e i c. owed.unput u k e (subst (λ m. Has (Put m u k e) (kept x.all)) owed.node i) c in
-      tied_on g w n s t (sent s to (body.Request s.views.view q.group q.p q.r q.phases q.proposal)) y (Requests x.nodes x.ps x.all x.leads x.bases q.p q.r q.proposal (x.nodes n) t.life (ap x.nodes owed.node) up (h.stands.inc ∙ sym owed.inc_of) owed.asked unput owed.untold) t.lines t.placed (record { own = t.turns.own; others = t.turns.others; sent = λ v p k a i. sent_too v p k a i }) (node_on x y n (spares n) refl g (is_fixed s.config.mode) s.views (row_of s g) s.groups s.sessions s.names h, t.own.1, t.own.2) (λ m ne. spares m) (λ m ne. refl) (λ q i. ⊎_elim (λ (e : q ≡ p). subst (Shows y g) (sym e) new) (λ (k : Has q (s.sends ++ w.sent)). shows_on x y o g q (t.packets q k)) (has_pushed q p s.sends w.sent i)) (sound_on x y (packet_still x r (λ e. absurd (omega arith)) (λ e. absurd (omega arith))) g t.sound)
+      let new : Shows y g p = (asked.0, asked.1, λ e. record { sent = inl (ap (λ v. group.Request v q.provider q.request q.proposal) (sym h.stands.view)); leader = record { inc = leader.inc; leads = leader.leads } }) in
+      let unput : (u : ViewId) (k : ℕ) (e : Entry) → Has (Put q.provider.node u k e) (kept x.all) → Has (q.provider, q.request) (carried e) → ⊥ = λ u k e i c. owed.unput u k e (subst (λ m. Has (Put m u k e) (kept x.all)) owed.node i) c in
+      tied_on g w n s t (sent s to (body.Request s.views.view q.group q.provider q.request q.phases q.proposal)) y (Requests x.nodes x.ps x.all x.leads x.bases q.provider q.request q.proposal (x.nodes n) t.life (ap x.nodes owed.node) up (h.stands.inc ∙ sym owed.inc_of) owed.asked unput owed.untold) t.lines t.placed (record { own = t.turns.own; others = t.turns.others; sent = λ v p k a i. sent_too v p k a i }) (node_on x y n (spares n) refl g (is_fixed s.config.mode) s.views (row_of s g) s.groups s.sessions s.names h, t.own.1, t.own.2) (λ m ne. spares m) (λ m ne. refl) (λ q i. ⊎_elim (λ (e : q ≡ p). subst (Shows y g) (sym e) new) (λ (k : Has q (s.sends ++ w.sent)). shows_on x y o g q (t.packets q k)) (has_pushed q p s.sends w.sent i)) (sound_on x y (packet_still x r (λ e. absurd (omega arith)) (λ e. absurd (omega arith))) g t.sound)
     where
-      sent_too : (v : ViewId) (p : ProviderId) (k : ℕ) (a : Proposal) → Has (group.Request v p k a) (group.Request (t.ghost.nodes n).view q.p q.r q.proposal ∷ t.ghost.ps) → (k ≡ p.join) ⊎ JoinPut (s.records ++ records_of w.before) p v
+      sent_too : (v : ViewId) (p : ProviderId) (k : ℕ) (a : Proposal) → Has (group.Request v p k a) (group.Request (t.ghost.nodes n).view q.provider q.request q.proposal ∷ t.ghost.ps) → (k ≡ p.join) ⊎ JoinPut (s.records ++ records_of w.before) p v
       sent_too v p k a (inr i) = t.turns.sent v p k a i
       sent_too v p k a (inl e) =
-          let b : p ≡ q.p = cc in
-          let c : k ≡ q.r = cc in
+          let b : p ≡ q.provider = cc in
+          let c : k ≡ q.request = cc in
           let d : v ≡ (t.ghost.nodes n).view = cc in
           subst (λ (z : ViewId × ProviderId × ℕ). (z.2 ≡ z.1.join) ⊎ JoinPut (s.records ++ records_of w.before) z.1 z.0) (λ j. (sym (d ∙ t.own.0.stands.view) j, sym b j, sym c j)) (in_turn s q t there)
 
@@ -82,7 +82,7 @@ module _ (g : List ℕ) (w : Scene) (n : ℕ) where
       at : (o : Option ℕ) → leader_of s q.group ≡ o → Tied g w n (send_request_to s q o)
       at None k = tied_sent g w n s t s.views.view.coord (body.Lookup s.views.view q.group) (unknown_asks g w n s t q.group k)
       at (Some m) k =
-          ⊎_elim (λ (e : q.group ≡ g). request_own s q m t h (known_leads g w n s t m (ap (leader_of s) (sym e) ∙ k)) ((t.own.0.owes.own q h).2, (t.own.0.owes.own q h).3) (t.own.0.owes.requests q h e)) (λ (ne : q.group ≡ g → ⊥). tied_sent g w n s t m (body.Request s.views.view q.group q.p q.r q.phases q.proposal) ((t.own.0.owes.own q h).2, (t.own.0.owes.own q h).3, λ e. absurd (ne e))) (cases_text q.group g)
+          ⊎_elim (λ (e : q.group ≡ g). request_own s q m t h (known_leads g w n s t m (ap (leader_of s) (sym e) ∙ k)) ((t.own.0.owes.own q h).2, (t.own.0.owes.own q h).3) (t.own.0.owes.requests q h e)) (λ (ne : q.group ≡ g → ⊥). tied_sent g w n s t m (body.Request s.views.view q.group q.provider q.request q.phases q.proposal) ((t.own.0.owes.own q h).2, (t.own.0.owes.own q h).3, λ e. absurd (ne e))) (cases_text q.group g)
 
       by : (b : Bool) → Tied g w n (elim b as (λ _. Core) [ true ↦ s | false ↦ send_request_to s q (leader_of s q.group) ])
       by true = t
@@ -125,7 +125,7 @@ module _ (g : List ℕ) (w : Scene) (n : ℕ) where
     where
       by : (b : Option Filled) → Tied g w n (send_kept_to s k (leader_of s k.group) b)
       by None = t
-      by (Some b) = known_tied s (leader_of s k.group) (vote_of s k.group k.proto k.phase k.p b) (λ x to. tt) t
+      by (Some b) = known_tied s (leader_of s k.group) (vote_of s k.group k.proto k.phase k.provider b) (λ x to. tt) t
 
   kept_tied : (s : Core) (k : KeptBallot) → Tied g w n s → Tied g w n (kept_sent_again s k)
   unfolding kept_sent_again kept_sent_if

@@ -83,7 +83,7 @@ pushed_keeps x y v full l e b h fit =
 
 pub record Leaves (s t : SessionState) (e : Entry) : Type 0 where
   pub later : Later s t
-  pub gone : (q : Request) → Has q t.requests → Has (q.p, q.r) (carried e) → ⊥
+  pub gone : (q : Request) → Has q t.requests → Has (q.provider, q.request) (carried e) → ⊥
   pub fewer : Fewer s t (carried e)
 
 -- the put of the entry stands, and the state is that after it
@@ -237,14 +237,14 @@ module _ (g : List ℕ) (w : Scene) (n : ℕ) (s : Core) (t : Tied g w n s) (e :
           untold = λ v h. untold v h;
         }
       where
-        unput : (v : ViewId) (j : ℕ) (f : Entry) → Has (Put n v j f) (put_line ∷ kept t.ghost.all) → Has (q.p, q.r) (carried f) → ⊥
-        unput v j f (inl a) b = let same : f ≡ e = at a in l.gone q i (subst (λ x. Has {A = ProviderId × ℕ} (q.p, q.r) (carried x)) same b)
+        unput : (v : ViewId) (j : ℕ) (f : Entry) → Has (Put n v j f) (put_line ∷ kept t.ghost.all) → Has (q.provider, q.request) (carried f) → ⊥
+        unput v j f (inl a) b = let same : f ≡ e = at a in l.gone q i (subst (λ x. Has {A = ProviderId × ℕ} (q.provider, q.request) (carried x)) same b)
           where
             at : Put n v j f ≡ put_line → f ≡ e
             at a = cc
         unput v j f (inr a) b = (t.own.0.owes.requests q (l.later.requests q i) c).unput v j f a b
 
-        untold : (v : ViewId) → Has (Noted (Told q.p q.r v)) (Kept put_line ∷ t.ghost.all) → ⊥
+        untold : (v : ViewId) → Has (Noted (Told q.provider q.request v)) (Kept put_line ∷ t.ghost.all) → ⊥
         untold v (inl a) = cc
         untold v (inr a) = (t.own.0.owes.requests q (l.later.requests q i) c).untold v a
 

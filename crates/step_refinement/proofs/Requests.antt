@@ -199,7 +199,7 @@ module _ (v : ViewId) (h : List ℕ) (q : ProviderId) (r : ℕ) (phases : Phases
       by (Reflect view place value) e = other (Reflect view place value) e (ap is_joining e)
 
   -- a refusal is told again
-  again_tied : (t : Tied g w n s) (d : Decision) → decision_of (led_of s h) q ≡ Some d → (r == d.r) ≡ true → Tied g w n (tell_again s h q r d.why)
+  again_tied : (t : Tied g w n s) (d : Decision) → decision_of (led_of s h) q ≡ Some d → (r == d.request) ≡ true → Tied g w n (tell_again s h q r d.why)
   unfolding tell_again led_of
   again_tied t d e same = by d.why refl
     where
@@ -209,19 +209,19 @@ module _ (v : ViewId) (h : List ℕ) (q : ProviderId) (r : ℕ) (phases : Phases
         where
           refusal : h ≡ g → Has (group.Refusal s.views.view q r) t.ghost.ps
           refusal z =
-              subst (λ i. Has (group.Refusal s.views.view q i) t.ghost.ps) (sym (eqb-true r d.r same)) (t.own.0.decides.again q d why (ap (λ y. decision_of (row_of s y).led q) (sym z) ∙ e) k)
+              subst (λ i. Has (group.Refusal s.views.view q i) t.ghost.ps) (sym (eqb-true r d.request same)) (t.own.0.decides.again q d why (ap (λ y. decision_of (row_of s y).led q) (sym z) ∙ e) k)
 
   at_tied : (t : Tied g w n s) → (h ≡ g → Has s.views.view t.ghost.shut → ⊥) → (o : Option Decision) → decision_of (led_of s h) q ≡ o → Tied g w n (request_at f s h q r phases x o)
   unfolding request_at request_after led_of
   at_tied t unshut None e = new_tied t unshut (λ z d k. absurd (let c : None ≡ Some d = sym e ∙ k in cc))
-  at_tied t unshut (Some d) e = by (nat_lt r d.r) (r == d.r) refl refl
+  at_tied t unshut (Some d) e = by (nat_lt r d.request) (r == d.request) refl refl
     where
-      by : (a b : Bool) → nat_lt r d.r ≡ a → (r == d.r) ≡ b → Tied g w n (request_after f s h q r phases x d a b)
+      by : (a b : Bool) → nat_lt r d.request ≡ a → (r == d.request) ≡ b → Tied g w n (request_after f s h q r phases x d a b)
       by true b i j = t
       by false true i j = again_tied t d e j
       by false false i j =
           new_tied t unshut (λ z y k. let c : Some d ≡ Some y = sym e ∙ k in
-          let same : d ≡ y = cc in subst (λ (y : Decision). y.r < r) same (newer_than r d.r i j))
+          let same : d ≡ y = cc in subst (λ (y : Decision). y.request < r) same (newer_than r d.request i j))
 
   -- a new group where 64 lists are held, in mode fixed: the view is shut to it
   module _ (t : Tied g w n s) (refused : is_group_refused s h ≡ true) (same : h ≡ g) where

@@ -45,7 +45,7 @@ sprinkled_on P Q f all more (With x xs ys p s) = With x xs ys (f x p) (sprinkled
 
 -- a provider hears what these records put
 pub record Hearing (bases : Bases) (tr : List Record) (x : Note) : Type 0 where
-  pub p : ProviderId
+  pub provider : ProviderId
   pub v : ViewId
   pub i : ℕ
   pub e : Entry
@@ -62,4 +62,4 @@ sprinkled_lives o nodes ps leads bases tr front all more (Same l xs ys s) e life
 sprinkled_lives o nodes ps leads bases tr front all more (With x xs ys h s) e life =
     let k : Life o nodes ps (front ++ ys) leads bases = sprinkled_lives o nodes ps leads bases tr front xs ys s e life in
     let q : kept (front ++ ys) ≡ tr = kept_append front ys ∙ ap (λ z. kept front ++ z) (kept_sprinkled (Hearing bases tr) xs ys s) ∙ sym (kept_append front xs) ∙ e in
-    Hears nodes ps (front ++ ys) (front ++ Noted x ∷ ys) leads bases h.p h.v h.i h.e k (subst (λ z. Has (Put h.p.node h.v h.i h.e) z) (sym q) h.put) h.s (h.state ∙ ap (λ z. state_of_list bases h.v (take (h.i + 1) (puts_of h.p.node h.v z))) (sym q)) (record { newer = front; older = ys; was = refl; is = ap (λ z. front ++ Noted z ∷ ys) h.is })
+    Hears nodes ps (front ++ ys) (front ++ Noted x ∷ ys) leads bases h.provider h.v h.i h.e k (subst (λ z. Has (Put h.provider.node h.v h.i h.e) z) (sym q) h.put) h.s (h.state ∙ ap (λ z. state_of_list bases h.v (take (h.i + 1) (puts_of h.provider.node h.v z))) (sym q)) (record { newer = front; older = ys; was = refl; is = ap (λ z. front ++ Noted z ∷ ys) h.is })

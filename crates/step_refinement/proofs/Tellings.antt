@@ -42,27 +42,27 @@ use Rattle.step_refinement.proofs.Turns.{turns_pushed, turns_sessions, told_turn
 -- ---- sessions
 
 -- what is asked by a provider goes with it
-pub not_there : (p : ProviderId) (qs : List Request) (q : Request) → Has q (filter (λ (z : Request). not (among (p ∷ []) z.p)) qs) → q.p ≡ p → ⊥
+pub not_there : (p : ProviderId) (qs : List Request) (q : Request) → Has q (filter (λ (z : Request). not (among (p ∷ []) z.provider)) qs) → q.provider ≡ p → ⊥
 not_there p qs q h e =
-    let k = (has_filter (λ (z : Request). not (among (p ∷ []) z.p)) q qs h).1 in
+    let k = (has_filter (λ (z : Request). not (among (p ∷ []) z.provider)) q qs h).1 in
     let f : not (among (p ∷ []) p) ≡ true = subst (λ z. not (among (p ∷ []) z) ≡ true) e k in
     let d : not (same_provider p p || false) ≡ true = f in
     let b : not (true || false) ≡ true = subst (λ z. not (z || false) ≡ true) (provider_self p) d in absurd (cc)
 
 -- a provider that is there is found
-pub provider_found : (s : SessionState) (y : Provider) → Has y s.providers → is_some (provider_of s y.p) ≡ true
+pub provider_found : (s : SessionState) (y : Provider) → Has y s.providers → is_some (provider_of s y.provider) ≡ true
 unfolding provider_of
-provider_found s y i = found (find (is_provider y.p) s.providers) refl
+provider_found s y i = found (find (is_provider y.provider) s.providers) refl
   where
-    found : (o : Option Provider) → find (is_provider y.p) s.providers ≡ o → is_some o ≡ true
-    found None e = absurd (find_none (is_provider y.p) s.providers y (ap is_none e) i (provider_self y.p))
+    found : (o : Option Provider) → find (is_provider y.provider) s.providers ≡ o → is_some o ≡ true
+    found None e = absurd (find_none (is_provider y.provider) s.providers y (ap is_none e) i (provider_self y.provider))
     found (Some z) e = refl
 
-later_told : (s : SessionState) (p : ProviderId) (y : Why) → Later s (told_of s p y) × ((q : Request) → Has q (told_of s p y).requests → q.p ≡ p → ⊥)
+later_told : (s : SessionState) (p : ProviderId) (y : Why) → Later s (told_of s p y) × ((q : Request) → Has q (told_of s p y).requests → q.provider ≡ p → ⊥)
 unfolding told_of without_providers
 later_told s p y = by (is_join_request (outstanding s p) || is_dissolved y)
   where
-    by : (b : Bool) → Later s (if b then without_providers s (p ∷ []) else record s { requests = filter (λ (q : Request). not (among (p ∷ []) q.p)) s.requests }) × ((q : Request) → Has q (if b then without_providers s (p ∷ []) else record s { requests = filter (λ (q : Request). not (among (p ∷ []) q.p)) s.requests }).requests → q.p ≡ p → ⊥)
+    by : (b : Bool) → Later s (if b then without_providers s (p ∷ []) else record s { requests = filter (λ (q : Request). not (among (p ∷ []) q.provider)) s.requests }) × ((q : Request) → Has q (if b then without_providers s (p ∷ []) else record s { requests = filter (λ (q : Request). not (among (p ∷ []) q.provider)) s.requests }).requests → q.provider ≡ p → ⊥)
     by true = (later_without s (p ∷ []), not_there p s.requests)
     by false = (
       record {
@@ -71,23 +71,23 @@ later_told s p y = by (is_join_request (outstanding s p) || is_dissolved y)
         level = refl;
         last = refl;
         providers = λ z h. (z, h, refl);
-        requests = λ q h. (has_filter (λ (q : Request). not (among (p ∷ []) q.p)) q s.requests h).0;
-        attended = λ a q h. a q (has_filter (λ (q : Request). not (among (p ∷ []) q.p)) q s.requests h).0;
+        requests = λ q h. (has_filter (λ (q : Request). not (among (p ∷ []) q.provider)) q s.requests h).0;
+        attended = λ a q h. a q (has_filter (λ (q : Request). not (among (p ∷ []) q.provider)) q s.requests h).0;
       },
       not_there p s.requests,
     )
 
 -- a telling of what is outstanding is taken
-pub later_telling : (s : SessionState) (p : ProviderId) (r : ℕ) (y : Why) → is_some (provider_of s p) ≡ true → (is_numbered r (outstanding s p) || is_dissolved y) ≡ true → Later s (take_telling s p r y) × ((q : Request) → Has q (take_telling s p r y).requests → q.p ≡ p → ⊥)
+pub later_telling : (s : SessionState) (p : ProviderId) (r : ℕ) (y : Why) → is_some (provider_of s p) ≡ true → (is_numbered r (outstanding s p) || is_dissolved y) ≡ true → Later s (take_telling s p r y) × ((q : Request) → Has q (take_telling s p r y).requests → q.provider ≡ p → ⊥)
 unfolding take_telling takes_telling
 later_telling s p r y there told =
-    let P : Bool → Type 0 = λ b. Later s (if b then told_of s p y else s) × ((q : Request) → Has q (if b then told_of s p y else s).requests → q.p ≡ p → ⊥) in
+    let P : Bool → Type 0 = λ b. Later s (if b then told_of s p y else s) × ((q : Request) → Has q (if b then told_of s p y else s).requests → q.provider ≡ p → ⊥) in
     let e : true ≡ (is_some (provider_of s p) && (is_numbered r (outstanding s p) || is_dissolved y)) = λ i. sym there i && sym told i in
     subst P e (later_told s p y)
 
 -- ---- a provider is told
 
-module _ (g : List ℕ) (w : Scene) (n : ℕ) (c : Core) (t : Tied g w n c) (p : ProviderId) (r : ℕ) (why : Why) (left : SessionState) (later : Later c.sessions left) (gone : (q : Request) → Has q left.requests → q.p ≡ p → ⊥) (turn : InTurn c.views.view (c.records ++ records_of w.before) left) (mine : p.node ≡ n) (own_inc : p.inc ≡ c.views.inc) (numbered : Numbered t.ghost p r) (reason : Has (group.Refusal c.views.view p r) t.ghost.ps ⊎ ((a : Proposal) → Has (group.Request c.views.view p r a) t.ghost.ps → ⊥)) where
+module _ (g : List ℕ) (w : Scene) (n : ℕ) (c : Core) (t : Tied g w n c) (p : ProviderId) (r : ℕ) (why : Why) (left : SessionState) (later : Later c.sessions left) (gone : (q : Request) → Has q left.requests → q.provider ≡ p → ⊥) (turn : InTurn c.views.view (c.records ++ records_of w.before) left) (mine : p.node ≡ n) (own_inc : p.inc ≡ c.views.inc) (numbered : Numbered t.ghost p r) (reason : Has (group.Refusal c.views.view p r) t.ghost.ps ⊎ ((a : Proposal) → Has (group.Request c.views.view p r a) t.ghost.ps → ⊥)) where
   abbrev x : Ghost
   x = t.ghost
 
@@ -124,8 +124,8 @@ module _ (g : List ℕ) (w : Scene) (n : ℕ) (c : Core) (t : Tied g w n c) (p :
       let o = t.own.0.owes.requests q (later.requests q h) same in
       record { node = o.node; inc_of = o.inc_of; asked = inr o.asked; unput = o.unput; untold = λ u a. untold u a }
     where
-      untold : (u : ViewId) → Has (Noted (Told q.p q.r u)) (Noted (Told p r (x.nodes n).view) ∷ x.all) → ⊥
-      untold u (inl z) = let e : q.p ≡ p = cc in gone q h e
+      untold : (u : ViewId) → Has (Noted (Told q.provider q.request u)) (Noted (Told p r (x.nodes n).view) ∷ x.all) → ⊥
+      untold u (inl z) = let e : q.provider ≡ p = cc in gone q h e
       untold u (inr a) = (t.own.0.owes.requests q (later.requests q h) same).untold u a
 
   node_left : NodeOf y g n (is_fixed c.config.mode) c.views (row_of c g) c.groups left c.names
@@ -174,28 +174,28 @@ told_views s p r why = by (is_numbered r (outstanding s.sessions p))
 
 module _ (g : List ℕ) (w : Scene) (n : ℕ) where
   -- a telling, where there is a reason if the request is outstanding
-  pub tell_tied : (s : Core) (p : ProviderId) (r : ℕ) (why : Why) (t : Tied g w n s) → ((q : Request) → Has q s.sessions.requests → q.p ≡ p → q.r ≡ r → Has (group.Refusal s.views.view p r) t.ghost.ps ⊎ ((a : Proposal) → Has (group.Request s.views.view p r a) t.ghost.ps → ⊥)) → (u : Tied g w n (take_tell s p r why)) × (u.ghost.asked ≡ t.ghost.asked)
+  pub tell_tied : (s : Core) (p : ProviderId) (r : ℕ) (why : Why) (t : Tied g w n s) → ((q : Request) → Has q s.sessions.requests → q.provider ≡ p → q.request ≡ r → Has (group.Refusal s.views.view p r) t.ghost.ps ⊎ ((a : Proposal) → Has (group.Request s.views.view p r a) t.ghost.ps → ⊥)) → (u : Tied g w n (take_tell s p r why)) × (u.ghost.asked ≡ t.ghost.asked)
   unfolding take_tell told_if outstanding
   tell_tied s p r why t reason = by (find (is_asked_by p) s.sessions.requests) refl
     where
-      one : (q : Request) → find (is_asked_by p) s.sessions.requests ≡ Some q → (q.r == r) ≡ true → (u : Tied g w n (recorded (with_sessions s (take_telling s.sessions p r why)) (happened.Told p r why))) × (u.ghost.asked ≡ t.ghost.asked)
+      one : (q : Request) → find (is_asked_by p) s.sessions.requests ≡ Some q → (q.request == r) ≡ true → (u : Tied g w n (recorded (with_sessions s (take_telling s.sessions p r why)) (happened.Told p r why))) × (u.ghost.asked ≡ t.ghost.asked)
       one q e k =
           let i = find_has (is_asked_by p) s.sessions.requests q e in
-          let same : q.p ≡ p = provider_same q.p p i.1 in
+          let same : q.provider ≡ p = provider_same q.provider p i.1 in
           let own = t.own.0.owes.own q i.0 in
           let y = t.own.0.owes.attended q i.0 in
           let there : is_some (provider_of s.sessions p) ≡ true = ap (λ z. is_some (provider_of s.sessions z)) (sym (y.2 ∙ same)) ∙ provider_found s.sessions y.0 y.1 in
           let numbered : (is_numbered r (outstanding s.sessions p) || is_dissolved why) ≡ true = ap (λ o. is_numbered r o || is_dissolved why) e ∙ ap (λ b. b || is_dissolved why) k in
           let l = later_telling s.sessions p r why there numbered in
-          let u = told_tied g w n s t p r why (take_telling s.sessions p r why) l.0 l.1 (told_turn s.views.view (s.records ++ records_of w.before) s.sessions p r why t.turns.own) (ap (λ (z : ProviderId). z.node) (sym same) ∙ own.0) (ap (λ (z : ProviderId). z.inc) (sym same) ∙ own.1) (inr (q.group, subst (λ (z : ProviderId × ℕ). Has (asking z.0 z.1 q.group) t.ghost.asked) (λ i. (same i, eqb-true q.r r k i)) own.2)) (reason q i.0 same (eqb-true q.r r k)) in (u.0, u.2)
+          let u = told_tied g w n s t p r why (take_telling s.sessions p r why) l.0 l.1 (told_turn s.views.view (s.records ++ records_of w.before) s.sessions p r why t.turns.own) (ap (λ (z : ProviderId). z.node) (sym same) ∙ own.0) (ap (λ (z : ProviderId). z.inc) (sym same) ∙ own.1) (inr (q.group, subst (λ (z : ProviderId × ℕ). Has (asking z.0 z.1 q.group) t.ghost.asked) (λ i. (same i, eqb-true q.request r k i)) own.2)) (reason q i.0 same (eqb-true q.request r k)) in (u.0, u.2)
 
-      at : (q : Request) → find (is_asked_by p) s.sessions.requests ≡ Some q → (b : Bool) → (q.r == r) ≡ b → (u : Tied g w n (told_if s p r why b)) × (u.ghost.asked ≡ t.ghost.asked)
+      at : (q : Request) → find (is_asked_by p) s.sessions.requests ≡ Some q → (b : Bool) → (q.request == r) ≡ b → (u : Tied g w n (told_if s p r why b)) × (u.ghost.asked ≡ t.ghost.asked)
       at q e true k = one q e k
       at q e false k = (t, refl)
 
       by : (o : Option Request) → find (is_asked_by p) s.sessions.requests ≡ o → (u : Tied g w n (told_if s p r why (is_numbered r o))) × (u.ghost.asked ≡ t.ghost.asked)
       by None e = (t, refl)
-      by (Some q) e = at q e (q.r == r) refl
+      by (Some q) e = at q e (q.request == r) refl
 
 -- TELL
 pub tell_is_tied : (v : ViewId) (h : List ℕ) (q : ProviderId) (r : ℕ) (why : Why) (g : List ℕ) (w : Scene) (n : ℕ) (f : Answering) (s : Core) (p : Packet) → p.body ≡ body.Tell v h q r why → Has p w.sent → Tied g w n s → Tied g w n (take_body f s p (body.Tell v h q r why))

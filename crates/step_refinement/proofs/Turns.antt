@@ -39,7 +39,7 @@ put_on rs ts more p v u le h =
 
 pub turn_on : (rs ts : List Happened) → ((r : Happened) → Has r rs → Has r ts) → (v u : ViewId) → Le v u → (t : SessionState) → InTurn v rs t → InTurn u ts t
 turn_on rs ts more v u le t h =
-    record { single = h.single; joined = λ y i. ⊎_elim (λ (a : (q : Request) × Has q t.requests × (q.p ≡ y.p) × (q.r ≡ y.p.join) × (is_join q.proposal ≡ true)). inl a) (λ (a : JoinPut rs y.p v). inr (put_on rs ts more y.p v u le a)) (h.joined y i); numbered = h.numbered; owner = h.owner }
+    record { single = h.single; joined = λ y i. ⊎_elim (λ (a : (q : Request) × Has q t.requests × (q.provider ≡ y.provider) × (q.request ≡ y.provider.join) × (is_join q.proposal ≡ true)). inl a) (λ (a : JoinPut rs y.provider v). inr (put_on rs ts more y.provider v u le a)) (h.joined y i); numbered = h.numbered; owner = h.owner }
 
 pub sent_on_more : (rs ts : List Happened) → ((r : Happened) → Has r rs → Has r ts) → (ps qs : List group.Packet) → ((v : ViewId) (p : ProviderId) (r : ℕ) (y : Proposal) → Has (group.Request v p r y) qs → Has (group.Request v p r y) ps) → SentInTurn rs ps → SentInTurn ts qs
 sent_on_more rs ts more ps qs old h v p r y i =
@@ -90,28 +90,28 @@ module _ (w : Scene) (n : ℕ) (v : ViewId) (rs : List Happened) (t : SessionSta
 -- nothing comes in, and a request ends with its provider, or with what is out
 pub record Fewer (s t : SessionState) (out : List (ProviderId × ℕ)) : Type 0 where
   pub last : t.last_request ≡ s.last_request
-  pub providers : (y : Provider) → Has y t.providers → (z : Provider) × Has z s.providers × (y.p ≡ z.p) × (y.client ≡ z.client)
+  pub providers : (y : Provider) → Has y t.providers → (z : Provider) × Has z s.providers × (y.provider ≡ z.provider) × (y.client ≡ z.client)
   pub requests : (q : Request) → Has q t.requests → Has q s.requests
-  pub stays : (y : Provider) → Has y t.providers → (q : Request) → Has q s.requests → q.p ≡ y.p → Has q t.requests ⊎ Has {A = ProviderId × ℕ} (q.p, q.r) out
+  pub stays : (y : Provider) → Has y t.providers → (q : Request) → Has q s.requests → q.provider ≡ y.provider → Has q t.requests ⊎ Has {A = ProviderId × ℕ} (q.provider, q.request) out
 
-pub fewer_turn : (rs ts : List Happened) → ((r : Happened) → Has r rs → Has r ts) → (v : ViewId) (s t : SessionState) (out : List (ProviderId × ℕ)) → Fewer s t out → ((q : Request) → Has q s.requests → q.r ≡ q.p.join → Has {A = ProviderId × ℕ} (q.p, q.r) out → JoinPut ts q.p v) → InTurn v rs s → InTurn v ts t
+pub fewer_turn : (rs ts : List Happened) → ((r : Happened) → Has r rs → Has r ts) → (v : ViewId) (s t : SessionState) (out : List (ProviderId × ℕ)) → Fewer s t out → ((q : Request) → Has q s.requests → q.request ≡ q.provider.join → Has {A = ProviderId × ℕ} (q.provider, q.request) out → JoinPut ts q.provider v) → InTurn v rs s → InTurn v ts t
 fewer_turn rs ts more v s t out f ended h =
     record {
       single = λ a b i j e. h.single a b (f.requests a i) (f.requests b j) e;
       joined = λ y i. let z = f.providers y i in joined y i z.0 z.2 (h.joined z.0 z.1);
       numbered = λ y i. let z = f.providers y i in
           let l = h.numbered z.0 z.1 in
-          let e : y.p.join ≡ z.0.p.join = ap (λ (p : ProviderId). p.join) z.2 in
+          let e : y.provider.join ≡ z.0.provider.join = ap (λ (p : ProviderId). p.join) z.2 in
           let k = f.last in omega arith;
       owner = λ a b i j e. let x = f.providers a i in
           let y = f.providers b j in x.3 ∙ h.owner x.0 y.0 x.1 y.1 (sym x.2 ∙ e ∙ y.2) ∙ sym y.3;
     }
   where
-    joined : (y : Provider) → Has y t.providers → (z : Provider) → y.p ≡ z.p → ((q : Request) × Has q s.requests × (q.p ≡ z.p) × (q.r ≡ z.p.join) × (is_join q.proposal ≡ true)) ⊎ JoinPut rs z.p v → ((q : Request) × Has q t.requests × (q.p ≡ y.p) × (q.r ≡ y.p.join) × (is_join q.proposal ≡ true)) ⊎ JoinPut ts y.p v
-    joined y i z e (inr a) = inr (subst (λ p. JoinPut ts p v) (sym e) (put_on rs ts more z.p v v (lt_refl v) a))
+    joined : (y : Provider) → Has y t.providers → (z : Provider) → y.provider ≡ z.provider → ((q : Request) × Has q s.requests × (q.provider ≡ z.provider) × (q.request ≡ z.provider.join) × (is_join q.proposal ≡ true)) ⊎ JoinPut rs z.provider v → ((q : Request) × Has q t.requests × (q.provider ≡ y.provider) × (q.request ≡ y.provider.join) × (is_join q.proposal ≡ true)) ⊎ JoinPut ts y.provider v
+    joined y i z e (inr a) = inr (subst (λ p. JoinPut ts p v) (sym e) (put_on rs ts more z.provider v v (lt_refl v) a))
     joined y i z e (inl a) = by (f.stays y i a.0 a.1 (a.2 ∙ sym e))
       where
-        by : Has a.0 t.requests ⊎ Has {A = ProviderId × ℕ} (a.0.p, a.0.r) out → ((q : Request) × Has q t.requests × (q.p ≡ y.p) × (q.r ≡ y.p.join) × (is_join q.proposal ≡ true)) ⊎ JoinPut ts y.p v
+        by : Has a.0 t.requests ⊎ Has {A = ProviderId × ℕ} (a.0.provider, a.0.request) out → ((q : Request) × Has q t.requests × (q.provider ≡ y.provider) × (q.request ≡ y.provider.join) × (is_join q.proposal ≡ true)) ⊎ JoinPut ts y.provider v
         by (inl k) = inl (a.0, k, a.2 ∙ sym e, a.3 ∙ ap (λ (p : ProviderId). p.join) (sym e), a.4)
         by (inr k) =
             inr (subst (λ p. JoinPut ts p v) (a.2 ∙ sym e) (ended a.0 a.1 (a.3 ∙ ap (λ (p : ProviderId). p.join) (sym a.2)) k))
@@ -128,25 +128,25 @@ fewer_then s t u out a b =
           let j = a.providers k.0 k.1 in (j.0, j.1, k.2 ∙ j.2, k.3 ∙ j.3);
       requests = λ q h. a.requests q (b.requests q h);
       stays = λ y i q h e. let k = b.providers y i in
-          ⊎_elim (λ (j : Has q t.requests). b.stays y i q j e) (λ (j : Has {A = ProviderId × ℕ} (q.p, q.r) out). inr j) (a.stays k.0 k.1 q h (e ∙ k.2));
+          ⊎_elim (λ (j : Has q t.requests). b.stays y i q j e) (λ (j : Has {A = ProviderId × ℕ} (q.provider, q.request) out). inr j) (a.stays k.0 k.1 q h (e ∙ k.2));
     }
 
 fewer_fold : {A : Type 0} (f : SessionState → A → SessionState) (out : List (ProviderId × ℕ)) → ((s : SessionState) (x : A) → Fewer s (f s x) out) → (xs : List A) (s : SessionState) → Fewer s (fold f s xs) out
 fewer_fold f out step [] s = fewer_same s s out refl refl refl
 fewer_fold f out step (x ∷ xs) s = fewer_then s (f s x) (fold f (f s x) xs) out (step s x) (fewer_fold f out step xs (f s x))
 
-edited : (p : ProviderId) (f : Provider → Provider) → ((x : Provider) → ((f x).p ≡ x.p) × ((f x).client ≡ x.client)) → (xs : List Provider) (y : Provider) → Has y (edit_where (is_provider p) f xs) → (z : Provider) × Has z xs × (y.p ≡ z.p) × (y.client ≡ z.client)
+edited : (p : ProviderId) (f : Provider → Provider) → ((x : Provider) → ((f x).provider ≡ x.provider) × ((f x).client ≡ x.client)) → (xs : List Provider) (y : Provider) → Has y (edit_where (is_provider p) f xs) → (z : Provider) × Has z xs × (y.provider ≡ z.provider) × (y.client ≡ z.client)
 edited p f keeps [] y h = absurd h
 edited p f keeps (x ∷ xs) y h = by (is_provider p x) h (edited p f keeps xs y)
   where
-    by : (b : Bool) → Has y (if b then f x ∷ xs else x ∷ edit_where (is_provider p) f xs) → (Has y (edit_where (is_provider p) f xs) → (z : Provider) × Has z xs × (y.p ≡ z.p) × (y.client ≡ z.client)) → (z : Provider) × Has z (x ∷ xs) × (y.p ≡ z.p) × (y.client ≡ z.client)
-    by true (inl e) k = (x, inl refl, ap (λ (w : Provider). w.p) e ∙ (keeps x).0, ap (λ (w : Provider). w.client) e ∙ (keeps x).1)
+    by : (b : Bool) → Has y (if b then f x ∷ xs else x ∷ edit_where (is_provider p) f xs) → (Has y (edit_where (is_provider p) f xs) → (z : Provider) × Has z xs × (y.provider ≡ z.provider) × (y.client ≡ z.client)) → (z : Provider) × Has z (x ∷ xs) × (y.provider ≡ z.provider) × (y.client ≡ z.client)
+    by true (inl e) k = (x, inl refl, ap (λ (w : Provider). w.provider) e ∙ (keeps x).0, ap (λ (w : Provider). w.client) e ∙ (keeps x).1)
     by true (inr i) k = (y, inr i, refl, refl)
-    by false (inl e) k = (x, inl refl, ap (λ (w : Provider). w.p) e, ap (λ (w : Provider). w.client) e)
+    by false (inl e) k = (x, inl refl, ap (λ (w : Provider). w.provider) e, ap (λ (w : Provider). w.client) e)
     by false (inr i) k = let r = k i in (r.0, inr r.1, r.2, r.3)
 
 module _ (out : List (ProviderId × ℕ)) where
-  fewer_provider : (s : SessionState) (p : ProviderId) (f : Provider → Provider) → ((x : Provider) → ((f x).p ≡ x.p) × ((f x).client ≡ x.client)) → Fewer s (with_provider s p f) out
+  fewer_provider : (s : SessionState) (p : ProviderId) (f : Provider → Provider) → ((x : Provider) → ((f x).provider ≡ x.provider) × ((f x).client ≡ x.client)) → Fewer s (with_provider s p f) out
   unfolding with_provider
   fewer_provider s p f keeps =
       record { last = refl; providers = λ y h. edited p f keeps s.providers y h; requests = λ q h. h; stays = λ y i q h e. inl h }
@@ -165,7 +165,7 @@ module _ (out : List (ProviderId × ℕ)) where
   fewer_parts s ps =
       fewer_fold (λ t p. with_provider t p taking_part) out (λ t p. fewer_provider t p taking_part (λ x. (refl, refl))) ps s
 
-  opened_keeps : (e : Entry) (after : GroupState) (x : Provider) → ((opened_after e after x).p ≡ x.p) × ((opened_after e after x).client ≡ x.client)
+  opened_keeps : (e : Entry) (after : GroupState) (x : Provider) → ((opened_after e after x).provider ≡ x.provider) × ((opened_after e after x).client ≡ x.client)
   unfolding opened_after
   opened_keeps (Once x) after y = (refl, refl)
   opened_keeps (Begin x) after y = (refl, refl)
@@ -188,9 +188,9 @@ module _ (out : List (ProviderId × ℕ)) where
   fewer_without s ps =
       record {
         last = refl;
-        providers = λ y h. (y, (has_filter (λ x. not (among ps x.p)) y s.providers h).0, refl, refl);
-        requests = λ q h. (has_filter (λ q. not (among ps q.p)) q s.requests h).0;
-        stays = λ y i q h e. inl (filter_has (λ q. not (among ps q.p)) q s.requests h (ap (λ z. not (among ps z)) e ∙ (has_filter (λ x. not (among ps x.p)) y s.providers i).1));
+        providers = λ y h. (y, (has_filter (λ x. not (among ps x.provider)) y s.providers h).0, refl, refl);
+        requests = λ q h. (has_filter (λ q. not (among ps q.provider)) q s.requests h).0;
+        stays = λ y i q h e. inl (filter_has (λ q. not (among ps q.provider)) q s.requests h (ap (λ z. not (among ps z)) e ∙ (has_filter (λ x. not (among ps x.provider)) y s.providers i).1));
       }
 
   fewer_ended : (s : SessionState) (p : ProviderId) (r : ℕ) → Has {A = ProviderId × ℕ} (p, r) out → Fewer s (end_request s p r) out
@@ -203,11 +203,11 @@ module _ (out : List (ProviderId × ℕ)) where
         stays = λ y i q h e. by q h (is_request p r q) refl;
       }
     where
-      by : (q : Request) → Has q s.requests → (b : Bool) → is_request p r q ≡ b → Has q (filter (λ q. not (is_request p r q)) s.requests) ⊎ Has {A = ProviderId × ℕ} (q.p, q.r) out
+      by : (q : Request) → Has q s.requests → (b : Bool) → is_request p r q ≡ b → Has q (filter (λ q. not (is_request p r q)) s.requests) ⊎ Has {A = ProviderId × ℕ} (q.provider, q.request) out
       by q h false k = inl (filter_has (λ q. not (is_request p r q)) q s.requests h (ap not k))
       by q h true k =
-          let a = and_parts (same_provider q.p p) (q.r == r) k in
-          inr (subst (λ (z : ProviderId × ℕ). Has {A = ProviderId × ℕ} z out) (λ i. (sym (provider_same q.p p a.0) i, sym (eqb-true q.r r a.1) i)) there)
+          let a = and_parts (same_provider q.provider p) (q.request == r) k in
+          inr (subst (λ (z : ProviderId × ℕ). Has {A = ProviderId × ℕ} z out) (λ i. (sym (provider_same q.provider p a.0) i, sym (eqb-true q.request r a.1) i)) there)
 
   fewer_joins : (ps : List ProviderId) (s : SessionState) → ((p : ProviderId) → Has p ps → Has {A = ProviderId × ℕ} (p, p.join) out) → Fewer s (fold (λ t (p : ProviderId). end_request t p p.join) s ps) out
   fewer_joins [] s there = fewer_same s s out refl refl refl
@@ -264,33 +264,33 @@ told_turn v rs s p r y h = by (takes_telling s p r y) (is_join_request (outstand
     drop = fewer_turn rs rs (λ x i. i) v s (without_providers s (p ∷ [])) [] (fewer_without [] s (p ∷ [])) (λ q i e j. absurd j) h
 
     -- its join is what is outstanding
-    asked_join : (q : Request) → Has q s.requests → q.p ≡ p → is_join q.proposal ≡ true → is_join_request (outstanding s p) ≡ true
+    asked_join : (q : Request) → Has q s.requests → q.provider ≡ p → is_join q.proposal ≡ true → is_join_request (outstanding s p) ≡ true
     asked_join q i e j = found (find (is_asked_by p) s.requests) refl
       where
         found : (o : Option Request) → find (is_asked_by p) s.requests ≡ o → is_join_request o ≡ true
         found None k = absurd (find_none (is_asked_by p) s.requests q (ap is_none k) i (ap (λ z. same_provider z p) e ∙ provider_self p))
         found (Some z) k =
             let a = find_has (is_asked_by p) s.requests z k in
-            let same : z ≡ q = h.single z q a.0 i (provider_same z.p p a.1 ∙ sym e) in ap (λ (x : Request). is_join x.proposal) same ∙ j
+            let same : z ≡ q = h.single z q a.0 i (provider_same z.provider p a.1 ∙ sym e) in ap (λ (x : Request). is_join x.proposal) same ∙ j
 
-    end : is_join_request (outstanding s p) ≡ false → InTurn v rs (record s { requests = filter (λ (q : Request). not (among (p ∷ []) q.p)) s.requests })
+    end : is_join_request (outstanding s p) ≡ false → InTurn v rs (record s { requests = filter (λ (q : Request). not (among (p ∷ []) q.provider)) s.requests })
     end none =
         record {
-          single = λ a b i j e. h.single a b (has_filter (λ (q : Request). not (among (p ∷ []) q.p)) a s.requests i).0 (has_filter (λ (q : Request). not (among (p ∷ []) q.p)) b s.requests j).0 e;
+          single = λ a b i j e. h.single a b (has_filter (λ (q : Request). not (among (p ∷ []) q.provider)) a s.requests i).0 (has_filter (λ (q : Request). not (among (p ∷ []) q.provider)) b s.requests j).0 e;
           joined = λ z i. joined z (h.joined z i);
           numbered = h.numbered;
           owner = h.owner;
         }
       where
-        joined : (z : Provider) → ((q : Request) × Has q s.requests × (q.p ≡ z.p) × (q.r ≡ z.p.join) × (is_join q.proposal ≡ true)) ⊎ JoinPut rs z.p v → ((q : Request) × Has q (filter (λ (q : Request). not (among (p ∷ []) q.p)) s.requests) × (q.p ≡ z.p) × (q.r ≡ z.p.join) × (is_join q.proposal ≡ true)) ⊎ JoinPut rs z.p v
+        joined : (z : Provider) → ((q : Request) × Has q s.requests × (q.provider ≡ z.provider) × (q.request ≡ z.provider.join) × (is_join q.proposal ≡ true)) ⊎ JoinPut rs z.provider v → ((q : Request) × Has q (filter (λ (q : Request). not (among (p ∷ []) q.provider)) s.requests) × (q.provider ≡ z.provider) × (q.request ≡ z.provider.join) × (is_join q.proposal ≡ true)) ⊎ JoinPut rs z.provider v
         joined z (inr a) = inr a
-        joined z (inl a) = at (same_provider p a.0.p) refl
+        joined z (inl a) = at (same_provider p a.0.provider) refl
           where
-            at : (b : Bool) → same_provider p a.0.p ≡ b → ((q : Request) × Has q (filter (λ (q : Request). not (among (p ∷ []) q.p)) s.requests) × (q.p ≡ z.p) × (q.r ≡ z.p.join) × (is_join q.proposal ≡ true)) ⊎ JoinPut rs z.p v
-            at true k = absurd (let j = asked_join a.0 a.1 (sym (provider_same p a.0.p k)) a.4 in cc)
-            at false k = inl (a.0, filter_has (λ (q : Request). not (among (p ∷ []) q.p)) a.0 s.requests a.1 (ap (λ b. not (b || false)) k), a.2, a.3, a.4)
+            at : (b : Bool) → same_provider p a.0.provider ≡ b → ((q : Request) × Has q (filter (λ (q : Request). not (among (p ∷ []) q.provider)) s.requests) × (q.provider ≡ z.provider) × (q.request ≡ z.provider.join) × (is_join q.proposal ≡ true)) ⊎ JoinPut rs z.provider v
+            at true k = absurd (let j = asked_join a.0 a.1 (sym (provider_same p a.0.provider k)) a.4 in cc)
+            at false k = inl (a.0, filter_has (λ (q : Request). not (among (p ∷ []) q.provider)) a.0 s.requests a.1 (ap (λ b. not (b || false)) k), a.2, a.3, a.4)
 
-    by : (a b c : Bool) → is_join_request (outstanding s p) ≡ b → InTurn v rs (if a then (if b || c then without_providers s (p ∷ []) else record s { requests = filter (λ (q : Request). not (among (p ∷ []) q.p)) s.requests }) else s)
+    by : (a b c : Bool) → is_join_request (outstanding s p) ≡ b → InTurn v rs (if a then (if b || c then without_providers s (p ∷ []) else record s { requests = filter (λ (q : Request). not (among (p ∷ []) q.provider)) s.requests }) else s)
     by false b c k = h
     by true true c k = drop
     by true false true k = drop
@@ -298,11 +298,11 @@ told_turn v rs s p r y h = by (takes_telling s p r y) (is_join_request (outstand
 
 -- ---- an entry is put
 
-pub put_turn : (bs rs : List Happened) (v : ViewId) (s t : SessionState) (me : ℕ) (g : List ℕ) (k : ℕ) (e : Entry) → ((q : Request) → Has q s.requests → q.p.node ≡ me) → Fewer s t (carried e) → InTurn v (rs ++ bs) s → InTurn v ((rs ++ happened.Put me v g k e ∷ []) ++ bs) t
+pub put_turn : (bs rs : List Happened) (v : ViewId) (s t : SessionState) (me : ℕ) (g : List ℕ) (k : ℕ) (e : Entry) → ((q : Request) → Has q s.requests → q.provider.node ≡ me) → Fewer s t (carried e) → InTurn v (rs ++ bs) s → InTurn v ((rs ++ happened.Put me v g k e ∷ []) ++ bs) t
 put_turn bs rs v s t me g k e mine f h =
     fewer_turn (rs ++ bs) ((rs ++ happened.Put me v g k e ∷ []) ++ bs) (λ x i. has_pushed_on (happened.Put me v g k e) x rs bs i) v s t (carried e) f (λ q i j c. ended q i j c) h
   where
-    ended : (q : Request) → Has q s.requests → q.r ≡ q.p.join → Has {A = ProviderId × ℕ} (q.p, q.r) (carried e) → JoinPut ((rs ++ happened.Put me v g k e ∷ []) ++ bs) q.p v
+    ended : (q : Request) → Has q s.requests → q.request ≡ q.provider.join → Has {A = ProviderId × ℕ} (q.provider, q.request) (carried e) → JoinPut ((rs ++ happened.Put me v g k e ∷ []) ++ bs) q.provider v
     ended q i j c =
         record {
           at_view = v;
@@ -310,7 +310,7 @@ put_turn bs rs v s t me g k e mine f h =
           place = k;
           entry = e;
           put = subst (λ m. Has (happened.Put m v g k e) ((rs ++ happened.Put me v g k e ∷ []) ++ bs)) (sym (mine q i)) (has_last (happened.Put me v g k e) rs bs);
-          joins = subst (λ z. Has {A = ProviderId × ℕ} (q.p, z) (carried e)) j c;
+          joins = subst (λ z. Has {A = ProviderId × ℕ} (q.provider, z) (carried e)) j c;
           by_then = lt_refl v;
         }
 
@@ -326,12 +326,12 @@ idle_turn v rs t a b =
 
 -- ---- a request is asked
 
-asked_more : {rs : List Happened} {v : ViewId} (s : SessionState) (q : Request) (y : Provider) → ((a : Request) × Has a s.requests × (a.p ≡ y.p) × (a.r ≡ y.p.join) × (is_join a.proposal ≡ true)) ⊎ JoinPut rs y.p v → ((a : Request) × Has a (s.requests ++ q ∷ []) × (a.p ≡ y.p) × (a.r ≡ y.p.join) × (is_join a.proposal ≡ true)) ⊎ JoinPut rs y.p v
+asked_more : {rs : List Happened} {v : ViewId} (s : SessionState) (q : Request) (y : Provider) → ((a : Request) × Has a s.requests × (a.provider ≡ y.provider) × (a.request ≡ y.provider.join) × (is_join a.proposal ≡ true)) ⊎ JoinPut rs y.provider v → ((a : Request) × Has a (s.requests ++ q ∷ []) × (a.provider ≡ y.provider) × (a.request ≡ y.provider.join) × (is_join a.proposal ≡ true)) ⊎ JoinPut rs y.provider v
 asked_more s q y (inl a) = inl (a.0, append_has_left a.0 s.requests (q ∷ []) a.1, a.2, a.3, a.4)
 asked_more s q y (inr a) = inr a
 
 -- a new provider asks to join
-pub joined_turn : (v : ViewId) (rs : List Happened) (s : SessionState) (x : Provider) (q : Request) → Attended s → InTurn v rs s → x.p.join ≡ s.last_request + 1 → q.p ≡ x.p → q.r ≡ x.p.join → is_join q.proposal ≡ true → InTurn v rs (record s { last_request = s.last_request + 1; providers = s.providers ++ x ∷ []; requests = s.requests ++ q ∷ [] })
+pub joined_turn : (v : ViewId) (rs : List Happened) (s : SessionState) (x : Provider) (q : Request) → Attended s → InTurn v rs s → x.provider.join ≡ s.last_request + 1 → q.provider ≡ x.provider → q.request ≡ x.provider.join → is_join q.proposal ≡ true → InTurn v rs (record s { last_request = s.last_request + 1; providers = s.providers ++ x ∷ []; requests = s.requests ++ q ∷ [] })
 joined_turn v rs s x q attended h new same number joins =
     record {
       single = λ a b i j e. single a b (has_append a s.requests (q ∷ []) i) (has_append b s.requests (q ∷ []) j) e;
@@ -340,43 +340,43 @@ joined_turn v rs s x q attended h new same number joins =
       owner = λ a b i j e. owner a b (has_append a s.providers (x ∷ []) i) (has_append b s.providers (x ∷ []) j) e;
     }
   where
-    other : (y : Provider) → Has y s.providers → y.p ≡ x.p → ⊥
+    other : (y : Provider) → Has y s.providers → y.provider ≡ x.provider → ⊥
     other y i e =
         let l = h.numbered y i in
-        let k : y.p.join ≡ x.p.join = ap (λ (p : ProviderId). p.join) e in omega arith
+        let k : y.provider.join ≡ x.provider.join = ap (λ (p : ProviderId). p.join) e in omega arith
 
-    fresh : (a : Request) → Has a s.requests → a.p ≡ q.p → ⊥
+    fresh : (a : Request) → Has a s.requests → a.provider ≡ q.provider → ⊥
     fresh a i e = let y = attended a i in other y.0 y.1 (y.2 ∙ e ∙ same)
 
-    single : (a b : Request) → Has a s.requests ⊎ Has a (q ∷ []) → Has b s.requests ⊎ Has b (q ∷ []) → a.p ≡ b.p → a ≡ b
+    single : (a b : Request) → Has a s.requests ⊎ Has a (q ∷ []) → Has b s.requests ⊎ Has b (q ∷ []) → a.provider ≡ b.provider → a ≡ b
     single a b (inl i) (inl j) e = h.single a b i j e
     single a b (inr (inl i)) (inr (inl j)) e = i ∙ sym j
-    single a b (inl i) (inr (inl j)) e = absurd (fresh a i (e ∙ ap (λ (z : Request). z.p) j))
-    single a b (inr (inl i)) (inl j) e = absurd (fresh b j (sym e ∙ ap (λ (z : Request). z.p) i))
+    single a b (inl i) (inr (inl j)) e = absurd (fresh a i (e ∙ ap (λ (z : Request). z.provider) j))
+    single a b (inr (inl i)) (inl j) e = absurd (fresh b j (sym e ∙ ap (λ (z : Request). z.provider) i))
     single a b (inr (inr z)) j e = absurd z
     single a b i (inr (inr z)) e = absurd z
 
-    joined : (y : Provider) → Has y s.providers ⊎ Has y (x ∷ []) → ((a : Request) × Has a (s.requests ++ q ∷ []) × (a.p ≡ y.p) × (a.r ≡ y.p.join) × (is_join a.proposal ≡ true)) ⊎ JoinPut rs y.p v
+    joined : (y : Provider) → Has y s.providers ⊎ Has y (x ∷ []) → ((a : Request) × Has a (s.requests ++ q ∷ []) × (a.provider ≡ y.provider) × (a.request ≡ y.provider.join) × (is_join a.proposal ≡ true)) ⊎ JoinPut rs y.provider v
     joined y (inr (inr z)) = absurd z
     joined y (inr (inl e)) =
-        inl (q, append_has_right q s.requests (q ∷ []) (inl refl), same ∙ ap (λ (z : Provider). z.p) (sym e), number ∙ ap (λ (z : Provider). z.p.join) (sym e), joins)
+        inl (q, append_has_right q s.requests (q ∷ []) (inl refl), same ∙ ap (λ (z : Provider). z.provider) (sym e), number ∙ ap (λ (z : Provider). z.provider.join) (sym e), joins)
     joined y (inl i) = asked_more s q y (h.joined y i)
 
-    numbered : (y : Provider) → Has y s.providers ⊎ Has y (x ∷ []) → y.p.join ≤ s.last_request + 1
+    numbered : (y : Provider) → Has y s.providers ⊎ Has y (x ∷ []) → y.provider.join ≤ s.last_request + 1
     numbered y (inl i) = let l = h.numbered y i in omega arith
-    numbered y (inr (inl e)) = let k : y.p.join ≡ x.p.join = ap (λ (z : Provider). z.p.join) e in omega arith
+    numbered y (inr (inl e)) = let k : y.provider.join ≡ x.provider.join = ap (λ (z : Provider). z.provider.join) e in omega arith
     numbered y (inr (inr z)) = absurd z
 
-    owner : (a b : Provider) → Has a s.providers ⊎ Has a (x ∷ []) → Has b s.providers ⊎ Has b (x ∷ []) → a.p ≡ b.p → a.client ≡ b.client
+    owner : (a b : Provider) → Has a s.providers ⊎ Has a (x ∷ []) → Has b s.providers ⊎ Has b (x ∷ []) → a.provider ≡ b.provider → a.client ≡ b.client
     owner a b (inl i) (inl j) e = h.owner a b i j e
     owner a b (inr (inl i)) (inr (inl j)) e = ap (λ (z : Provider). z.client) (i ∙ sym j)
-    owner a b (inl i) (inr (inl j)) e = absurd (other a i (e ∙ ap (λ (z : Provider). z.p) j))
-    owner a b (inr (inl i)) (inl j) e = absurd (other b j (sym e ∙ ap (λ (z : Provider). z.p) i))
+    owner a b (inl i) (inr (inl j)) e = absurd (other a i (e ∙ ap (λ (z : Provider). z.provider) j))
+    owner a b (inr (inl i)) (inl j) e = absurd (other b j (sym e ∙ ap (λ (z : Provider). z.provider) i))
     owner a b (inr (inr z)) j e = absurd z
     owner a b i (inr (inr z)) e = absurd z
 
 -- a provider without an outstanding request asks
-pub asked_turn : (v : ViewId) (rs : List Happened) (s : SessionState) (q : Request) → InTurn v rs s → outstanding s q.p ≡ None → InTurn v rs (record s { last_request = s.last_request + 1; requests = s.requests ++ q ∷ [] })
+pub asked_turn : (v : ViewId) (rs : List Happened) (s : SessionState) (q : Request) → InTurn v rs s → outstanding s q.provider ≡ None → InTurn v rs (record s { last_request = s.last_request + 1; requests = s.requests ++ q ∷ [] })
 unfolding outstanding
 asked_turn v rs s q h free =
     record {
@@ -386,13 +386,13 @@ asked_turn v rs s q h free =
       owner = h.owner;
     }
   where
-    fresh : (a : Request) → Has a s.requests → a.p ≡ q.p → ⊥
-    fresh a i e = find_none (is_asked_by q.p) s.requests a (ap is_none free) i (ap (λ z. same_provider z q.p) e ∙ provider_self q.p)
+    fresh : (a : Request) → Has a s.requests → a.provider ≡ q.provider → ⊥
+    fresh a i e = find_none (is_asked_by q.provider) s.requests a (ap is_none free) i (ap (λ z. same_provider z q.provider) e ∙ provider_self q.provider)
 
-    single : (a b : Request) → Has a s.requests ⊎ Has a (q ∷ []) → Has b s.requests ⊎ Has b (q ∷ []) → a.p ≡ b.p → a ≡ b
+    single : (a b : Request) → Has a s.requests ⊎ Has a (q ∷ []) → Has b s.requests ⊎ Has b (q ∷ []) → a.provider ≡ b.provider → a ≡ b
     single a b (inl i) (inl j) e = h.single a b i j e
     single a b (inr (inl i)) (inr (inl j)) e = i ∙ sym j
-    single a b (inl i) (inr (inl j)) e = absurd (fresh a i (e ∙ ap (λ (z : Request). z.p) j))
-    single a b (inr (inl i)) (inl j) e = absurd (fresh b j (sym e ∙ ap (λ (z : Request). z.p) i))
+    single a b (inl i) (inr (inl j)) e = absurd (fresh a i (e ∙ ap (λ (z : Request). z.provider) j))
+    single a b (inr (inl i)) (inl j) e = absurd (fresh b j (sym e ∙ ap (λ (z : Request). z.provider) i))
     single a b (inr (inr z)) j e = absurd z
     single a b i (inr (inr z)) e = absurd z

@@ -28,12 +28,12 @@ use Rattle.run_safety.specs.Moves.{Leads, Opening, Life}
 
 -- a request: of which provider, under which number, in which group
 pub record Asking : Type 0 where
-  pub p : ProviderId
-  pub r : ℕ
+  pub provider : ProviderId
+  pub request : ℕ
   pub group : List ℕ
 
 abbrev pub asking : ProviderId → ℕ → List ℕ → Asking
-asking p r g = record { p = p; r = r; group = g }
+asking p r g = record { provider = p; request = r; group = g }
 
 pub record Ghost : Type 0 where
   pub nodes : ℕ → Standing

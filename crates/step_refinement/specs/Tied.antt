@@ -115,28 +115,28 @@ pub record RowIs (x : Ghost) (n : ℕ) (v : ViewId) (ms : List Member) (row : Gr
 
 -- a request that is outstanding was asked, and neither put nor refused at its node
 pub record Owed (x : Ghost) (n inc : ℕ) (q : Request) : Type 0 where
-  pub node : q.p.node ≡ n
-  pub inc_of : q.p.inc ≡ inc
-  pub asked : Has (Noted (Asked q.p q.r q.proposal)) x.all
-  pub unput : (u : ViewId) (k : ℕ) (e : Entry) → Has (Put n u k e) (kept x.all) → Has (q.p, q.r) (carried e) → ⊥
-  pub untold : (u : ViewId) → Has (Noted (Told q.p q.r u)) x.all → ⊥
+  pub node : q.provider.node ≡ n
+  pub inc_of : q.provider.inc ≡ inc
+  pub asked : Has (Noted (Asked q.provider q.request q.proposal)) x.all
+  pub unput : (u : ViewId) (k : ℕ) (e : Entry) → Has (Put n u k e) (kept x.all) → Has (q.provider, q.request) (carried e) → ⊥
+  pub untold : (u : ViewId) → Has (Noted (Told q.provider q.request u)) x.all → ⊥
 
 -- the providers and what they have outstanding are the node's own, and what is outstanding of the group is owed; numbers
 -- that were given are not given again
 pub record Owes (x : Ghost) (g : List ℕ) (n inc : ℕ) (s : SessionState) : Type 0 where
   pub me : s.me ≡ n
   pub inc_of : s.inc ≡ inc
-  pub providers : (y : Provider) → Has y s.providers → (y.p.node ≡ n) × (y.p.inc ≡ inc)
-  pub own : (q : Request) → Has q s.requests → (q.p.node ≡ n) × (q.p.inc ≡ inc) × Has (asking q.p q.r q.group) x.asked × Has (q.p, q.r) (requests_of q.proposal)
+  pub providers : (y : Provider) → Has y s.providers → (y.provider.node ≡ n) × (y.provider.inc ≡ inc)
+  pub own : (q : Request) → Has q s.requests → (q.provider.node ≡ n) × (q.provider.inc ≡ inc) × Has (asking q.provider q.request q.group) x.asked × Has (q.provider, q.request) (requests_of q.proposal)
   pub requests : (q : Request) → Has q s.requests → q.group ≡ g → Owed x n inc q
-  pub attended : (q : Request) → Has q s.requests → (y : Provider) × Has y s.providers × (y.p ≡ q.p)
-  pub given : (a : Asking) → Has a x.asked → a.p.node ≡ n → a.p.inc ≡ inc → a.r ≤ s.last_request
+  pub attended : (q : Request) → Has q s.requests → (y : Provider) × Has y s.providers × (y.provider ≡ q.provider)
+  pub given : (a : Asking) → Has a x.asked → a.provider.node ≡ n → a.provider.inc ≡ inc → a.request ≤ s.last_request
 
 -- what a leader began or refused it keeps a decision of, which is no earlier one
 pub record Decided (l : Led) (p : ProviderId) (r : ℕ) : Type 0 where
   pub last : Decision
   pub kept_it : decision_of l p ≡ Some last
-  pub later : r ≤ last.r
+  pub later : r ≤ last.request
 
 -- a join that waits was asked for in this view, and neither begun nor refused there
 pub record Waits (x : Ghost) (v : ViewId) (list : List Entry) (l : Led) (p : ProviderId) : Type 0 where
@@ -155,10 +155,10 @@ pub record LeaderKeeps (x : Ghost) (n inc : ℕ) (v : ViewId) (l : Led) : Type 0
   pub begun : (p : ProviderId) (r i : ℕ) (e : Entry) → x.leads v ≡ Some (member n inc) → slice_get (x.nodes n).list i ≡ Some e → Has (p, r) (carried e) → Decided l p r
   pub waiting : (p : ProviderId) → x.leads v ≡ Some (member n inc) → among l.waiting.joins p ≡ true → Waits x v (x.nodes n).list l p
   pub later : (u : ViewId) → Lt v u → x.leads u ≡ Some (member n inc) → (p : ProviderId) (r : ℕ) → Has (group.Refusal u p r) x.ps → ⊥
-  pub again : (p : ProviderId) (d : Decision) (why : Why) → decision_of l p ≡ Some d → d.why ≡ Some why → Has (group.Refusal v p d.r) x.ps
+  pub again : (p : ProviderId) (d : Decision) (why : Why) → decision_of l p ≡ Some d → d.why ≡ Some why → Has (group.Refusal v p d.request) x.ps
   pub leads_it : (p : ProviderId) → among l.waiting.joins p ≡ true → x.leads v ≡ Some (member n inc)
   pub apart : differ l.waiting.joins ≡ true
-  pub lasts : (p : ProviderId) (d : Decision) → among l.waiting.joins p ≡ true → decision_of l p ≡ Some d → d.r ≤ p.join
+  pub lasts : (p : ProviderId) (d : Decision) → among l.waiting.joins p ≡ true → decision_of l p ≡ Some d → d.request ≤ p.join
 
 -- the table of a coordinator says who leads, and of each leader, and it is full where the group has none for good; in mode
 -- fixed there is none
@@ -222,10 +222,10 @@ pub record JoinPut (rs : List Happened) (p : ProviderId) (v : ViewId) : Type 0 w
 
 -- of each provider one request is outstanding at most, and its join is, or was put
 pub record InTurn (v : ViewId) (rs : List Happened) (t : SessionState) : Type 0 where
-  pub single : (a b : Request) → Has a t.requests → Has b t.requests → a.p ≡ b.p → a ≡ b
-  pub joined : (y : Provider) → Has y t.providers → ((q : Request) × Has q t.requests × (q.p ≡ y.p) × (q.r ≡ y.p.join) × (is_join q.proposal ≡ true)) ⊎ JoinPut rs y.p v
-  pub numbered : (y : Provider) → Has y t.providers → y.p.join ≤ t.last_request
-  pub owner : (a b : Provider) → Has a t.providers → Has b t.providers → a.p ≡ b.p → a.client ≡ b.client
+  pub single : (a b : Request) → Has a t.requests → Has b t.requests → a.provider ≡ b.provider → a ≡ b
+  pub joined : (y : Provider) → Has y t.providers → ((q : Request) × Has q t.requests × (q.provider ≡ y.provider) × (q.request ≡ y.provider.join) × (is_join q.proposal ≡ true)) ⊎ JoinPut rs y.provider v
+  pub numbered : (y : Provider) → Has y t.providers → y.provider.join ≤ t.last_request
+  pub owner : (a b : Provider) → Has a t.providers → Has b t.providers → a.provider ≡ b.provider → a.client ≡ b.client
 
 -- a request that was sent is a join, or its provider's join was put
 abbrev pub SentInTurn : List Happened → List group.Packet → Type 0
@@ -268,7 +268,7 @@ pub record Sound (g : List ℕ) (x : Ghost) : Type 0 where
   pub shut : (v : ViewId) → Has v x.shut → Seen x v × ((x.leads v ≡ None) ⊎ Closed x.nodes x.leads x.asks v)
   pub asked : (p : ProviderId) (r : ℕ) (y : Proposal) → Has (Noted (Asked p r y)) x.all → Has (asking p r g) x.asked
   pub one : (p : ProviderId) (r : ℕ) (h k : List ℕ) → Has (asking p r h) x.asked → Has (asking p r k) x.asked → h ≡ k
-  pub started : (a : Asking) → Has a x.asked → a.p.inc ≤ (x.nodes a.p.node).inc
+  pub started : (a : Asking) → Has a x.asked → a.provider.inc ≤ (x.nodes a.provider.node).inc
   pub told : (p : ProviderId) (r : ℕ) (u : ViewId) → Has (Noted (Told p r u)) x.all → Numbered x p r
 
 -- how nodes start

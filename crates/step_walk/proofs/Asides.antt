@@ -89,15 +89,15 @@ cast_records_same s g to p (Some c) = by to (c.2).filled
     by None (Some b) = refl
     by (Some n) (Some b) = refl
 
-casts_records : (g : List ℕ) (to : Option ℕ) (cs : List Cast) (s : Core) → (fold (λ t (c : Cast). cast_sent_of t g to c.p c.cast) s cs).records ≡ s.records
+casts_records : (g : List ℕ) (to : Option ℕ) (cs : List Cast) (s : Core) → (fold (λ t (c : Cast). cast_sent_of t g to c.provider c.cast) s cs).records ≡ s.records
 casts_records g to [] s = refl
-casts_records g to (c ∷ cs) s = casts_records g to cs (cast_sent_of s g to c.p c.cast) ∙ cast_records_same s g to c.p c.cast
+casts_records g to (c ∷ cs) s = casts_records g to cs (cast_sent_of s g to c.provider c.cast) ∙ cast_records_same s g to c.provider c.cast
 
 casts_sent_records : (s : Core) (g : List ℕ) (to : Option ℕ) (cs : List Cast) → (casts_sent s g to cs).records ≡ s.records
 unfolding casts_sent
 casts_sent_records s g to cs = by (frozen s)
   where
-    by : (b : Bool) → (elim b as (λ _. Core) [ true ↦ s | false ↦ fold (λ t (c : Cast). cast_sent_of t g to c.p c.cast) s cs ]).records ≡ s.records
+    by : (b : Bool) → (elim b as (λ _. Core) [ true ↦ s | false ↦ fold (λ t (c : Cast). cast_sent_of t g to c.provider c.cast) s cs ]).records ≡ s.records
     by true = refl
     by false = casts_records g to cs s
 
@@ -161,12 +161,12 @@ module _ (P : Core → Type 0) (Ok : List ℕ → Type 0) (k : KeepsBeside P Ok)
   at_cast g to p None cast q = q
   at_cast g to p (Some c) cast q = at_ballot g to p c.0 c.1 (c.2).filled cast q
 
-  at_each_cast : (g : List ℕ) (to : Option ℕ) (cs : List Cast) (s : Core) → ((c : Cast) → Has c cs → CastIs s.records c.p c.cast) → P s → P (fold (λ t (c : Cast). cast_sent_of t g to c.p c.cast) s cs)
+  at_each_cast : (g : List ℕ) (to : Option ℕ) (cs : List Cast) (s : Core) → ((c : Cast) → Has c cs → CastIs s.records c.provider c.cast) → P s → P (fold (λ t (c : Cast). cast_sent_of t g to c.provider c.cast) s cs)
   at_each_cast g to [] s casts p = p
   at_each_cast g to (c ∷ cs) s casts p =
-      at_each_cast g to cs (cast_sent_of s g to c.p c.cast) (λ x i. subst (λ rs. CastIs rs x.p x.cast) (sym (cast_records_same s g to c.p c.cast)) (casts x (inr i))) (at_cast g to c.p c.cast (casts c (inl refl)) p)
+      at_each_cast g to cs (cast_sent_of s g to c.provider c.cast) (λ x i. subst (λ rs. CastIs rs x.provider x.cast) (sym (cast_records_same s g to c.provider c.cast)) (casts x (inr i))) (at_cast g to c.provider c.cast (casts c (inl refl)) p)
 
-  at_casts : (s : Core) (g : List ℕ) (to : Option ℕ) (cs : List Cast) → ((c : Cast) → Has c cs → CastIs s.records c.p c.cast) → P s → P (casts_sent s g to cs)
+  at_casts : (s : Core) (g : List ℕ) (to : Option ℕ) (cs : List Cast) → ((c : Cast) → Has c cs → CastIs s.records c.provider c.cast) → P s → P (casts_sent s g to cs)
   unfolding casts_sent
   at_casts s g to cs casts p = at_either P (frozen s) p (at_each_cast g to cs s casts p)
 
@@ -191,15 +191,15 @@ module _ (P : Core → Type 0) (Ok : List ℕ → Type 0) (k : KeepsBeside P Ok)
       d0 : Core
       d0 = with_sessions (recorded_all c rs) u
 
-      old : (x : Cast) → Has x cs → CastIs (c.records ++ rs) x.p x.cast
-      old x j = cast_is_on rs (c.records ++ rs) (λ r h. append_has_right r c.records rs h) x.p x.cast (casts_recorded c g i e after cs x j)
+      old : (x : Cast) → Has x cs → CastIs (c.records ++ rs) x.provider x.cast
+      old x j = cast_is_on rs (c.records ++ rs) (λ r h. append_has_right r c.records rs h) x.provider x.cast (casts_recorded c g i e after cs x j)
 
-      told : (b : Bool) → P (with_sessions (elim b as (λ _. Core) [ true ↦ notes (recorded_all c rs) g (Some i) after | false ↦ recorded_all c rs ]) u) × ((x : Cast) → Has x cs → CastIs (elim b as (λ _. Core) [ true ↦ notes (recorded_all c rs) g (Some i) after | false ↦ recorded_all c rs ]).records x.p x.cast)
+      told : (b : Bool) → P (with_sessions (elim b as (λ _. Core) [ true ↦ notes (recorded_all c rs) g (Some i) after | false ↦ recorded_all c rs ]) u) × ((x : Cast) → Has x cs → CastIs (elim b as (λ _. Core) [ true ↦ notes (recorded_all c rs) g (Some i) after | false ↦ recorded_all c rs ]).records x.provider x.cast)
       told false = (p, old)
       told true =
           let live = filter (is_of_group g) c.sessions.subs.live in
           let ns : List Happened = map (note_of (recorded_all c rs) g (Some i) after) live in
-          (at_notes ns {s = d0} (λ r j. (let q = has_map (note_of (recorded_all c rs) g (Some i) after) r live j in subst IsNote (sym q.2) tt)) p, λ x j. cast_is_on (c.records ++ rs) ((c.records ++ rs) ++ ns) (λ r h. append_has_left r (c.records ++ rs) ns h) x.p x.cast (old x j))
+          (at_notes ns {s = d0} (λ r j. (let q = has_map (note_of (recorded_all c rs) g (Some i) after) r live j in subst IsNote (sym q.2) tt)) p, λ x j. cast_is_on (c.records ++ rs) ((c.records ++ rs) ++ ns) (λ r h. append_has_left r (c.records ++ rs) ns h) x.provider x.cast (old x j))
 
   -- ---- a row changes
 

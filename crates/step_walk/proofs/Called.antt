@@ -42,7 +42,7 @@ module _ (P : Core → Type 0) (k : KeepsBeside P Any) (calls : KeepsCalling P) 
   at_last_asked : {s : Core} (o : Option Request) → P s → P (ask_last s o)
   unfolding ask_last
   at_last_asked None p = p
-  at_last_asked {s} (Some q) p = at_request_sent P k q (calls.asks s q.p q.r q.group q.proposal p)
+  at_last_asked {s} (Some q) p = at_request_sent P k q (calls.asks s q.provider q.request q.group q.proposal p)
 
   at_proposed : {s : Core} (client : List ℕ) (r : Result SessionState GsFault) → NoMore s.sessions r → P s → P (proposed s client r)
   unfolding proposed
@@ -55,10 +55,10 @@ module _ (P : Core → Type 0) (k : KeepsBeside P Any) (calls : KeepsCalling P) 
   at_given {s} client (Ok t) m p =
       subst (λ o. P (cast_last (with_sessions s t) o)) (sym (ap (last_or None) m.more ∙ last_is s.sessions.kept m.ballot None)) (subst (λ b. P (ballot_sent_if (record_ballot (with_sessions s t) m.ballot b) m.ballot (frozen (with_sessions s t)))) (sym m.full) (sends (frozen (with_sessions s t))))
     where
-      now : P (recorded (with_sessions s t) (happened.Cast m.ballot.p m.ballot.proto m.ballot.phase m.filled.vote m.filled.value m.filled.message))
+      now : P (recorded (with_sessions s t) (happened.Cast m.ballot.provider m.ballot.proto m.ballot.phase m.filled.vote m.filled.value m.filled.message))
       now = calls.votes s t m p
 
-      sends : (c : Bool) → P (ballot_sent_if (recorded (with_sessions s t) (happened.Cast m.ballot.p m.ballot.proto m.ballot.phase m.filled.vote m.filled.value m.filled.message)) m.ballot c)
+      sends : (c : Bool) → P (ballot_sent_if (recorded (with_sessions s t) (happened.Cast m.ballot.provider m.ballot.proto m.ballot.phase m.filled.vote m.filled.value m.filled.message)) m.ballot c)
       sends true = now
       sends false = at_kept_sent P k m.ballot (subst (Has m.ballot) (sym m.more) (append_has_right m.ballot s.sessions.kept (m.ballot ∷ []) (inl refl))) now
   at_given client (Err fault) m p = at_fault client fault p
@@ -66,7 +66,7 @@ module _ (P : Core → Type 0) (k : KeepsBeside P Any) (calls : KeepsCalling P) 
   at_all_gone : {s : Core} (ended : List Provider) → P s → P (send_all_gone s ended)
   unfolding send_all_gone send_gone
   at_all_gone {s} ended p =
-      at_either P (frozen s) p (at_fold P send_gone (λ t x h. at_known P Any k (leader_of t x.group) (body.Gone t.views.view x.group x.p) tt h) ended p)
+      at_either P (frozen s) p (at_fold P send_gone (λ t x h. at_known P Any k (leader_of t x.group) (body.Gone t.views.view x.group x.provider) tt h) ended p)
 
   at_said : {s : Core} (client : List ℕ) (ended : List Provider) (r : Result SessionState GsFault) → NoMore s.sessions r → P s → P (goodbye_said s client ended r)
   unfolding goodbye_said

@@ -10,4 +10,4 @@ use Rattle.step_walk.proofs.Called.{at_call}
 
 pub on_call : (P : Core → Type 0) (Given : Packet → Type 0) → KeepsRules P Given → KeepsCalls P → {s : Core} (x : CallLine) → P s → P (take_call s x)
 on_call P Given rules calls {s} x p =
-    at_call P (beside_of P Any rules.keeps) (record { sessions = λ s t less q. calls.sessions s t q; refuses = calls.refuses; asks = calls.asks; votes = λ s t m q. calls.casts (with_sessions s t) m.ballot.p m.ballot.proto m.ballot.phase m.filled.vote m.filled.value m.filled.message (calls.sessions s t q) }) s x p
+    at_call P (beside_of P Any rules.keeps) (record { sessions = λ s t less q. calls.sessions s t q; refuses = calls.refuses; asks = calls.asks; votes = λ s t m q. calls.casts (with_sessions s t) m.ballot.provider m.ballot.proto m.ballot.phase m.filled.vote m.filled.value m.filled.message (calls.sessions s t q) }) s x p

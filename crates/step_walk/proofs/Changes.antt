@@ -154,7 +154,7 @@ pub record KeepsRings (P : Core → Type 0) (Given : Packet → Type 0) : Type 0
 pub record KeepsViews (P : Core → Type 0) : Type 0 where
   pub views : (s : Core) (v : Viewing) → P s → P (record s { views = (viewing s v).views })
   pub enters : (s : Core) (i : Install) → P s → P (view_entered s i (bases_of i))
-  pub dissolves : (s : Core) (q : ProviderId) (x : Provider) → provider_of s.sessions q ≡ Some x → P s → P (dissolved s x.p (number_of (outstanding s.sessions x.p)))
+  pub dissolves : (s : Core) (q : ProviderId) (x : Provider) → provider_of s.sessions q ≡ Some x → P s → P (dissolved s x.provider (number_of (outstanding s.sessions x.provider)))
 
 -- by the calls of clients
 pub record KeepsCalls (P : Core → Type 0) : Type 0 where
@@ -169,7 +169,7 @@ pub record KeepsCalls (P : Core → Type 0) : Type 0 where
 pub record KeepsParts (P : Core → Type 0) (Ok : List ℕ → Type 0) : Type 0 where
   pub sends : (s : Core) (network to : ℕ) (b : Body) → Spoken s b → P s → P (send_on s network to b)
   pub puts : (s : Core) (g : List ℕ) (e : Entry) → Ok g → P s → P (put s g e)
-  pub hears : (s : Core) (g : List ℕ) (before after : GroupState) (e : Entry) (bs : List (Option Filled)) (c : Cast) (i : ℕ) → Has c (casts_out s.sessions g before after e bs) → P s → P (recorded s (happened.Heard c.p s.views.view g i e after.members after.value))
+  pub hears : (s : Core) (g : List ℕ) (before after : GroupState) (e : Entry) (bs : List (Option Filled)) (c : Cast) (i : ℕ) → Has c (casts_out s.sessions g before after e bs) → P s → P (recorded s (happened.Heard c.provider s.views.view g i e after.members after.value))
   pub casts : (s : Core) (p : ProviderId) (proto : ProtoId) (phase : ℕ) (vote : Vote) (value message : Option (List ℕ)) → P s → P (recorded s (happened.Cast p proto phase vote value message))
   pub handed : (s : Core) (g : List ℕ) (before after : GroupState) (e : Entry) (bs : List (Option Filled)) → P s → P (with_sessions s (session.handed_on s.sessions g before after e bs))
 

@@ -40,17 +40,17 @@ module _ (P : Core → Type 0) (g : List ℕ) (e : Entry) (parts : KeepsDelivery
     unfolding heard recorded
     at_heard [] all rs k = subst (λ z. P (record c { records = z })) (sym (append-nil rs)) k
     at_heard (x ∷ cs) all rs k =
-        subst (λ z. P (record c { records = z })) (append_assoc (rs ++ it ∷ []) (cast_records x.p x.cast) (flat_map (heard c g i e after) cs) ∙ append_assoc rs (it ∷ []) (cast_records x.p x.cast ++ flat_map (heard c g i e after) cs)) (at_heard cs (λ y h. all y (inr h)) ((rs ++ it ∷ []) ++ cast_records x.p x.cast) (at_cast (rs ++ it ∷ []) x.p x.cast (parts.hears (record c { records = rs }) before after bs x i (all x (inl refl)) k)))
+        subst (λ z. P (record c { records = z })) (append_assoc (rs ++ it ∷ []) (cast_records x.provider x.cast) (flat_map (heard c g i e after) cs) ∙ append_assoc rs (it ∷ []) (cast_records x.provider x.cast ++ flat_map (heard c g i e after) cs)) (at_heard cs (λ y h. all y (inr h)) ((rs ++ it ∷ []) ++ cast_records x.provider x.cast) (at_cast (rs ++ it ∷ []) x.provider x.cast (parts.hears (record c { records = rs }) before after bs x i (all x (inl refl)) k)))
       where
         it : Happened
-        it = happened.Heard x.p c.views.view g i e after.members after.value
+        it = happened.Heard x.provider c.views.view g i e after.members after.value
 
     pub at_handing : P c → P (handing c g i before after e bs)
     unfolding recorded_all
     at_handing k =
         let cs : List Cast = casts_out c.sessions g before after e bs in
         let rs : List Happened = flat_map (heard c g i e after) cs in
-        parts.handed (recorded_all c rs) before after bs (handed_casts (c.records ++ rs) c.sessions g before after e bs (λ x j. cast_is_on rs (c.records ++ rs) (λ r h. append_has_right r c.records rs h) x.p x.cast (casts_recorded c g i e after cs x j))) (at_heard cs (λ x h. h) c.records k)
+        parts.handed (recorded_all c rs) before after bs (handed_casts (c.records ++ rs) c.sessions g before after e bs (λ x j. cast_is_on rs (c.records ++ rs) (λ r h. append_has_right r c.records rs h) x.provider x.cast (casts_recorded c g i e after cs x j))) (at_heard cs (λ x h. h) c.records k)
 
   -- what holds where the entry is put holds where it was sent and heard
   pub at_delivered : (s : Core) (ns : List ℕ) (stable : ℕ) (bs : List (Option Filled)) → P (put s g e) → P (delivered s g e ns stable bs)

@@ -43,7 +43,7 @@ module _ (P : Core → Type 0) (Between : List ℕ → Core → Type 0) (Begun :
     at_failures (suc n) s p = by (is_empty out) (at_failures n)
       where
         out : List Failure
-        out = filter (λ (x : Failure). among (state_of s g).members x.p) (next_failures (state_of s g).attrs.batch (led_of s g).waiting)
+        out = filter (λ (x : Failure). among (state_of s g).members x.provider) (next_failures (state_of s g).attrs.batch (led_of s g).waiting)
 
         t : Core
         t = with_waiting s g (failures_left (state_of s g).attrs.batch)

@@ -81,7 +81,7 @@ pub record Beside (f : GroupRow → GroupRow) : Type 0 where
 -- a ballot was recorded in this step, or is one that the node keeps
 abbrev pub Voting : Core → ProviderId → ProtoId → ℕ → Filled → Type 0
 Voting s p proto phase b =
-    Has (happened.Cast p proto phase b.vote b.value b.message) s.records ⊎ ((k : KeptBallot) × Has k s.sessions.kept × (k.p ≡ p) × (k.proto ≡ proto) × (k.phase ≡ phase) × (k.ballot.filled ≡ Some b))
+    Has (happened.Cast p proto phase b.vote b.value b.message) s.records ⊎ ((k : KeptBallot) × Has k s.sessions.kept × (k.provider ≡ p) × (k.proto ≡ proto) × (k.phase ≡ phase) × (k.ballot.filled ≡ Some b))
 
 -- of views a node says by itself only that it has taken one
 abbrev pub Taking : ViewPacket → Type 0
@@ -171,18 +171,18 @@ pub record KeepsEntering (P : Core → Type 0) (Works : Core → ViewWork → Ty
   pub beside : (i : Install) (xs : List Lacking) → KeepsBeside (Leaving i xs) Any
   pub fills : (s : Core) (i : Install) (xs : List Lacking) (x : Lacking) (e : Entry) (bs : List (Option Filled)) → Has x xs → Has e x.entries → Leaving i xs s → Leaving i xs (delivered s x.name e [] 0 bs)
   pub enters : (s : Core) (i : Install) (xs : List Lacking) → Leaving i xs s → P (view_entered s i (bases_of i))
-  pub dissolves : (s : Core) (q : ProviderId) (x : Provider) → provider_of s.sessions q ≡ Some x → P s → P (dissolved s x.p (number_of (outstanding s.sessions x.p)))
+  pub dissolves : (s : Core) (q : ProviderId) (x : Provider) → provider_of s.sessions q ≡ Some x → P s → P (dissolved s x.provider (number_of (outstanding s.sessions x.provider)))
 
 -- by the calls of clients: no new ballot is kept, but by a vote, which is recorded
 pub record KeepsCalling (P : Core → Type 0) : Type 0 where
   pub sessions : (s : Core) (t : SessionState) → KeepsNoMore s.sessions t → P s → P (with_sessions s t)
   pub refuses : (s : Core) (n : ℕ) (client : List ℕ) (fault : GsFault) → P s → P (recorded s (happened.Refused n client fault))
   pub asks : (s : Core) (p : ProviderId) (r : ℕ) (g : List ℕ) (x : Proposal) → P s → P (recorded s (happened.Asked p r g x))
-  pub votes : (s : Core) (t : SessionState) (m : OneMore s.sessions t) → P s → P (recorded (with_sessions s t) (happened.Cast m.ballot.p m.ballot.proto m.ballot.phase m.filled.vote m.filled.value m.filled.message))
+  pub votes : (s : Core) (t : SessionState) (m : OneMore s.sessions t) → P s → P (recorded (with_sessions s t) (happened.Cast m.ballot.provider m.ballot.proto m.ballot.phase m.filled.vote m.filled.value m.filled.message))
 
 -- by what follows as this entry was put, each by itself
 pub record KeepsDelivery (P : Core → Type 0) (g : List ℕ) (e : Entry) : Type 0 where
   pub sends : (s : Core) (network to : ℕ) (v : ViewId) (place stable : ℕ) → P s → P (send_on s network to (body.Entry v g place stable e))
-  pub hears : (s : Core) (before after : GroupState) (bs : List (Option Filled)) (c : Cast) (i : ℕ) → Has c (casts_out s.sessions g before after e bs) → P s → P (recorded s (happened.Heard c.p s.views.view g i e after.members after.value))
+  pub hears : (s : Core) (before after : GroupState) (bs : List (Option Filled)) (c : Cast) (i : ℕ) → Has c (casts_out s.sessions g before after e bs) → P s → P (recorded s (happened.Heard c.provider s.views.view g i e after.members after.value))
   pub casts : (s : Core) (p : ProviderId) (proto : ProtoId) (phase : ℕ) (vote : Vote) (value message : Option (List ℕ)) → P s → P (recorded s (happened.Cast p proto phase vote value message))
   pub handed : (s : Core) (before after : GroupState) (bs : List (Option Filled)) → ((k : KeptBallot) → Has k (session.handed_on s.sessions g before after e bs).kept → Has k s.sessions.kept ⊎ KeptIs s.records k) → P s → P (with_sessions s (session.handed_on s.sessions g before after e bs))

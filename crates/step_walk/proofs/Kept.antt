@@ -55,7 +55,7 @@ CastIs rs p (Some x) = IsCast rs p x.0 x.1 (x.2).filled
 
 -- of a ballot that is kept
 abbrev pub KeptIs : List Happened → KeptBallot → Type 0
-KeptIs rs k = IsCast rs k.p k.proto k.phase k.ballot.filled
+KeptIs rs k = IsCast rs k.provider k.proto k.phase k.ballot.filled
 
 module _ (rs ts : List Happened) (more : (r : Happened) → Has r rs → Has r ts) where
   ballot_on : (p : ProviderId) (proto : ProtoId) (phase : ℕ) (b : Option Filled) → IsCast rs p proto phase b → IsCast ts p proto phase b
@@ -77,13 +77,13 @@ cast_recorded p None = tt
 cast_recorded p (Some x) = ballot_recorded p x.0 x.1 (x.2).filled
 
 -- each cast is recorded
-pub casts_recorded : (s : Core) (g : List ℕ) (i : ℕ) (e : Entry) (after : GroupState) (cs : List Cast) (c : Cast) → Has c cs → CastIs (flat_map (hand.heard s g i e after) cs) c.p c.cast
+pub casts_recorded : (s : Core) (g : List ℕ) (i : ℕ) (e : Entry) (after : GroupState) (cs : List Cast) (c : Cast) → Has c cs → CastIs (flat_map (hand.heard s g i e after) cs) c.provider c.cast
 unfolding hand.heard
 casts_recorded s g i e after [] c j = absurd j
 casts_recorded s g i e after (d ∷ cs) c (inl q) =
-    subst (λ (x : Cast). CastIs (flat_map (hand.heard s g i e after) (d ∷ cs)) x.p x.cast) (sym q) (cast_is_on (cast_records d.p d.cast) (flat_map (hand.heard s g i e after) (d ∷ cs)) (λ r k. append_has_left r (hand.heard s g i e after d) (flat_map (hand.heard s g i e after) cs) (inr k)) d.p d.cast (cast_recorded d.p d.cast))
+    subst (λ (x : Cast). CastIs (flat_map (hand.heard s g i e after) (d ∷ cs)) x.provider x.cast) (sym q) (cast_is_on (cast_records d.provider d.cast) (flat_map (hand.heard s g i e after) (d ∷ cs)) (λ r k. append_has_left r (hand.heard s g i e after d) (flat_map (hand.heard s g i e after) cs) (inr k)) d.provider d.cast (cast_recorded d.provider d.cast))
 casts_recorded s g i e after (d ∷ cs) c (inr j) =
-    cast_is_on (flat_map (hand.heard s g i e after) cs) (flat_map (hand.heard s g i e after) (d ∷ cs)) (λ r k. append_has_right r (hand.heard s g i e after d) (flat_map (hand.heard s g i e after) cs) k) c.p c.cast (casts_recorded s g i e after cs c j)
+    cast_is_on (flat_map (hand.heard s g i e after) cs) (flat_map (hand.heard s g i e after) (d ∷ cs)) (λ r k. append_has_right r (hand.heard s g i e after d) (flat_map (hand.heard s g i e after) cs) k) c.provider c.cast (casts_recorded s g i e after cs c j)
 
 -- ---- an entry is delivered
 
@@ -141,9 +141,9 @@ requests_same s (Late proto phase ps) = refl
 
 pub without_no_more : (s : SessionState) (ps : List ProviderId) → KeepsNoMore s (without_providers s ps)
 unfolding without_providers
-without_no_more s ps k i = (has_filter (λ k. not (among ps k.p)) k s.kept i).0
+without_no_more s ps k i = (has_filter (λ k. not (among ps k.provider)) k s.kept i).0
 
-handed_kept : (s : SessionState) (g : List ℕ) (before after : GroupState) (e : Entry) (bs : List (Option Filled)) (k : KeptBallot) → Has k (handed_on s g before after e bs).kept → Has k s.kept ⊎ Has k (flat_map (λ (c : Cast). kept_by g c.p c.cast) (casts_out s g before after e bs))
+handed_kept : (s : SessionState) (g : List ℕ) (before after : GroupState) (e : Entry) (bs : List (Option Filled)) (k : KeptBallot) → Has k (handed_on s g before after e bs).kept → Has k s.kept ⊎ Has k (flat_map (λ (c : Cast). kept_by g c.provider c.cast) (casts_out s g before after e bs))
 unfolding handed_on heard part_taken open_phases keep_casts
 handed_kept s g before after e bs k i =
     let ps : List ProviderId = hearers s g before e in
@@ -154,34 +154,34 @@ handed_kept s g before after e bs k i =
     let d : SessionState = requests_after u e in
     let was : o.kept ≡ (kept_after s g e).kept = opened_same e after ps t ∙ parts_same (beginners s g e) (kept_after s g e) in
     let j : Has k d.kept = without_no_more d (removed_from after ps) k i in
-    let l : Has k (o.kept ++ flat_map (λ (c : Cast). kept_by g c.p c.cast) cs) = subst (Has k) (requests_same u e) j in
-    ⊎_elim (λ (a : Has k o.kept). inl (after_entry s g e k (subst (Has k) was a))) (λ (a : Has k (flat_map (λ (c : Cast). kept_by g c.p c.cast) cs)). inr a) (has_append k o.kept (flat_map (λ (c : Cast). kept_by g c.p c.cast) cs) l)
+    let l : Has k (o.kept ++ flat_map (λ (c : Cast). kept_by g c.provider c.cast) cs) = subst (Has k) (requests_same u e) j in
+    ⊎_elim (λ (a : Has k o.kept). inl (after_entry s g e k (subst (Has k) was a))) (λ (a : Has k (flat_map (λ (c : Cast). kept_by g c.provider c.cast) cs)). inr a) (has_append k o.kept (flat_map (λ (c : Cast). kept_by g c.provider c.cast) cs) l)
 
 -- a new one is what a client casts
-new_kept : (rs : List Happened) (g : List ℕ) (cs : List Cast) (k : KeptBallot) → Has k (flat_map (λ (c : Cast). kept_by g c.p c.cast) cs) → ((c : Cast) → Has c cs → CastIs rs c.p c.cast) → KeptIs rs k
+new_kept : (rs : List Happened) (g : List ℕ) (cs : List Cast) (k : KeptBallot) → Has k (flat_map (λ (c : Cast). kept_by g c.provider c.cast) cs) → ((c : Cast) → Has c cs → CastIs rs c.provider c.cast) → KeptIs rs k
 new_kept rs g [] k i all = absurd i
-new_kept rs g (c ∷ cs) k i all = by (new_kept rs g cs k) (has_append k (kept_by g c.p c.cast) (flat_map (λ (c : Cast). kept_by g c.p c.cast) cs) i)
+new_kept rs g (c ∷ cs) k i all = by (new_kept rs g cs k) (has_append k (kept_by g c.provider c.cast) (flat_map (λ (c : Cast). kept_by g c.provider c.cast) cs) i)
   where
-    own : (x : Option (ProtoId × ℕ × BallotView)) → Has k (kept_by g c.p x) → CastIs rs c.p x → KeptIs rs k
+    own : (x : Option (ProtoId × ℕ × BallotView)) → Has k (kept_by g c.provider x) → CastIs rs c.provider x → KeptIs rs k
     own None i a = absurd i
     own (Some x) (inl e) a = subst (KeptIs rs) (sym e) a
     own (Some x) (inr z) a = absurd z
 
-    by : (Has k (flat_map (λ (c : Cast). kept_by g c.p c.cast) cs) → ((c : Cast) → Has c cs → CastIs rs c.p c.cast) → KeptIs rs k) → Has k (kept_by g c.p c.cast) ⊎ Has k (flat_map (λ (c : Cast). kept_by g c.p c.cast) cs) → KeptIs rs k
+    by : (Has k (flat_map (λ (c : Cast). kept_by g c.provider c.cast) cs) → ((c : Cast) → Has c cs → CastIs rs c.provider c.cast) → KeptIs rs k) → Has k (kept_by g c.provider c.cast) ⊎ Has k (flat_map (λ (c : Cast). kept_by g c.provider c.cast) cs) → KeptIs rs k
     by rest (inl a) = own c.cast a (all c (inl refl))
     by rest (inr a) = rest a (λ x j. all x (inr j))
 
 -- each kept ballot was kept before, or was cast
-pub handed_casts : (rs : List Happened) (s : SessionState) (g : List ℕ) (before after : GroupState) (e : Entry) (bs : List (Option Filled)) → ((c : Cast) → Has c (casts_out s g before after e bs) → CastIs rs c.p c.cast) → (k : KeptBallot) → Has k (handed_on s g before after e bs).kept → Has k s.kept ⊎ KeptIs rs k
+pub handed_casts : (rs : List Happened) (s : SessionState) (g : List ℕ) (before after : GroupState) (e : Entry) (bs : List (Option Filled)) → ((c : Cast) → Has c (casts_out s g before after e bs) → CastIs rs c.provider c.cast) → (k : KeptBallot) → Has k (handed_on s g before after e bs).kept → Has k s.kept ⊎ KeptIs rs k
 handed_casts rs s g before after e bs new k i =
-    ⊎_elim (λ (a : Has k s.kept). inl a) (λ (a : Has k (flat_map (λ (c : Cast). kept_by g c.p c.cast) (casts_out s g before after e bs))). inr (new_kept rs g (casts_out s g before after e bs) k a new)) (handed_kept s g before after e bs k i)
+    ⊎_elim (λ (a : Has k s.kept). inl a) (λ (a : Has k (flat_map (λ (c : Cast). kept_by g c.provider c.cast) (casts_out s g before after e bs))). inr (new_kept rs g (casts_out s g before after e bs) k a new)) (handed_kept s g before after e bs k i)
 
 -- a provider is told
 pub told_no_more : (s : SessionState) (p : ProviderId) (r : ℕ) (y : Why) → KeepsNoMore s (take_telling s p r y)
 unfolding take_telling told_of
 told_no_more s p r y = by (takes_telling s p r y) (is_join_request (outstanding s p)) (is_dissolved y)
   where
-    by : (a b c : Bool) → KeepsNoMore s (if a then (if b || c then without_providers s (p ∷ []) else record s { requests = filter (λ (q : Request). not (among (p ∷ []) q.p)) s.requests }) else s)
+    by : (a b c : Bool) → KeepsNoMore s (if a then (if b || c then without_providers s (p ∷ []) else record s { requests = filter (λ (q : Request). not (among (p ∷ []) q.provider)) s.requests }) else s)
     by false b c k i = i
     by true true c k i = without_no_more s (p ∷ []) k i
     by true false true k i = without_no_more s (p ∷ []) k i
@@ -221,19 +221,19 @@ made_no_more s m phases parameter make =
 
 pub left_no_more : (s : SessionState) (m : MemberToken) (phases : Phases) → NoMore s (left s m phases)
 unfolding left
-left_no_more s m phases = made_no_more s m phases None (λ x r. Leave x.p r)
+left_no_more s m phases = made_no_more s m phases None (λ x r. Leave x.provider r)
 
 pub expelled_no_more : (s : SessionState) (m : MemberToken) (phases : Phases) (out : List ProviderId) → NoMore s (expelled s m phases out)
 unfolding expelled
-expelled_no_more s m phases out = made_no_more s m phases (targets_fault out) (λ x r. Expel x.p r out)
+expelled_no_more s m phases out = made_no_more s m phases (targets_fault out) (λ x r. Expel x.provider r out)
 
 pub state_no_more : (s : SessionState) (m : MemberToken) (phases : Phases) (value : List ℕ) → NoMore s (state_changed s m phases value)
 unfolding state_changed
-state_no_more s m phases value = made_no_more s m phases (value_fault s (Some value)) (λ x r. State x.p r value)
+state_no_more s m phases value = made_no_more s m phases (value_fault s (Some value)) (λ x r. State x.provider r value)
 
 pub message_no_more : (s : SessionState) (m : MemberToken) (phases : Phases) (bytes : List ℕ) → NoMore s (message_sent s m phases bytes)
 unfolding message_sent
-message_no_more s m phases bytes = made_no_more s m phases (message_fault bytes) (λ x r. Message x.p r bytes)
+message_no_more s m phases bytes = made_no_more s m phases (message_fault bytes) (λ x r. Message x.provider r bytes)
 
 pub attributes_no_more : (s : SessionState) (m : MemberToken) (phases : Phases) (attrs : Attrs) → NoMore s (attributes_changed s m phases attrs)
 unfolding attributes_changed asked
@@ -242,7 +242,7 @@ attributes_no_more s m phases attrs =
   where
     by : (o : Option Provider) → NoMore s (member_changes s o phases attrs)
     by None = tt
-    by (Some x) = unless_no_more s (asked s x phases (λ r. Attributes x.p r attrs)) (ask_fault s x (attributes_fault (first_fault attrs x.group))) (λ k i. i)
+    by (Some x) = unless_no_more s (asked s x phases (λ r. Attributes x.provider r attrs)) (ask_fault s x (attributes_fault (first_fault attrs x.group))) (λ k i. i)
 
 pub subscribe_no_more : (s : SessionState) (t : ClientToken) (g : List ℕ) (known : Bool) → NoMore s (subscribe_taken s t g known)
 unfolding subscribe_taken
@@ -254,7 +254,7 @@ unsubscribe_no_more s t sub = unless_no_more s (record s { subs = subs_remove su
 
 pub goodbye_no_more : (s : SessionState) (t : ClientToken) → NoMore s (goodbye_taken s t)
 unfolding goodbye_taken end_session
-goodbye_no_more s t = unless_no_more s (end_session s t) (client_fault s t) (λ k i. (has_filter (λ (k : KeptBallot). not (is_owned s.providers t k.p)) k s.kept i).0)
+goodbye_no_more s t = unless_no_more s (end_session s t) (client_fault s t) (λ k i. (has_filter (λ (k : KeptBallot). not (is_owned s.providers t k.provider)) k s.kept i).0)
 
 -- a vote is kept, as the last
 pub record OneMore (s t : SessionState) : Type 0 where
@@ -272,12 +272,12 @@ unfolding voted
 voted_more s m v value = session (is_empty s.sessions)
   where
     kept : (x : Provider) (o : OpenPhase) (b : Option GsFault) → Votes s (unless_fault b (keeps s x o (record { vote = v; value = value; message = None })))
-    kept x o None = record { ballot = record { p = x.p; group = x.group; proto = o.proto; phase = o.phase; ballot = ballot_of s.level (record { vote = v; value = value; message = None }) }; filled = record { vote = v; value = value; message = None }; full = refl; more = refl }
+    kept x o None = record { ballot = record { provider = x.provider; group = x.group; proto = o.proto; phase = o.phase; ballot = ballot_of s.level (record { vote = v; value = value; message = None }) }; filled = record { vote = v; value = value; message = None }; full = refl; more = refl }
     kept x o (Some f) = tt
 
     opened : (x : Provider) (o : Option OpenPhase) → Votes s (vote_in s x v value o)
     opened x None = tt
-    opened x (Some o) = kept x o (fault_if (list_any (is_kept_for x.p o.proto o.phase) s.kept) fault.VoteNotExpected)
+    opened x (Some o) = kept x o (fault_if (list_any (is_kept_for x.provider o.proto o.phase) s.kept) fault.VoteNotExpected)
 
     within : (x : Provider) (b : Bool) → Votes s (if b then vote_in s x v value x.opened else Err (fault.BadParameter field.Value))
     within x true = opened x x.opened

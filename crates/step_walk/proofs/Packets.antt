@@ -136,7 +136,7 @@ module _ (P : Core → Type 0) (k : KeepsBeside P Any) where
     where
       by : (o : Option ℕ) → P (send_request_to s q o)
       by None = at_sent P Any k s.views.view.coord (body.Lookup s.views.view q.group) tt p
-      by (Some n) = at_sent P Any k n (body.Request s.views.view q.group q.p q.r q.phases q.proposal) tt p
+      by (Some n) = at_sent P Any k n (body.Request s.views.view q.group q.provider q.request q.phases q.proposal) tt p
 
   pub at_requests : {s : Core} → P s → P (send_requests s)
   unfolding send_requests
@@ -342,8 +342,8 @@ module _ (P : Core → Type 0) (Between : List ℕ → Core → Type 0) (Begun :
   unfolding take_name named is_name_used
   at_name {s} g n p = by (n == 0) (is_none (leader_of s g)) (is_fixed s.config.mode) refl
     where
-      full : P (fold (λ t (q : Request). take_tell t q.p q.r (why.GroupsFull 64)) s (requests_of s g))
-      full = at_fold P (λ t (q : Request). take_tell t q.p q.r (why.GroupsFull 64)) (λ t q h. at_tell q.p q.r (why.GroupsFull 64) (inl refl) h) (requests_of s g) p
+      full : P (fold (λ t (q : Request). take_tell t q.provider q.request (why.GroupsFull 64)) s (requests_of s g))
+      full = at_fold P (λ t (q : Request). take_tell t q.provider q.request (why.GroupsFull 64)) (λ t q h. at_tell q.provider q.request (why.GroupsFull 64) (inl refl) h) (requests_of s g) p
 
       by : (zero none fixed : Bool) → is_none (leader_of s g) ≡ none → P (elim (none || (fixed && zero)) as (λ _. Core) [ true ↦ named s g n zero | false ↦ s ])
       by true true fixed e = full
@@ -364,7 +364,7 @@ module _ (P : Core → Type 0) (Between : List ℕ → Core → Type 0) (Begun :
     at_request_at : (o : Option Decision) → decision_of (led_of s g) a ≡ o → P s → P (request_at f s g a r phases x o)
     unfolding request_at tell_again request_after
     at_request_at None e p = at_request_new p
-    at_request_at (Some d) e p = by (nat_lt r d.r) (r == d.r)
+    at_request_at (Some d) e p = by (nat_lt r d.request) (r == d.request)
       where
         told : (o : Option Why) → d.why ≡ o → P (tell_again s g a r o)
         told None w = p

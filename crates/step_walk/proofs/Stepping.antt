@@ -214,7 +214,7 @@ module _ (P : Core → Type 0) (Between : List ℕ → Core → Type 0) (Begun :
   unfolding dissolved_if
   at_dissolved_if g old c q None e p = p
   at_dissolved_if {s} g old c q (Some x) e p =
-      at_either P (x.takes_part && bytes_eq x.group g && not (is_in_base old x.p c)) (views.dissolves s q x e p) p
+      at_either P (x.takes_part && bytes_eq x.group g && not (is_in_base old x.provider c)) (views.dissolves s q x e p) p
 
   at_sides : {s : Core} (rows : List GroupRow) (old : ViewId) (bs : List Base) → P s → P (sides_dissolved s rows old bs)
   unfolding sides_dissolved group_dissolved

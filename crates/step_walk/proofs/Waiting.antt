@@ -24,12 +24,12 @@ pub fails_few : (q : ProviderId) (c : Cause) → MildWaits (add_failure q c)
 fails_few q c w k = by (is_failing q w) (nat_lt (length w.failures) 64) refl
   where
     more : WaitingView
-    more = record w { failures = w.failures ++ record { p = q; cause = c } ∷ [] }
+    more = record w { failures = w.failures ++ record { provider = q; cause = c } ∷ [] }
 
     by : (a b : Bool) → nat_lt (length w.failures) 64 ≡ b → Few (if not a && b then more else w)
     by true b e = k
     by false false e = k
-    by false true e = (k.0, let z : length w.failures < 64 = ltb-true (length w.failures) 64 e in omega (arith, z, length-append w.failures (record { p = q; cause = c } ∷ [])))
+    by false true e = (k.0, let z : length w.failures < 64 = ltb-true (length w.failures) 64 e in omega (arith, z, length-append w.failures (record { provider = q; cause = c } ∷ [])))
 
 pub dropped_few : (q : ProviderId) → MildWaits (drop_join q)
 dropped_few q w k = (let z = shorter w.joins in omega (arith, z, k.0), k.1)
@@ -81,7 +81,7 @@ Apart f = (w : WaitingView) → differ w.joins ≡ true → differ (f w).joins �
 pub fails_apart : (q : ProviderId) (c : Cause) → Apart (add_failure q c)
 fails_apart q c w e = ap differ (stay (takes_failure q w)) ∙ e
   where
-    stay : (b : Bool) → (if b then record w { failures = w.failures ++ record { p = q; cause = c } ∷ [] } else w).joins ≡ w.joins
+    stay : (b : Bool) → (if b then record w { failures = w.failures ++ record { provider = q; cause = c } ∷ [] } else w).joins ≡ w.joins
     stay true = refl
     stay false = refl
 

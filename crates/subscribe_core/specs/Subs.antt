@@ -18,16 +18,16 @@ pub record SubsView : Type 0 where
 -- their tokens rise from above low, and none is greater than last
 abbrev pub rise : ℕ → ℕ → List Subscription → Bool
 rise low last [] = nat_le low last
-rise low last (x ∷ xs) = nat_lt low x.token.n && rise x.token.n last xs
+rise low last (x ∷ xs) = nat_lt low x.token.number && rise x.token.number last xs
 
 abbrev pub no_subs : SubsView
 no_subs = record { last = 0; live = [] }
 
 abbrev pub has_token : SubToken → Subscription → Bool
-has_token t x = x.token.n == t.n
+has_token t x = x.token.number == t.number
 
 abbrev pub is_of_client : ClientToken → Subscription → Bool
-is_of_client c x = x.client.n == c.n
+is_of_client c x = x.client.number == c.number
 
 abbrev pub is_of_group : List ℕ → Subscription → Bool
 is_of_group g x = bytes_eq x.group g
@@ -45,7 +45,7 @@ is_subscribed c g s = list_any (is_of c g) s.live
 
 -- tokens count from 1
 abbrev pub next_token : SubsView → SubToken
-next_token s = record { n = s.last + 1 }
+next_token s = record { number = s.last + 1 }
 
 abbrev pub subs_add : ClientToken → List ℕ → SubsView → SubsView
 subs_add c g s = record { last = s.last + 1; live = s.live ++ record { token = next_token s; client = c; group = g } ∷ [] }

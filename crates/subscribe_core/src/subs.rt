@@ -13,13 +13,13 @@ use std::marker::Model;
 /// A client of a node: clients count from 1, and no live client has the number 0.
 #[derive(Clone, Copy, Debug, PartialEq, Eq)]
 pub struct ClientToken {
-    pub n: u32,
+    pub number: u32,
 }
 
 /// A subscription: they count from 1, and no live subscription has the number 0.
 #[derive(Clone, Copy, Debug, PartialEq, Eq)]
 pub struct SubToken {
-    pub n: u32,
+    pub number: u32,
 }
 
 /// Why a subscription is refused: the group is neither known nor `HostMembership`, or memory has run out.
@@ -168,7 +168,9 @@ impl Subs {
             return Err(SubFault::UnknownGroup);
         }
         let group = List::of(alloc, group)?;
-        let token = SubToken { n: self.last + 1 };
+        let token = SubToken {
+            number: self.last + 1,
+        };
         self.live.push(Subscription {
             token,
             client,

@@ -63,7 +63,7 @@ fn put_row_vote(out: &mut Vec<u8>, vote: RowVote) -> Result<(), NoMemory>
 fn put_row(out: &mut Vec<u8>, row: Row) -> Result<(), NoMemory>
     ensures { OnOk result (out.new.items ≡ out.old.items ++ row_text row) }
 {
-    put_provider(out, row.p)?;
+    put_provider(out, row.provider)?;
     put_text(out, b"=")?;
     put_row_vote(out, row.vote)
 }

@@ -37,7 +37,7 @@ fn cause_text(cause: Cause) -> &'static [u8]
 fn put_failure(out: &mut Vec<u8>, failure: Failure) -> Result<(), NoMemory>
     ensures { OnOk result (out.new.items ≡ out.old.items ++ failure_text failure) }
 {
-    put_provider(out, failure.p)?;
+    put_provider(out, failure.provider)?;
     put_text(out, cause_text(failure.cause))
 }
 
@@ -148,20 +148,36 @@ pub fn put_proposal(out: &mut Vec<u8>, proposal: &Proposal) -> Result<(), NoMemo
             attrs,
             source_len,
         } => put_join(out, ps, attrs, *source_len),
-        Proposal::Leave { p, r } => put_asked(out, b"leave ", *p, *r),
+        Proposal::Leave { provider, request } => put_asked(out, b"leave ", *provider, *request),
         Proposal::Fail { out: fallen } => {
             put_text(out, b"fail ")?;
             put_failures(out, fallen.as_slice())
         }
-        Proposal::Expel { p, r, out: targets } => {
-            put_asked(out, b"expel ", *p, *r)?;
+        Proposal::Expel {
+            provider,
+            request,
+            out: targets,
+        } => {
+            put_asked(out, b"expel ", *provider, *request)?;
             put_text(out, b" ")?;
             put_providers(out, targets.as_slice())
         }
-        Proposal::State { p, r, value } => put_asked_value(out, b"state ", *p, *r, value),
-        Proposal::Message { p, r, bytes } => { put_asked_value(out, b"message ", *p, *r, bytes) }
-        Proposal::Attributes { p, r, attrs } => {
-            put_asked(out, b"attrs ", *p, *r)?;
+        Proposal::State {
+            provider,
+            request,
+            value,
+        } => put_asked_value(out, b"state ", *provider, *request, value),
+        Proposal::Message {
+            provider,
+            request,
+            bytes,
+        } => { put_asked_value(out, b"message ", *provider, *request, bytes) }
+        Proposal::Attributes {
+            provider,
+            request,
+            attrs,
+        } => {
+            put_asked(out, b"attrs ", *provider, *request)?;
             put_attrs(out, attrs)
         }
         Proposal::Reflect { view, place, value } => put_reflect(out, *view, *place, value),

@@ -320,7 +320,7 @@ fn put_record(alloc: Global, out: &mut Vec<u8>, happened: &Happened) -> Result<(
             put_appended(out, *node, &at, entry)
         }
         Happened::Heard {
-            p,
+            provider,
             view,
             group,
             place,
@@ -333,28 +333,28 @@ fn put_record(alloc: Global, out: &mut Vec<u8>, happened: &Happened) -> Result<(
                 group,
                 place: *place,
             };
-            put_heard(out, *p, &at, entry, members, value)
+            put_heard(out, *provider, &at, entry, members, value)
         }
         Happened::Cast {
-            p,
+            provider,
             proto,
             phase,
             vote,
             value,
             ..
-        } => put_ballot(out, *p, *proto, *phase, *vote, value),
+        } => put_ballot(out, *provider, *proto, *phase, *vote, value),
         Happened::Asked {
-            p,
-            r: happened,
+            provider,
+            request,
             group,
             proposal,
-        } => put_asked(out, *p, *happened, group, proposal),
+        } => put_asked(out, *provider, *request, group, proposal),
         Happened::Told {
-            p,
-            r: happened,
+            provider,
+            request,
             why,
         } => {
-            put_request(out, b"told ", *p, *happened)?;
+            put_request(out, b"told ", *provider, *request)?;
             put_why(out, *why)
         }
         Happened::Noted {

@@ -7,12 +7,12 @@ ghost use Rattle.view_state.specs.Views.{ask_others, ask_rule, answered, prepare
 
 use crate::lists::OwnLists;
 use crate::work::{
-    MAX_PARTS, gather_on, may_ask, next_view, nodes_but, own_answer, promise, send, send_prepare,
+    gather_on, may_ask, next_view, nodes_but, own_answer, promise, send, send_prepare,
 };
 use rsct_packet::{Mask, NoMemory, ViewId};
 use std::alloc::Global;
 use view_exchange::{AnswerRef, add_answer};
-use view_state::{Exchange, Install, ViewPacket, ViewWork, Views};
+use view_state::{Exchange, Install, MAX_PARTS, ViewPacket, ViewWork, Views};
 
 /// How a node is asked for a view: above its promise; once more, while it has not entered it; or, whoever asks, below
 /// its promise.

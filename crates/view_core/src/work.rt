@@ -10,9 +10,6 @@ use rsct_packet::{Mask, Member, NODES, NoMemory, ViewId};
 use std::alloc::Global;
 use view_state::{Answer, Exchange, Install, ViewPacket, ViewSend, ViewSends, ViewWork, Views};
 
-/// How many parts an answer has at most.
-pub const MAX_PARTS: usize = 255;
-
 /// PREPARE to each of these.
 fn send_prepare_each(
     sends: &mut ViewSends,

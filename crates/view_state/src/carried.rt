@@ -12,8 +12,8 @@ use crate::install::{Install, Part, Source};
 use proposal_core::Entry;
 use rsct_packet::{Members, ViewId};
 
-/// How many parts a source has at most.
-const MAX_PARTS: usize = 255;
+/// How many parts an answer or a source has at most, and how many members or sources an install.
+pub const MAX_PARTS: usize = 255;
 
 impl Source {
     fn is_spelled(&self) -> bool

@@ -13,6 +13,7 @@ mod sides;
 mod views;
 
 pub use answer::Answer;
+pub use carried::MAX_PARTS;
 pub use exchange::Exchange;
 pub use install::{Base, Install, Part, Parts, Source, Sources};
 pub use names::{is_after, is_less};

@@ -32,4 +32,4 @@ first_row p d limit n (Ticks ∷ cs) = elim (passes limit n) [ true ↦ Some (ro
 
 -- each voter with its first vote or default
 abbrev pub first_rows : List ProviderId → DefaultVote → ℕ → List Command → List Voter
-first_rows ps d limit cs = map (λ p. record { p = p; vote = first_row p d limit 0 cs }) ps
+first_rows ps d limit cs = map (λ p. record { provider = p; vote = first_row p d limit 0 cs }) ps

@@ -24,16 +24,16 @@ pub record TallyView : Type 0 where
 
 -- voters that differ, at most 64
 abbrev pub AreVoters : List Voter → Type 0
-AreVoters xs = AreProviders (map (λ x. x.p) xs)
+AreVoters xs = AreProviders (map (λ x. x.provider) xs)
 
 abbrev pub no_vote : ProviderId → Voter
-no_vote p = record { p = p; vote = None }
+no_vote p = record { provider = p; vote = None }
 
 abbrev pub tally_new : List ProviderId → DefaultVote → ℕ → TallyView
 tally_new ps d limit = record { voters = map no_vote ps; default_vote = d; limit = limit; count = 0 }
 
 abbrev pub is_voter : ProviderId → Voter → Bool
-is_voter p x = same_provider x.p p
+is_voter p x = same_provider x.provider p
 
 -- what stands for a voter already stays
 abbrev pub or_vote : RowVote → Option RowVote → Option RowVote
@@ -63,7 +63,7 @@ has_open t = list_any is_open t.voters
 
 -- the voters without a row, in order
 abbrev pub open_voters : TallyView → List ProviderId
-open_voters t = map (λ x. x.p) (filter is_open t.voters)
+open_voters t = map (λ x. x.provider) (filter is_open t.voters)
 
 -- the count after one more tick; it stands still at its type's last value
 abbrev pub counted : ℕ → ℕ
@@ -104,7 +104,7 @@ cast_answer p t = answer_of (find (is_voter p) t.voters)
 
 abbrev pub row_in : Option Voter → Option Row
 row_in None = None
-row_in (Some x) = elim x.vote [ None ↦ None | Some v ↦ Some (record { p = x.p; vote = v }) ]
+row_in (Some x) = elim x.vote [ None ↦ None | Some v ↦ Some (record { provider = x.provider; vote = v }) ]
 
 -- the row of a voter by its place; none while it has none, or where no voter stands there
 abbrev pub row_at : ℕ → TallyView → Option Row

@@ -57,7 +57,10 @@ fn without_rows(providers: &[ProviderId]) -> ArrayVec<Voter, 64>
 {
     let mut voters = ArrayVec::new();
     for p in providers {
-        voters.push(Voter { p: *p, vote: None });
+        voters.push(Voter {
+            provider: *p,
+            vote: None,
+        });
     }
     voters
 }

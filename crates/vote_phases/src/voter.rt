@@ -12,7 +12,7 @@ use std::alloc::Global;
 /// A voter and what stands for it: none while it may still vote.
 #[derive(Clone, Copy, Debug, Default, PartialEq, Eq)]
 pub struct Voter {
-    pub p: ProviderId,
+    pub provider: ProviderId,
     pub vote: Option<RowVote>,
 }
 
@@ -22,7 +22,7 @@ impl Voter {
         ensures { result ≡ given vote self }
     {
         Voter {
-            p: self.p,
+            provider: self.provider,
             vote: self.vote.or(Some(vote)),
         }
     }
@@ -31,7 +31,7 @@ impl Voter {
     fn given_to(self, provider: ProviderId, vote: RowVote) -> Voter
         ensures { result ≡ given_to provider vote self }
     {
-        if self.p == provider {
+        if self.provider == provider {
             self.given(vote)
         } else {
             self
@@ -50,7 +50,10 @@ impl Voter {
     {
         match self.vote {
             None => None,
-            Some(vote) => Some(Row { p: self.p, vote }),
+            Some(vote) => Some(Row {
+                provider: self.provider,
+                vote,
+            }),
         }
     }
 
@@ -124,7 +127,7 @@ pub(crate) fn give_all(voters: &mut [Voter], vote: RowVote)
 pub(crate) fn voter_of(voters: &[Voter], provider: ProviderId) -> Option<&Voter>
     ensures { option_copied result ≡ find (is_voter provider) voters.now }
 {
-    voters.iter().find(|x| x.p == provider)
+    voters.iter().find(|x| x.provider == provider)
 }
 
 /// Is there a voter without a row?
@@ -136,13 +139,13 @@ pub(crate) fn is_one_open(voters: &[Voter]) -> bool
 
 /// The voters without a row, in order.
 pub(crate) fn open_among(alloc: Global, voters: &[Voter]) -> Result<Vec<ProviderId>, NoMemory>
-    ensures { IfOk result (λ v. v.items ≡ map (λ x. x.p) (filter is_open voters.now)) }
+    ensures { IfOk result (λ v. v.items ≡ map (λ x. x.provider) (filter is_open voters.now)) }
 {
     Ok(
         voters
             .iter()
             .filter(|x| x.is_open())
-            .map(|x| x.p)
+            .map(|x| x.provider)
             .collect(alloc)?,
     )
 }

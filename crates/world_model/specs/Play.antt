@@ -64,7 +64,7 @@ with_event p e = record p { world = happens p.world e; events = e ∷ p.events }
 unfoldable pub flows_to : Played → Sent → List Sent → Bool → Bool → Played
 flows_to p x rest false cut = in_world p (record (p.world) { queue = rest })
 flows_to p x rest true true = in_world p (record (p.world) { queue = rest })
-flows_to p x rest true false = with_event p (event.Deliver x.packet.from x.packet.to x.k)
+flows_to p x rest true false = with_event p (event.Deliver x.packet.from x.packet.to x.number)
 
 -- the earliest packet that is not handled, again and again, so often
 unfoldable pub flows : ℕ → Played → Played

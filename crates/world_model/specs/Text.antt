@@ -88,7 +88,7 @@ cause_text cause.Gone = codes ":gone"
 cause_text cause.Cast = codes ":cast"
 
 unfoldable pub failure_text : Failure → List ℕ
-failure_text f = provider_text f.p ++ cause_text f.cause
+failure_text f = provider_text f.provider ++ cause_text f.cause
 
 -- who asks, and with which number
 unfoldable pub asker_text : ProviderId → ℕ → List ℕ
@@ -119,7 +119,7 @@ row_vote_text (row_vote.Late d) = codes "L" ++ default_letter d
 row_vote_text (row_vote.Failed d) = codes "F" ++ default_letter d
 
 unfoldable pub row_text : Row → List ℕ
-row_text r = provider_text r.p ++ codes "=" ++ row_vote_text r.vote
+row_text r = provider_text r.provider ++ codes "=" ++ row_vote_text r.vote
 
 -- the protocol and the phase, each with the space behind it
 unfoldable pub phase_text : ProtoId → ℕ → List ℕ

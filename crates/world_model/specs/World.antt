@@ -44,7 +44,7 @@ pub record Script : Type 0 where
 
 abbrev pub items_in : List Script → Option Session → List (Option VoteItem)
 items_in scripts None = []
-items_in scripts (Some x) = unwrap_or (option_map (λ (y : Script). y.items) (find (λ (y : Script). y.token.n == x.token.n) scripts)) []
+items_in scripts (Some x) = unwrap_or (option_map (λ (y : Script). y.items) (find (λ (y : Script). y.token.number == x.token.number) scripts)) []
 
 abbrev pub session_at : SessionState → Option ℕ → Option Session
 session_at s None = None
@@ -72,9 +72,9 @@ pub record Pair : Type 0 where
   pub count : ℕ
   pub packets : List Packet
 
--- a packet that is not handled yet: the k-th of its pair
+-- a packet that is not handled yet: the packet of this number among those of its pair
 pub record Sent : Type 0 where
-  pub k : ℕ
+  pub number : ℕ
   pub packet : Packet
 
 -- the incarnation in which a node started last
@@ -126,7 +126,7 @@ unfoldable pub posted : World → Packet → World
 posted w p =
     record w {
       pairs = pairs_with p w.pairs;
-      queue = w.queue ++ record { k = count_between w p.from p.to + 1; packet = p } ∷ [];
+      queue = w.queue ++ record { number = count_between w p.from p.to + 1; packet = p } ∷ [];
       sent = p ∷ w.sent;
     }
 
@@ -139,7 +139,7 @@ unfoldable pub kth_between : World → ℕ → ℕ → ℕ → Option Packet
 kth_between w a b k = kth_in k (find (is_pair a b) w.pairs)
 
 unfoldable pub is_sent : ℕ → ℕ → ℕ → Sent → Bool
-is_sent a b k x = x.k == k && x.packet.from == a && x.packet.to == b
+is_sent a b k x = x.number == k && x.packet.from == a && x.packet.to == b
 
 unfoldable pub handled : World → ℕ → ℕ → ℕ → World
 handled w a b k = record w { queue = drop_where (is_sent a b k) w.queue }
@@ -202,7 +202,7 @@ script_of t votes = record { token = t; items = unwrap_or (votes_word votes) [] 
 
 -- a client that is made votes by its word
 unfoldable pub scripts_after : CallLine → Core → List Script → List Script
-scripts_after (Init node name votes) x scripts = script_of (record { n = x.sessions.last_client + 1 }) votes ∷ scripts
+scripts_after (Init node name votes) x scripts = script_of (record { number = x.sessions.last_client + 1 }) votes ∷ scripts
 scripts_after _ x scripts = scripts
 
 -- a call of a client whose node is down is refused

@@ -39,17 +39,17 @@ find_pair a b ps = find (is_pair a b) ps
 
 -- what is kept of a packet that waits
 abbrev pub waits_as : world.Sent → Waiting
-waits_as x = record { from = x.packet.from; to = x.packet.to; k = x.k; network = x.packet.network }
+waits_as x = record { from = x.packet.from; to = x.packet.to; number = x.number; network = x.packet.network }
 
 abbrev pub is_waiting : ℕ → ℕ → ℕ → Waiting → Bool
-is_waiting a b k x = x.k == k && x.from == a && x.to == b
+is_waiting a b k x = x.number == k && x.from == a && x.to == b
 
 abbrev pub is_between : ℕ → ℕ → Waiting → Bool
 is_between a b x = x.from == a && x.to == b
 
 -- what is kept of a packet that is sent
 abbrev pub waits_next : List world.Pair → Packet → Waiting
-waits_next ps p = record { from = p.from; to = p.to; k = count_in (find_pair p.from p.to ps) + 1; network = p.network }
+waits_next ps p = record { from = p.from; to = p.to; number = count_in (find_pair p.from p.to ps) + 1; network = p.network }
 
 abbrev pub first_of : List Waiting → Option Waiting
 first_of [] = None

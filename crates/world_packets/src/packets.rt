@@ -49,7 +49,7 @@ fn hint_of(from: u8, to: u8) -> usize
 fn is_waiting(waiting: &Waiting, from: u8, to: u8, number: u32) -> bool
     ensures { result ≡ is_waiting from to number waiting.now }
 {
-    waiting.k == number && waiting.from == from && waiting.to == to
+    waiting.number == number && waiting.from == from && waiting.to == to
 }
 
 /// Is it between these two nodes?
@@ -110,15 +110,15 @@ impl WorldPackets {
         let len = d.len();
         let at = hint_of(packet.from, packet.to);
         let hint = self.hints[at] as usize;
-        let k = add(&mut self.pairs, alloc, hint, packet.from, packet.to, d)?;
-        if k == 1 {
+        let number = add(&mut self.pairs, alloc, hint, packet.from, packet.to, d)?;
+        if number == 1 {
             let last = self.pairs.len().saturating_sub(1);
             self.hints[at] = u16::try_from(last).unwrap_or(0);
         }
         self.waiting.push_back(Waiting {
             from: packet.from,
             to: packet.to,
-            k,
+            number,
             network: packet.network,
         })?;
         Ok(len)

@@ -57,7 +57,7 @@ module _ (c : Config) where
   unfolding flows_to
   taken_plays p x rest false cut t = waits_plays p rest t
   taken_plays p x rest true true t = waits_plays p rest t
-  taken_plays p x rest true false t = event_plays p (event.Deliver x.packet.from x.packet.to x.k) (event_may c (event.Deliver x.packet.from x.packet.to x.k) tt) t
+  taken_plays p x rest true false t = event_plays p (event.Deliver x.packet.from x.packet.to x.number) (event_may c (event.Deliver x.packet.from x.packet.to x.number) tt) t
 
   flow_plays : (n : ℕ) (p : Played) (q : List Sent) → ((r : Played) → Plays c r → Plays c (flows n r)) → Plays c p
       → Plays c (elim q [ [] ↦ p | x ∷ xs ↦ flows n (flows_to p x xs (is_some (node_at p.world x.packet.to)) (is_cut p.cuts x.packet)) ])

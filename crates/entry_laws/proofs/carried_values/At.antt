@@ -108,7 +108,7 @@ module _ (h : Course) where
         let ts : List Happened = (s.records ++ r ∷ []) ++ records_of h.before in
         record {
           sends = λ p i. body_on rs ts more p.body (a.sends p i);
-          kept = λ k i. ballot_on rs ts more k.p k.proto k.phase k.ballot.filled (a.kept k i);
+          kept = λ k i. ballot_on rs ts more k.provider k.proto k.phase k.ballot.filled (a.kept k i);
           facts = λ c. subst (Facts h.before) (sym (reverse-append s.records (r ∷ []))) (fact c (a.facts c));
           order = a.order;
           tallies = λ g t. row_is_on rs ts more (leads_row s (found s g)) (found s g) (a.tallies g t);

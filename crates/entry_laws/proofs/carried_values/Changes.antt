@@ -166,9 +166,9 @@ module _ (h : Course) where
   delivery T g e =
       record {
         sends = λ s network to v place stable a. at_sent_on h T s network to (body.Entry v g place stable e) tt a;
-        hears = λ s before after bs c i j a. at_recorded h T s (happened.Heard c.p s.views.view g i e after.members after.value) tt a;
+        hears = λ s before after bs c i j a. at_recorded h T s (happened.Heard c.provider s.views.view g i e after.members after.value) tt a;
         casts = λ s p proto phase vote value message a. at_recorded h T s (happened.Cast p proto phase vote value message) tt a;
-        handed = λ s before after bs kept a. at_sessions h T s (session.handed_on s.sessions g before after e bs) (λ k i. ⊎_elim (λ (j : Has k s.sessions.kept). a.kept k j) (λ (j : KeptIs s.records k). told_so s.records (records_of h.before) k.p k.proto k.phase k.ballot.filled j) (kept k i)) a;
+        handed = λ s before after bs kept a. at_sessions h T s (session.handed_on s.sessions g before after e bs) (λ k i. ⊎_elim (λ (j : Has k s.sessions.kept). a.kept k j) (λ (j : KeptIs s.records k). told_so s.records (records_of h.before) k.provider k.proto k.phase k.ballot.filled j) (kept k i)) a;
       }
 
   at_put : (T U : List ℕ → Type 0) (s : Core) (g : List ℕ) (e : Entry) (ns : List ℕ) (stable : ℕ) (bs : List (Option Filled)) → (h.counts ≡ true → PutFact (reverse s.records) h.before s.views.view g (len_in (found s g).list) e) → ((k : List ℕ) → U k → (g ≡ k → ⊥) → T k) → (U g → Is s (put_row h.before s (found s g) e)) → At h T s → At h U (delivered s g e ns stable bs)
@@ -325,7 +325,7 @@ module _ (h : Course) where
   at_view_entered s i a =
       record {
         sends = λ p j. body_on now ts more p.body (a.sends p j);
-        kept = λ k j. ballot_on now ts more k.p k.proto k.phase k.ballot.filled (a.kept k j);
+        kept = λ k j. ballot_on now ts more k.provider k.proto k.phase k.ballot.filled (a.kept k j);
         facts = λ c. subst (λ l. Facts h.before (reverse l)) same (based_facts s.views.me i.view bs rs (subst (Facts h.before) (sym (reverse-append s.records (enters ∷ []))) tt));
         order = bases_ordered i;
         tallies = λ g u. inl (tally g);
@@ -364,12 +364,12 @@ module _ (h : Course) where
           by (Some b) = refl
 
   -- a vote is recorded and kept
-  votes : (s : Core) (t : SessionState) (m : OneMore s.sessions t) → Full h s → Full h (recorded (with_sessions s t) (happened.Cast m.ballot.p m.ballot.proto m.ballot.phase m.filled.vote m.filled.value m.filled.message))
+  votes : (s : Core) (t : SessionState) (m : OneMore s.sessions t) → Full h s → Full h (recorded (with_sessions s t) (happened.Cast m.ballot.provider m.ballot.proto m.ballot.phase m.filled.vote m.filled.value m.filled.message))
   unfolding recorded with_sessions
   votes s t m a = at_sessions h Every (recorded s r) t all (at_recorded h Every s r tt a)
     where
       r : Happened
-      r = happened.Cast m.ballot.p m.ballot.proto m.ballot.phase m.filled.vote m.filled.value m.filled.message
+      r = happened.Cast m.ballot.provider m.ballot.proto m.ballot.phase m.filled.vote m.filled.value m.filled.message
 
       now : List Happened
       now = (s.records ++ r ∷ []) ++ records_of h.before
@@ -378,10 +378,10 @@ module _ (h : Course) where
       all x i = by (has_append x s.sessions.kept (m.ballot ∷ []) (subst (Has x) m.more i))
         where
           own : KeptTold now m.ballot
-          own = subst (λ b. BallotTold now m.ballot.p m.ballot.proto m.ballot.phase b) (sym m.full) (has_last r s.records (records_of h.before))
+          own = subst (λ b. BallotTold now m.ballot.provider m.ballot.proto m.ballot.phase b) (sym m.full) (has_last r s.records (records_of h.before))
 
           by : Has x s.sessions.kept ⊎ Has x (m.ballot ∷ []) → KeptTold now x
-          by (inl j) = ballot_on (s.records ++ records_of h.before) now (λ y z. has_pushed_on r y s.records (records_of h.before) z) x.p x.proto x.phase x.ballot.filled (a.kept x j)
+          by (inl j) = ballot_on (s.records ++ records_of h.before) now (λ y z. has_pushed_on r y s.records (records_of h.before) z) x.provider x.proto x.phase x.ballot.filled (a.kept x j)
           by (inr (inl e)) = subst (KeptTold now) (sym e) own
           by (inr (inr z)) = absurd z
 
@@ -404,7 +404,7 @@ module _ (h : Course) where
         beside = λ i xs. beside loose NoGroup;
         fills = λ s i xs x e bs here there a. at_put loose NoGroup NoGroup s x.name e [] 0 bs (λ c. absurd (cc)) (λ k z ne. z) (λ z. absurd z) a;
         enters = λ s i xs a. at_view_entered s i a;
-        dissolves = λ s q x e a. telling h s x.p (number_of (outstanding s.sessions x.p)) Dissolved a;
+        dissolves = λ s q x e a. telling h s x.provider (number_of (outstanding s.sessions x.provider)) Dissolved a;
       }
 
   pub ring : KeepsRing (Full h)

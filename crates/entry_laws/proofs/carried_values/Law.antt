@@ -100,7 +100,7 @@ module _ (rs ts : List Happened) (more : (r : Happened) → Has r rs → Has r t
   core_on : (s : Core) → CoreTold rs s → CoreTold ts s
   core_on s k =
       record {
-        kept = λ x i. ballot_on rs ts more x.p x.proto x.phase x.ballot.filled (k.kept x i);
+        kept = λ x i. ballot_on rs ts more x.provider x.proto x.phase x.ballot.filled (k.kept x i);
         tallies = λ g. row_is_on rs ts more (leads_row s (found s g)) (found s g) (k.tallies g);
       }
 

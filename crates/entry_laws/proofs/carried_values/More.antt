@@ -18,7 +18,7 @@ module _ (rs ts : List Happened) (more : (r : Happened) → Has r rs → Has r t
 
   rows_on : (pick : Pick) (proto : ProtoId) (phase : ℕ) (rows : List Row) (part : Option (List ℕ)) → RowsGive pick rs proto phase rows part → RowsGive pick ts proto phase rows part
   rows_on pick proto phase [] part k = k
-  rows_on pick proto phase (r ∷ rows) part k = by r.p r.vote k (rows_on pick proto phase rows part)
+  rows_on pick proto phase (r ∷ rows) part k = by r.provider r.vote k (rows_on pick proto phase rows part)
     where
       by : (p : ProviderId) (v : RowVote) → RowGives pick rs proto phase p v (RowsGive pick rs proto phase rows) part → (RowsGive pick rs proto phase rows part → RowsGive pick ts proto phase rows part) → RowGives pick ts proto phase p v (RowsGive pick ts proto phase rows) part
       by p (row_vote.Cast v) k rest = (k.0, k.1, more _ k.2, own_on (pick k.0 k.1) (RowsGive pick rs proto phase rows) (RowsGive pick ts proto phase rows) part rest k.3)

@@ -31,7 +31,7 @@ use Rattle.entry_laws.specs.carried_values.Carried.{Pick, the_value, the_message
 
 -- what a counted ballot of the provider carries
 abbrev pub given_of : List Given → ProviderId → Option Given
-given_of gs p = find (λ (y : Given). same_provider y.p p) gs
+given_of gs p = find (λ (y : Given). same_provider y.provider p) gs
 
 -- a slot has a vote just where a ballot of it is kept, which was recorded with that vote
 abbrev pub SlotIs : List Happened → Running → Option Given → ProviderId → Option RowVote → Type 0
@@ -46,8 +46,8 @@ SlotIs rs run (Some y) p (Some (row_vote.Failed d)) = ⊥
 
 -- slots of one provider have the same
 pub record Slots (rs : List Happened) (run : Running) (gs : List Given) (xs : List Voter) : Type 0 where
-  pub each : (x : Voter) → Has x xs → SlotIs rs run (given_of gs x.p) x.p x.vote
-  pub same : (x y : Voter) → Has x xs → Has y xs → x.p ≡ y.p → x.vote ≡ y.vote
+  pub each : (x : Voter) → Has x xs → SlotIs rs run (given_of gs x.provider) x.provider x.vote
+  pub same : (x y : Voter) → Has x xs → Has y xs → x.provider ≡ y.provider → x.vote ≡ y.vote
 
 -- of a tally of the phase that runs
 abbrev pub TallyIs : List Happened → Option TallyView → List Given → Option Running → Type 0
@@ -69,19 +69,19 @@ module _ (rs ts : List Happened) (more : (r : Happened) → Has r rs → Has r t
   pub tally_on : (t : Option TallyView) (gs : List Given) (run : Option Running) → TallyIs rs t gs run → TallyIs ts t gs run
   tally_on None gs run k = tt
   tally_on (Some t) gs None k = tt
-  tally_on (Some t) gs (Some run) k = record { each = λ x i. slot_on run (given_of gs x.p) x.p x.vote (k.each x i); same = k.same }
+  tally_on (Some t) gs (Some run) k = record { each = λ x i. slot_on run (given_of gs x.provider) x.provider x.vote (k.each x i); same = k.same }
 
 module _ (rs : List Happened) where
   -- ---- what stands for voters changes
 
-  module _ (run : Running) (gs hs : List Given) (f : Voter → Voter) (F : ProviderId → Option RowVote → Option RowVote) (p_same : (x : Voter) → (f x).p ≡ x.p) (vote_is : (x : Voter) → (f x).vote ≡ F x.p x.vote) where
-    mapped : (xs : List Voter) → ((x : Voter) → Has x xs → SlotIs rs run (given_of gs x.p) x.p x.vote → SlotIs rs run (given_of hs x.p) x.p (F x.p x.vote)) → Slots rs run gs xs → Slots rs run hs (map f xs)
+  module _ (run : Running) (gs hs : List Given) (f : Voter → Voter) (F : ProviderId → Option RowVote → Option RowVote) (p_same : (x : Voter) → (f x).provider ≡ x.provider) (vote_is : (x : Voter) → (f x).vote ≡ F x.provider x.vote) where
+    mapped : (xs : List Voter) → ((x : Voter) → Has x xs → SlotIs rs run (given_of gs x.provider) x.provider x.vote → SlotIs rs run (given_of hs x.provider) x.provider (F x.provider x.vote)) → Slots rs run gs xs → Slots rs run hs (map f xs)
     mapped xs step k =
         record {
-          each = λ y i. let b = has_map f y xs i in subst (λ (z : Voter). SlotIs rs run (given_of hs z.p) z.p z.vote) (sym b.2) (subst (λ (z : ProviderId × Option RowVote). SlotIs rs run (given_of hs z.0) z.0 z.1) (λ j. (sym (p_same b.0) j, sym (vote_is b.0) j)) (step b.0 b.1 (k.each b.0 b.1)));
+          each = λ y i. let b = has_map f y xs i in subst (λ (z : Voter). SlotIs rs run (given_of hs z.provider) z.provider z.vote) (sym b.2) (subst (λ (z : ProviderId × Option RowVote). SlotIs rs run (given_of hs z.0) z.0 z.1) (λ j. (sym (p_same b.0) j, sym (vote_is b.0) j)) (step b.0 b.1 (k.each b.0 b.1)));
           same = λ x y i j e. let a = has_map f x xs i in
               let b = has_map f y xs j in
-              let q : (a.0).p ≡ (b.0).p = sym (p_same a.0) ∙ ap (λ (z : Voter). z.p) (sym a.2) ∙ e ∙ ap (λ (z : Voter). z.p) b.2 ∙ p_same b.0 in
+              let q : (a.0).provider ≡ (b.0).provider = sym (p_same a.0) ∙ ap (λ (z : Voter). z.provider) (sym a.2) ∙ e ∙ ap (λ (z : Voter). z.provider) b.2 ∙ p_same b.0 in
               let w : (a.0).vote ≡ (b.0).vote = k.same a.0 b.0 a.1 b.1 q in
               ap (λ (z : Voter). z.vote) a.2 ∙ vote_is a.0 ∙ (λ l. F (q l) (w l)) ∙ sym (vote_is b.0) ∙ ap (λ (z : Voter). z.vote) (sym b.2);
         }
@@ -89,14 +89,14 @@ module _ (rs : List Happened) where
   abbrev given_vote : ProviderId → RowVote → ProviderId → Option RowVote → Option RowVote
   given_vote p v q w = if same_provider q p then or_vote v w else w
 
-  given_p : (p : ProviderId) (v : RowVote) (x : Voter) → (given_to p v x).p ≡ x.p
+  given_p : (p : ProviderId) (v : RowVote) (x : Voter) → (given_to p v x).provider ≡ x.provider
   given_p p v x = by (is_voter p x)
     where
-      by : (b : Bool) → (if b then given v x else x).p ≡ x.p
+      by : (b : Bool) → (if b then given v x else x).provider ≡ x.provider
       by true = refl
       by false = refl
 
-  given_is : (p : ProviderId) (v : RowVote) (x : Voter) → (given_to p v x).vote ≡ given_vote p v x.p x.vote
+  given_is : (p : ProviderId) (v : RowVote) (x : Voter) → (given_to p v x).vote ≡ given_vote p v x.provider x.vote
   given_is p v x = by (is_voter p x)
     where
       by : (b : Bool) → (if b then given v x else x).vote ≡ (if b then or_vote v x.vote else x.vote)
@@ -111,13 +111,13 @@ module _ (rs : List Happened) where
 
   pub failed_is : (p : ProviderId) (t : TallyView) (gs : List Given) (run : Option Running) → TallyIs rs (Some t) gs run → TallyIs rs (Some (tally_fail p t)) gs run
   failed_is p t gs None k = tt
-  failed_is p t gs (Some run) k = mapped run gs gs (given_to p v) (given_vote p v) (given_p p v) (given_is p v) t.voters (λ x i s. by x (same_provider x.p p) s) k
+  failed_is p t gs (Some run) k = mapped run gs gs (given_to p v) (given_vote p v) (given_p p v) (given_is p v) t.voters (λ x i s. by x (same_provider x.provider p) s) k
     where
       v : RowVote
       v = row_vote.Failed t.default_vote
 
-      by : (x : Voter) (b : Bool) → SlotIs rs run (given_of gs x.p) x.p x.vote → SlotIs rs run (given_of gs x.p) x.p (if b then or_vote v x.vote else x.vote)
-      by x true s = default_slot run (given_of gs x.p) x.p v x.vote tt s
+      by : (x : Voter) (b : Bool) → SlotIs rs run (given_of gs x.provider) x.provider x.vote → SlotIs rs run (given_of gs x.provider) x.provider (if b then or_vote v x.vote else x.vote)
+      by x true s = default_slot run (given_of gs x.provider) x.provider v x.vote tt s
       by x false s = s
 
   pub ticked_is : (t : TallyView) (gs : List Given) (run : Option Running) → TallyIs rs (Some t) gs run → TallyIs rs (Some (tally_tick t)) gs run
@@ -128,22 +128,22 @@ module _ (rs : List Happened) where
       v = row_vote.Late t.default_vote
 
       by : (b : Bool) → Slots rs run gs (late_if b t.default_vote t.voters)
-      by true = mapped run gs gs (given v) (λ q w. or_vote v w) (λ x. refl) (λ x. refl) t.voters (λ x i s. default_slot run (given_of gs x.p) x.p v x.vote tt s) k
+      by true = mapped run gs gs (given v) (λ q w. or_vote v w) (λ x. refl) (λ x. refl) t.voters (λ x i s. default_slot run (given_of gs x.provider) x.provider v x.vote tt s) k
       by false = k
 
   -- ---- a ballot is counted
 
-  given_more : (gs : List Given) (y : Given) (q : ProviderId) → given_of gs q ≡ None → same_provider y.p q ≡ true → given_of (gs ++ y ∷ []) q ≡ Some y
+  given_more : (gs : List Given) (y : Given) (q : ProviderId) → given_of gs q ≡ None → same_provider y.provider q ≡ true → given_of (gs ++ y ∷ []) q ≡ Some y
   given_more [] y q e s = ap (λ b. if b then Some y else None) s
-  given_more (z ∷ gs) y q e s = by (same_provider z.p q) e (given_more gs y q)
+  given_more (z ∷ gs) y q e s = by (same_provider z.provider q) e (given_more gs y q)
     where
-      by : (b : Bool) → (if b then Some z else given_of gs q) ≡ None → (given_of gs q ≡ None → same_provider y.p q ≡ true → given_of (gs ++ y ∷ []) q ≡ Some y) → (if b then Some z else given_of (gs ++ y ∷ []) q) ≡ Some y
+      by : (b : Bool) → (if b then Some z else given_of gs q) ≡ None → (given_of gs q ≡ None → same_provider y.provider q ≡ true → given_of (gs ++ y ∷ []) q ≡ Some y) → (if b then Some z else given_of (gs ++ y ∷ []) q) ≡ Some y
       by true e rest = absurd (cc)
       by false e rest = rest e s
 
-  given_beside : (gs : List Given) (y : Given) (q : ProviderId) → same_provider y.p q ≡ false → given_of (gs ++ y ∷ []) q ≡ given_of gs q
+  given_beside : (gs : List Given) (y : Given) (q : ProviderId) → same_provider y.provider q ≡ false → given_of (gs ++ y ∷ []) q ≡ given_of gs q
   given_beside [] y q s = ap (λ b. if b then Some y else None) s
-  given_beside (z ∷ gs) y q s = ap (λ o. if same_provider z.p q then Some z else o) (given_beside gs y q s)
+  given_beside (z ∷ gs) y q s = ap (λ o. if same_provider z.provider q then Some z else o) (given_beside gs y q s)
 
   other_way : (p q : ProviderId) → same_provider q p ≡ false → same_provider p q ≡ false
   other_way p q e = by (same_provider p q) refl
@@ -162,59 +162,59 @@ module _ (rs : List Happened) where
       Counted : Cast → Type 0
       Counted c = Slots rs run (given_with gs p value message c) (map (given_to p (row_vote.Cast v)) t.voters)
 
-      all : (hs : List Given) → ((x : Voter) → Has x t.voters → SlotIs rs run (given_of gs x.p) x.p x.vote → SlotIs rs run (given_of hs x.p) x.p (given_vote p (row_vote.Cast v) x.p x.vote)) → Slots rs run hs (map (given_to p (row_vote.Cast v)) t.voters)
+      all : (hs : List Given) → ((x : Voter) → Has x t.voters → SlotIs rs run (given_of gs x.provider) x.provider x.vote → SlotIs rs run (given_of hs x.provider) x.provider (given_vote p (row_vote.Cast v) x.provider x.vote)) → Slots rs run hs (map (given_to p (row_vote.Cast v)) t.voters)
       all hs step = mapped run gs hs (given_to p (row_vote.Cast v)) (given_vote p (row_vote.Cast v)) (given_p p (row_vote.Cast v)) (given_is p (row_vote.Cast v)) t.voters step k
 
       -- nobody of that name votes
       nobody : find (is_voter p) t.voters ≡ None → Counted NotVoter
-      nobody e = all gs (λ x i s. by x i (same_provider x.p p) refl s)
+      nobody e = all gs (λ x i s. by x i (same_provider x.provider p) refl s)
         where
-          by : (x : Voter) → Has x t.voters → (b : Bool) → same_provider x.p p ≡ b → SlotIs rs run (given_of gs x.p) x.p x.vote → SlotIs rs run (given_of gs x.p) x.p (if b then or_vote (row_vote.Cast v) x.vote else x.vote)
+          by : (x : Voter) → Has x t.voters → (b : Bool) → same_provider x.provider p ≡ b → SlotIs rs run (given_of gs x.provider) x.provider x.vote → SlotIs rs run (given_of gs x.provider) x.provider (if b then or_vote (row_vote.Cast v) x.vote else x.vote)
           by x i true q s = absurd (find_none (is_voter p) t.voters x (ap is_none e) i q)
           by x i false q s = s
 
       -- something stands for the voter already
-      already : (y : Voter) (w : RowVote) → Has y t.voters → y.p ≡ p → y.vote ≡ Some w → Counted (Already (vote_of_row w))
-      already y w j yp e = all gs (λ x i s. by x i (same_provider x.p p) refl s)
+      already : (y : Voter) (w : RowVote) → Has y t.voters → y.provider ≡ p → y.vote ≡ Some w → Counted (Already (vote_of_row w))
+      already y w j yp e = all gs (λ x i s. by x i (same_provider x.provider p) refl s)
         where
-          stands : (o : Option RowVote) (x : Voter) → o ≡ Some w → SlotIs rs run (given_of gs x.p) x.p o → SlotIs rs run (given_of gs x.p) x.p (or_vote (row_vote.Cast v) o)
+          stands : (o : Option RowVote) (x : Voter) → o ≡ Some w → SlotIs rs run (given_of gs x.provider) x.provider o → SlotIs rs run (given_of gs x.provider) x.provider (or_vote (row_vote.Cast v) o)
           stands None x z s = absurd (cc)
           stands (Some u) x z s = s
 
-          by : (x : Voter) → Has x t.voters → (b : Bool) → same_provider x.p p ≡ b → SlotIs rs run (given_of gs x.p) x.p x.vote → SlotIs rs run (given_of gs x.p) x.p (if b then or_vote (row_vote.Cast v) x.vote else x.vote)
-          by x i true q s = stands x.vote x (k.same x y i j (provider_same x.p p q ∙ sym yp) ∙ e) s
+          by : (x : Voter) → Has x t.voters → (b : Bool) → same_provider x.provider p ≡ b → SlotIs rs run (given_of gs x.provider) x.provider x.vote → SlotIs rs run (given_of gs x.provider) x.provider (if b then or_vote (row_vote.Cast v) x.vote else x.vote)
+          by x i true q s = stands x.vote x (k.same x y i j (provider_same x.provider p q ∙ sym yp) ∙ e) s
           by x i false q s = s
 
       new : Given
-      new = record { p = p; value = value; message = message }
+      new = record { provider = p; value = value; message = message }
 
       -- the ballot is the first of the voter
-      first : (y : Voter) → Has y t.voters → y.p ≡ p → y.vote ≡ None → Counted Recorded
-      first y j yp e = all (gs ++ new ∷ []) (λ x i s. by x i (same_provider x.p p) refl s)
+      first : (y : Voter) → Has y t.voters → y.provider ≡ p → y.vote ≡ None → Counted Recorded
+      first y j yp e = all (gs ++ new ∷ []) (λ x i s. by x i (same_provider x.provider p) refl s)
         where
-          taken : (x : Voter) (o : Option RowVote) → x.p ≡ p → o ≡ None → SlotIs rs run (given_of gs x.p) x.p o → SlotIs rs run (given_of (gs ++ new ∷ []) x.p) x.p (or_vote (row_vote.Cast v) o)
+          taken : (x : Voter) (o : Option RowVote) → x.provider ≡ p → o ≡ None → SlotIs rs run (given_of gs x.provider) x.provider o → SlotIs rs run (given_of (gs ++ new ∷ []) x.provider) x.provider (or_vote (row_vote.Cast v) o)
           taken x (Some u) xp z s = absurd (cc)
-          taken x None xp z s = at (given_of gs x.p) refl s
+          taken x None xp z s = at (given_of gs x.provider) refl s
             where
-              at : (o : Option Given) → given_of gs x.p ≡ o → SlotIs rs run o x.p None → SlotIs rs run (given_of (gs ++ new ∷ []) x.p) x.p (Some (row_vote.Cast v))
+              at : (o : Option Given) → given_of gs x.provider ≡ o → SlotIs rs run o x.provider None → SlotIs rs run (given_of (gs ++ new ∷ []) x.provider) x.provider (Some (row_vote.Cast v))
               at (Some g) q s = absurd s
               at None q s =
-                  let self : same_provider p x.p ≡ true = ap (same_provider p) xp ∙ same_self p in
-                  subst (λ o. SlotIs rs run o x.p (Some (row_vote.Cast v))) (sym (given_more gs new x.p q self)) (subst (λ z. Has (happened.Cast z run.proto run.phase v value message) rs) (sym xp) (ok run refl))
+                  let self : same_provider p x.provider ≡ true = ap (same_provider p) xp ∙ same_self p in
+                  subst (λ o. SlotIs rs run o x.provider (Some (row_vote.Cast v))) (sym (given_more gs new x.provider q self)) (subst (λ z. Has (happened.Cast z run.proto run.phase v value message) rs) (sym xp) (ok run refl))
 
-          by : (x : Voter) → Has x t.voters → (b : Bool) → same_provider x.p p ≡ b → SlotIs rs run (given_of gs x.p) x.p x.vote → SlotIs rs run (given_of (gs ++ new ∷ []) x.p) x.p (if b then or_vote (row_vote.Cast v) x.vote else x.vote)
+          by : (x : Voter) → Has x t.voters → (b : Bool) → same_provider x.provider p ≡ b → SlotIs rs run (given_of gs x.provider) x.provider x.vote → SlotIs rs run (given_of (gs ++ new ∷ []) x.provider) x.provider (if b then or_vote (row_vote.Cast v) x.vote else x.vote)
           by x i true q s =
-              let xp : x.p ≡ p = provider_same x.p p q in taken x x.vote xp (k.same x y i j (xp ∙ sym yp) ∙ e) s
+              let xp : x.provider ≡ p = provider_same x.provider p q in taken x x.vote xp (k.same x y i j (xp ∙ sym yp) ∙ e) s
           by x i false q s =
-              subst (λ o. SlotIs rs run o x.p x.vote) (sym (given_beside gs new x.p (other_way p x.p q))) s
+              subst (λ o. SlotIs rs run o x.provider x.vote) (sym (given_beside gs new x.provider (other_way p x.provider q))) s
 
-      at_voter : (y : Voter) → Has y t.voters → y.p ≡ p → (o : Option RowVote) → y.vote ≡ o → Counted (elim o as (λ _. Cast) [ None ↦ Recorded | Some w ↦ Already (vote_of_row w) ])
+      at_voter : (y : Voter) → Has y t.voters → y.provider ≡ p → (o : Option RowVote) → y.vote ≡ o → Counted (elim o as (λ _. Cast) [ None ↦ Recorded | Some w ↦ Already (vote_of_row w) ])
       at_voter y j yp None e = first y j yp e
       at_voter y j yp (Some w) e = already y w j yp e
 
       found : (o : Option Voter) → find (is_voter p) t.voters ≡ o → Counted (answer_of o)
       found None e = nobody e
-      found (Some y) e = let b = find_has (is_voter p) t.voters y e in at_voter y b.0 (provider_same y.p p b.1) y.vote refl
+      found (Some y) e = let b = find_has (is_voter p) t.voters y e in at_voter y b.0 (provider_same y.provider p b.1) y.vote refl
 
   -- ---- a tally that is opened anew has no votes
 
@@ -233,14 +233,14 @@ module _ (rs : List Happened) where
   opened_is st gone (Some run) =
       let t : TallyView = tally_new (voters st) st.attrs.default_vote (limit_of st.attrs st.running) in
       let none : (x : Voter) → Has x (map no_vote (voters st)) → x.vote ≡ None = λ x i. let k = has_map no_vote x (voters st) i in ap (λ (z : Voter). z.vote) k.2 in
-      fails_are st.failed gone run (voters st) t (record { each = λ x i. subst (λ o. SlotIs rs run None x.p o) (sym (none x i)) tt; same = λ x y i j e. none x i ∙ sym (none y j) })
+      fails_are st.failed gone run (voters st) t (record { each = λ x i. subst (λ o. SlotIs rs run None x.provider o) (sym (none x i)) tt; same = λ x y i j e. none x i ∙ sym (none y j) })
 
   -- ---- the entry that closes the phase
 
-  rows_give : (pick : Pick) (run : Running) (gs : List Given) (xs : List Voter) → ((x : Voter) → Has x xs → SlotIs rs run (given_of gs x.p) x.p x.vote) → RowsGive pick rs run.proto run.phase (rows_of xs) (first_carried (λ (y : Given). pick y.value y.message) gs xs)
+  rows_give : (pick : Pick) (run : Running) (gs : List Given) (xs : List Voter) → ((x : Voter) → Has x xs → SlotIs rs run (given_of gs x.provider) x.provider x.vote) → RowsGive pick rs run.proto run.phase (rows_of xs) (first_carried (λ (y : Given). pick y.value y.message) gs xs)
   unfolding first_carried
   rows_give pick run gs [] all = refl
-  rows_give pick run gs (x ∷ xs) all = by (given_of gs x.p) x.vote (all x (inl refl)) (rows_give pick run gs xs (λ y i. all y (inr i)))
+  rows_give pick run gs (x ∷ xs) all = by (given_of gs x.provider) x.vote (all x (inl refl)) (rows_give pick run gs xs (λ y i. all y (inr i)))
     where
       part : Given → Option (List ℕ)
       part y = pick y.value y.message
@@ -252,7 +252,7 @@ module _ (rs : List Happened) where
       own None more = more
       own (Some z) more = refl
 
-      by : (o : Option Given) (v : Option RowVote) → SlotIs rs run o x.p v → RowsGive pick rs run.proto run.phase (rows_of xs) rest → RowsGive pick rs run.proto run.phase (row_or (elim v as (λ _. Option Row) [ None ↦ None | Some v ↦ Some (record { p = x.p; vote = v }) ]) (rows_of xs)) (option_or (carried_in part o) rest)
+      by : (o : Option Given) (v : Option RowVote) → SlotIs rs run o x.provider v → RowsGive pick rs run.proto run.phase (rows_of xs) rest → RowsGive pick rs run.proto run.phase (row_or (elim v as (λ _. Option Row) [ None ↦ None | Some v ↦ Some (record { provider = x.provider; vote = v }) ]) (rows_of xs)) (option_or (carried_in part o) rest)
       by None None s more = more
       by None (Some (row_vote.Cast v)) s more = absurd s
       by None (Some (row_vote.Late d)) s more = more

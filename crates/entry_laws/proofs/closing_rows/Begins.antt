@@ -55,7 +55,7 @@ module _ (P : Core → Type 0) where
     at_failures zero s a = a
     at_failures (suc n) s a =
         let st : GroupState = state_of s g in
-        let out : List Failure = filter (λ (x : Failure). among st.members x.p) (next_failures st.attrs.batch (led_of s g).waiting) in
+        let out : List Failure = filter (λ (x : Failure). among st.members x.provider) (next_failures st.attrs.batch (led_of s g).waiting) in
         let c : Core = with_waiting s g (failures_left st.attrs.batch) in
         let k : P c = keeps.leaves_failures s st.attrs.batch a in by c out st (is_empty out) k (at_failures n c k)
       where

@@ -85,7 +85,7 @@ pub calm_sessions : (c : Core) (t : SessionState) → t.level ≡ c.sessions.lev
 unfolding with_sessions
 calm_sessions c t level = record { groups = refl; views = refl; config = refl; names = refl; records = refl; level = level; sends = λ p i. i }
 
-calm_cast : (c : Core) (k : List ℕ) (to : Option ℕ) (x : Cast) → Calm c (cast_sent_of c k to x.p x.cast)
+calm_cast : (c : Core) (k : List ℕ) (to : Option ℕ) (x : Cast) → Calm c (cast_sent_of c k to x.provider x.cast)
 unfolding cast_sent_of ballot_sent
 calm_cast c k to x = by x.cast
   where
@@ -93,17 +93,17 @@ calm_cast c k to x = by x.cast
     ballot p y None = calm_self c
     ballot p y (Some b) = calm_known c to _
 
-    by : (o : Option (ProtoId × ℕ × BallotView)) → Calm c (cast_sent_of c k to x.p o)
+    by : (o : Option (ProtoId × ℕ × BallotView)) → Calm c (cast_sent_of c k to x.provider o)
     by None = calm_self c
-    by (Some y) = ballot x.p y (y.2).filled
+    by (Some y) = ballot x.provider y (y.2).filled
 
 pub calm_casts : (c : Core) (k : List ℕ) (to : Option ℕ) (cs : List Cast) → Calm c (casts_sent c k to cs)
 unfolding casts_sent
 calm_casts c k to cs = by (frozen c)
   where
-    by : (b : Bool) → Calm c (elim b as (λ _. Core) [ true ↦ c | false ↦ fold (λ t x. cast_sent_of t k to x.p x.cast) c cs ])
+    by : (b : Bool) → Calm c (elim b as (λ _. Core) [ true ↦ c | false ↦ fold (λ t x. cast_sent_of t k to x.provider x.cast) c cs ])
     by true = calm_self c
-    by false = calm_fold (λ t (x : Cast). cast_sent_of t k to x.p x.cast) (λ t x. calm_cast t k to x) cs c
+    by false = calm_fold (λ t (x : Cast). cast_sent_of t k to x.provider x.cast) (λ t x. calm_cast t k to x) cs c
 
 -- ---- what is owed is sent
 

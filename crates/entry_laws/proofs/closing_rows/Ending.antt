@@ -34,7 +34,7 @@ module _ (h : Frame) where
 
     pub at_decision : (s : Core) (g : List ℕ) (p : ProviderId) (r : ℕ) (y : Option Why) → At h T G s → At h T G (keep_decision s g p r y)
     unfolding keep_decision
-    at_decision s g p r y a = at_led h T G s g (λ l. record l { decided = decisions_with (record { p = p; r = r; why = y }) l.decided }) (λ l. refl) (λ l. refl) a
+    at_decision s g p r y a = at_led h T G s g (λ l. record l { decided = decisions_with (record { provider = p; request = r; why = y }) l.decided }) (λ l. refl) (λ l. refl) a
 
     pub at_refused : (s : Core) (g : List ℕ) (p : ProviderId) (r : ℕ) (y : Why) → At h T G s → At h T G (refused s g p r y)
     unfolding refused

@@ -141,8 +141,8 @@ module _ (h : Frame) where
           at (inl z) = z
           at (inr k) = absurd (unled (leader_in s (found s g)) e k.0)
 
-      told : Full (fold (λ t (q : Request). take_tell t q.p q.r (GroupsFull 64)) s (requests_of s g))
-      told = at_fold (At h Every NoGroup) (λ t (q : Request). take_tell t q.p q.r (GroupsFull 64)) (requests_of s g) (λ t q i k. at_tell (keeps_quiet h Every NoGroup) t q.p q.r (GroupsFull 64) k) s a
+      told : Full (fold (λ t (q : Request). take_tell t q.provider q.request (GroupsFull 64)) s (requests_of s g))
+      told = at_fold (At h Every NoGroup) (λ t (q : Request). take_tell t q.provider q.request (GroupsFull 64)) (requests_of s g) (λ t q i k. at_tell (keeps_quiet h Every NoGroup) t q.provider q.request (GroupsFull 64) k) s a
 
       by : (zero none fixed : Bool) → is_none (leader_in s (found s g)) ≡ none → Full (elim (none || (fixed && zero)) as (λ _. Core) [ true ↦ named s g n zero | false ↦ s ])
       by true true fixed e = told

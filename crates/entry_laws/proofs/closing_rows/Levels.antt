@@ -58,19 +58,19 @@ made_level s m phases parameter make =
 
 pub left_level : (s : SessionState) (m : MemberToken) (phases : Phases) → SameLevel s (left s m phases)
 unfolding left
-left_level s m phases = made_level s m phases None (λ x r. Leave x.p r)
+left_level s m phases = made_level s m phases None (λ x r. Leave x.provider r)
 
 pub expelled_level : (s : SessionState) (m : MemberToken) (phases : Phases) (out : List ProviderId) → SameLevel s (expelled s m phases out)
 unfolding expelled
-expelled_level s m phases out = made_level s m phases (targets_fault out) (λ x r. Expel x.p r out)
+expelled_level s m phases out = made_level s m phases (targets_fault out) (λ x r. Expel x.provider r out)
 
 pub state_level : (s : SessionState) (m : MemberToken) (phases : Phases) (value : List ℕ) → SameLevel s (state_changed s m phases value)
 unfolding state_changed
-state_level s m phases value = made_level s m phases (value_fault s (Some value)) (λ x r. State x.p r value)
+state_level s m phases value = made_level s m phases (value_fault s (Some value)) (λ x r. State x.provider r value)
 
 pub message_level : (s : SessionState) (m : MemberToken) (phases : Phases) (bytes : List ℕ) → SameLevel s (message_sent s m phases bytes)
 unfolding message_sent
-message_level s m phases bytes = made_level s m phases (message_fault bytes) (λ x r. Message x.p r bytes)
+message_level s m phases bytes = made_level s m phases (message_fault bytes) (λ x r. Message x.provider r bytes)
 
 pub attributes_level : (s : SessionState) (m : MemberToken) (phases : Phases) (attrs : Attrs) → SameLevel s (attributes_changed s m phases attrs)
 unfolding attributes_changed asked
@@ -79,7 +79,7 @@ attributes_level s m phases attrs =
   where
     by : (o : Option Provider) → SameLevel s (member_changes s o phases attrs)
     by None = tt
-    by (Some x) = unless_level s (asked s x phases (λ r. Attributes x.p r attrs)) (ask_fault s x (attributes_fault (first_fault attrs x.group))) refl
+    by (Some x) = unless_level s (asked s x phases (λ r. Attributes x.provider r attrs)) (ask_fault s x (attributes_fault (first_fault attrs x.group))) refl
 
 pub subscribe_level : (s : SessionState) (t : ClientToken) (g : List ℕ) (known : Bool) → SameLevel s (subscribe_taken s t g known)
 unfolding subscribe_taken
@@ -99,7 +99,7 @@ voted_level s m v value = if_level s (is_empty s.sessions) (member_votes s (find
   where
     opened : (x : Provider) (o : Option OpenPhase) → SameLevel s (vote_in s x v value o)
     opened x None = tt
-    opened x (Some o) = unless_level s (keeps s x o (record { vote = v; value = value; message = None })) (fault_if (list_any (is_kept_for x.p o.proto o.phase) s.kept) fault.VoteNotExpected) refl
+    opened x (Some o) = unless_level s (keeps s x o (record { vote = v; value = value; message = None })) (fault_if (list_any (is_kept_for x.provider o.proto o.phase) s.kept) fault.VoteNotExpected) refl
 
     within : (x : Provider) (b : Bool) → SameLevel s (if b then vote_in s x v value x.opened else Err (fault.BadParameter field.Value))
     within x true = opened x x.opened
@@ -113,7 +113,7 @@ pub telling_level : (s : SessionState) (p : ProviderId) (r : ℕ) (y : Why) → 
 unfolding take_telling told_of without_providers
 telling_level s p r y = by (takes_telling s p r y) (is_join_request (outstanding s p)) (is_dissolved y)
   where
-    by : (a b c : Bool) → (if a then (if b || c then without_providers s (p ∷ []) else record s { requests = filter (λ (q : Request). not (among (p ∷ []) q.p)) s.requests }) else s).level ≡ s.level
+    by : (a b c : Bool) → (if a then (if b || c then without_providers s (p ∷ []) else record s { requests = filter (λ (q : Request). not (among (p ∷ []) q.provider)) s.requests }) else s).level ≡ s.level
     by false b c = refl
     by true true c = refl
     by true false true = refl

@@ -98,7 +98,7 @@ heard_silent s g i e after (c ∷ cs) r j =
   where
     by : Has r (heard s g i e after c) → Silent r
     by (inl q) = subst Silent (sym q) tt
-    by (inr k) = cast_silent c.p c.cast r k
+    by (inr k) = cast_silent c.provider c.cast r k
 
 set_silent : (n network : ℕ) (o : Option RingSet) → AllSilent (set_records n network o)
 unfolding set_records
@@ -202,7 +202,7 @@ module _ {P : Core → Type 0} (keeps : KeepsQuiet P) where
       where
         of : (o : Option Decision) → P (request_at f s g p r phases x o)
         of None = decided_new
-        of (Some d) = at_request_after d (nat_lt r d.r) (r == d.r)
+        of (Some d) = at_request_after d (nat_lt r d.request) (r == d.request)
 
         by : (b : Bool) → P (elim b as (λ _. Core) [ true ↦ sent s from (body.Name s.views.view g 0) | false ↦ request_at f s g p r phases x (decision_of (led_of s g) p) ])
         by true = at_sent s from (body.Name s.views.view g 0) a
@@ -255,8 +255,8 @@ module _ {P : Core → Type 0} (keeps : KeepsQuiet P) where
   unfolding ask_last
   at_last_asked s None a = a
   at_last_asked s (Some q) a =
-      let t : Core = recorded s (happened.Asked q.p q.r q.group q.proposal) in
-      keeps.calm t (send_request t q) (request_calm t q) (keeps.silent s (happened.Asked q.p q.r q.group q.proposal) tt a)
+      let t : Core = recorded s (happened.Asked q.provider q.request q.group q.proposal) in
+      keeps.calm t (send_request t q) (request_calm t q) (keeps.silent s (happened.Asked q.provider q.request q.group q.proposal) tt a)
 
   at_proposed : (s : Core) (client : List ℕ) (r : Result SessionState GsFault) → SameLevel s.sessions r → P s → P (proposed s client r)
   unfolding proposed
@@ -270,7 +270,7 @@ module _ {P : Core → Type 0} (keeps : KeepsQuiet P) where
     where
       by : (o : Option Filled) → P (record_ballot s k o)
       by None = a
-      by (Some b) = keeps.silent s (happened.Cast k.p k.proto k.phase b.vote b.value b.message) tt a
+      by (Some b) = keeps.silent s (happened.Cast k.provider k.proto k.phase b.vote b.value b.message) tt a
 
       sends : (d : Core) (b : Bool) → P d → P (ballot_sent_if d k b)
       sends d true x = x
@@ -309,10 +309,10 @@ module _ {P : Core → Type 0} (keeps : KeepsQuiet P) where
   at_dissolved_if : (s : Core) (g : List ℕ) (old : ViewId) (b : Option Base) (o : Option Provider) → P s → P (dissolved_if s g old b o)
   unfolding dissolved_if dissolved
   at_dissolved_if s g old b None a = a
-  at_dissolved_if s g old b (Some x) a = by (x.takes_part && bytes_eq x.group g && not (is_in_base old x.p b))
+  at_dissolved_if s g old b (Some x) a = by (x.takes_part && bytes_eq x.group g && not (is_in_base old x.provider b))
     where
-      by : (c : Bool) → P (elim c as (λ _. Core) [ true ↦ dissolved s x.p (number_of (outstanding s.sessions x.p)) | false ↦ s ])
-      by true = at_told s x.p (number_of (outstanding s.sessions x.p)) Dissolved a
+      by : (c : Bool) → P (elim c as (λ _. Core) [ true ↦ dissolved s x.provider (number_of (outstanding s.sessions x.provider)) | false ↦ s ])
+      by true = at_told s x.provider (number_of (outstanding s.sessions x.provider)) Dissolved a
       by false = a
 
   at_group_dissolved : (old : ViewId) (bs : List Base) (s : Core) (row : GroupRow) → P s → P (group_dissolved old bs s row)

@@ -21,17 +21,17 @@ use Rattle.entry_laws.specs.closing_rows.Rows.{HasRows, TallyFits}
 
 -- whom the slots are of
 abbrev pub slots : List Voter → List ProviderId
-slots xs = map (λ (x : Voter). x.p) xs
+slots xs = map (λ (x : Voter). x.provider) xs
 
 -- what stands for a voter changes no slot
-each_same : (f : Voter → Voter) → ((x : Voter) → (f x).p ≡ x.p) → (xs : List Voter) → slots (map f xs) ≡ slots xs
+each_same : (f : Voter → Voter) → ((x : Voter) → (f x).provider ≡ x.provider) → (xs : List Voter) → slots (map f xs) ≡ slots xs
 each_same f same [] = refl
 each_same f same (x ∷ xs) = λ i. same x i ∷ each_same f same xs i
 
-given_same : (p : ProviderId) (v : RowVote) (x : Voter) → (given_to p v x).p ≡ x.p
+given_same : (p : ProviderId) (v : RowVote) (x : Voter) → (given_to p v x).provider ≡ x.provider
 given_same p v x = by (is_voter p x)
   where
-    by : (b : Bool) → (if b then given v x else x).p ≡ x.p
+    by : (b : Bool) → (if b then given v x else x).provider ≡ x.provider
     by true = refl
     by false = refl
 
@@ -75,13 +75,13 @@ idle_voters st e = ap (voters_at st) e
 -- ---- the rows
 
 -- where no slot is open, each has a row
-rows_are : (xs : List Voter) → list_any is_open xs ≡ false → map (λ (r : Row). r.p) (rows_of xs) ≡ slots xs
+rows_are : (xs : List Voter) → list_any is_open xs ≡ false → map (λ (r : Row). r.provider) (rows_of xs) ≡ slots xs
 rows_are [] e = refl
 rows_are (x ∷ xs) e = by x.vote e (rows_are xs)
   where
-    by : (v : Option RowVote) → (is_none v || list_any is_open xs) ≡ false → (list_any is_open xs ≡ false → map (λ (r : Row). r.p) (rows_of xs) ≡ slots xs) → map (λ (r : Row). r.p) (row_or (elim v as (λ _. Option Row) [ None ↦ None | Some v ↦ Some (record { p = x.p; vote = v }) ]) (rows_of xs)) ≡ slots (x ∷ xs)
+    by : (v : Option RowVote) → (is_none v || list_any is_open xs) ≡ false → (list_any is_open xs ≡ false → map (λ (r : Row). r.provider) (rows_of xs) ≡ slots xs) → map (λ (r : Row). r.provider) (row_or (elim v as (λ _. Option Row) [ None ↦ None | Some v ↦ Some (record { provider = x.provider; vote = v }) ]) (rows_of xs)) ≡ slots (x ∷ xs)
     by None q rest = absurd (cc)
-    by (Some v) q rest = ap (λ l. x.p ∷ l) (rest q)
+    by (Some v) q rest = ap (λ l. x.provider ∷ l) (rest q)
 
 -- the entry that closes a phase has one row for each voter
 pub closing_rows : (l : Led) (t : Option TallyView) (st : GroupState) (e : Entry) → TallyFits t st → closing_entry l t st.running ≡ Some e → HasRows st e
@@ -93,7 +93,7 @@ closing_rows l (Some t) st e k q = running st.running q
     running None q = absurd (cc)
     running (Some run) q = by (has_open t) refl q
       where
-        rows : has_open t ≡ false → map (λ (r : Row). r.p) (rows_of t.voters) ≡ voters st
+        rows : has_open t ≡ false → map (λ (r : Row). r.provider) (rows_of t.voters) ≡ voters st
         rows shut = rows_are t.voters shut ∙ k
 
         one : has_open t ≡ false → (v : Vote) (last : Bool) → HasRows st (closing l t run v last)

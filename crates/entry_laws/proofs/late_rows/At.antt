@@ -72,7 +72,7 @@ pub record TallyIs (st : GroupState) (ticks less : ℕ) (t : TallyView) : Type 0
   pub default : t.default_vote ≡ st.attrs.default_vote
   pub limit : t.limit ≡ limit_of st.attrs st.running
   pub counted : t.count + less ≤ ticks
-  pub voter : (y : Voter) → Has y t.voters → Has y.p (voters st)
+  pub voter : (y : Voter) → Has y t.voters → Has y.provider (voters st)
   pub vote : (y : Voter) → Has y t.voters → CountedVote t y.vote
 
 -- ---- who was late in it
@@ -84,7 +84,7 @@ late_vote p (Some v) ps = late_first p v ps
 
 abbrev pub late_voters : List Voter → List ProviderId
 late_voters [] = []
-late_voters (y ∷ ys) = late_vote y.p y.vote (late_voters ys)
+late_voters (y ∷ ys) = late_vote y.provider y.vote (late_voters ys)
 
 -- nobody was late; or each voter has a row, and the entry that would close the phase does not fit
 abbrev pub Settled : Led → Option GroupView → TallyView → Type 0

@@ -115,8 +115,8 @@ module _ (h : Turn) where
           unled (Some k) e q = absurd (cc)
 
       by : (zero none fixed : Bool) → is_none (leader_in s (found s g)) ≡ none → Full (elim (none || (fixed && zero)) as (λ _. Core) [ true ↦ named s g n zero | false ↦ s ])
-      by true true fixed e = at_fold (At h Every NoGroup ⊥) (λ t (q : Request). take_tell t q.p q.r (GroupsFull 64)) (requests_of s g) (λ t q i k. at_tell (keeps_quiet h Every NoGroup ⊥) t q.p q.r (GroupsFull 64) k) s a
-      by true false true e = at_fold (At h Every NoGroup ⊥) (λ t (q : Request). take_tell t q.p q.r (GroupsFull 64)) (requests_of s g) (λ t q i k. at_tell (keeps_quiet h Every NoGroup ⊥) t q.p q.r (GroupsFull 64) k) s a
+      by true true fixed e = at_fold (At h Every NoGroup ⊥) (λ t (q : Request). take_tell t q.provider q.request (GroupsFull 64)) (requests_of s g) (λ t q i k. at_tell (keeps_quiet h Every NoGroup ⊥) t q.provider q.request (GroupsFull 64) k) s a
+      by true false true e = at_fold (At h Every NoGroup ⊥) (λ t (q : Request). take_tell t q.provider q.request (GroupsFull 64)) (requests_of s g) (λ t q i k. at_tell (keeps_quiet h Every NoGroup ⊥) t q.provider q.request (GroupsFull 64) k) s a
       by true false false e = a
       by false true fixed e = at_fold (At h Every NoGroup ⊥) send_request (requests_of s g) (λ t q i k. (keeps_quiet h Every NoGroup ⊥).calm t (send_request t q) (request_calm t q) k) (set_leader s g n) (at_led_by s g n (λ t q. absurd (let z = idle e in cc)) a)
       by false false true e = a

@@ -48,7 +48,7 @@ module _ (st : GroupState) (ticks : ℕ) where
   rows_late less t k [] all r i = absurd i
   rows_late less t k (y ∷ xs) all r i = by y.vote (all y (inl refl)) i (rows_late less t k xs (λ z j. all z (inr j)) r)
     where
-      by : (v : Option RowVote) → CountedVote t v → Has {A = Row} r (row_or (elim v as (λ _. Option Row) [ None ↦ None | Some v ↦ Some (record { p = y.p; vote = v }) ]) (rows_of xs)) → (Has r (rows_of xs) → LateVote st ticks r.vote) → LateVote st ticks r.vote
+      by : (v : Option RowVote) → CountedVote t v → Has {A = Row} r (row_or (elim v as (λ _. Option Row) [ None ↦ None | Some v ↦ Some (record { provider = y.provider; vote = v }) ]) (rows_of xs)) → (Has r (rows_of xs) → LateVote st ticks r.vote) → LateVote st ticks r.vote
       by None c j rest = rest j
       by (Some v) c (inl e) rest = subst (λ (z : Row). LateVote st ticks z.vote) (sym e) (vote_late less t k v c)
       by (Some v) c (inr j) rest = rest j
@@ -81,14 +81,14 @@ module _ (st : GroupState) (ticks : ℕ) where
   or_counted t u v (Some w) new old = old
 
   -- each voter stays, and gets a vote or not
-  voters_given : (f : Voter → Voter) → ((y : Voter) → (f y).p ≡ y.p) → (xs : List Voter) → ((y : Voter) → Has y xs → Has y.p (voters st)) → (y : Voter) → Has y (map f xs) → Has y.p (voters st)
+  voters_given : (f : Voter → Voter) → ((y : Voter) → (f y).provider ≡ y.provider) → (xs : List Voter) → ((y : Voter) → Has y xs → Has y.provider (voters st)) → (y : Voter) → Has y (map f xs) → Has y.provider (voters st)
   voters_given f keeps xs all y i = let k = has_map f y xs i in
-      subst (λ (z : Voter). Has z.p (voters st)) (sym k.2) (subst (λ p. Has p (voters st)) (sym (keeps k.0)) (all k.0 k.1))
+      subst (λ (z : Voter). Has z.provider (voters st)) (sym k.2) (subst (λ p. Has p (voters st)) (sym (keeps k.0)) (all k.0 k.1))
 
-  given_keeps : (p : ProviderId) (v : RowVote) (y : Voter) → (given_to p v y).p ≡ y.p
+  given_keeps : (p : ProviderId) (v : RowVote) (y : Voter) → (given_to p v y).provider ≡ y.provider
   given_keeps p v y = by (is_voter p y)
     where
-      by : (b : Bool) → (if b then given v y else y).p ≡ y.p
+      by : (b : Bool) → (if b then given v y else y).provider ≡ y.provider
       by true = refl
       by false = refl
 
@@ -140,7 +140,7 @@ module _ (st : GroupState) (ticks : ℕ) where
         default = refl;
         limit = refl;
         counted = omega arith;
-        voter = λ y i. let k = has_map no_vote y (voters st) i in subst (λ (z : Voter). Has z.p (voters st)) (sym k.2) k.1;
+        voter = λ y i. let k = has_map no_vote y (voters st) i in subst (λ (z : Voter). Has z.provider (voters st)) (sym k.2) k.1;
         vote = λ y i. let k = has_map no_vote y (voters st) i in subst (λ (z : Voter). CountedVote (tally_new (voters st) st.attrs.default_vote (limit_of st.attrs st.running)) z.vote) (sym k.2) tt;
       })
 
@@ -171,7 +171,7 @@ module _ (st : GroupState) (ticks : ℕ) where
         vote = by_vote (passes t.limit t.count) refl;
       }
     where
-      by_voter : (b : Bool) → (y : Voter) → Has y (late_if b t.default_vote t.voters) → Has y.p (voters st)
+      by_voter : (b : Bool) → (y : Voter) → Has y (late_if b t.default_vote t.voters) → Has y.provider (voters st)
       by_voter false = k.voter
       by_voter true = voters_given (given (row_vote.Late t.default_vote)) (λ y. refl) t.voters k.voter
 
@@ -187,7 +187,7 @@ module _ (st : GroupState) (ticks : ℕ) where
   announced_late t k e =
       let p = passes_is t.limit t.count (and_parts (passes t.limit t.count) (has_open t) e).0 in (
         record { limited = subst (λ z. 0 < z) k.limit p.0; over = subst (λ z. z ≤ ticks) k.limit (let a = p.1 in let b = k.counted in let c = (counts_on t.count).1 in omega arith) },
-        λ q i. let a = has_map (λ (y : Voter). y.p) q (filter is_open t.voters) i in
+        λ q i. let a = has_map (λ (y : Voter). y.provider) q (filter is_open t.voters) i in
             let b = has_filter is_open a.0 t.voters a.1 in subst (λ z. Has z (voters st)) (sym a.2) (k.voter a.0 b.0),
       )
 
@@ -197,9 +197,9 @@ late_in_rows : (xs : List Voter) → late_in (rows_of xs) ≡ late_voters xs
 late_in_rows [] = refl
 late_in_rows (y ∷ ys) = by y.vote (late_in_rows ys)
   where
-    by : (v : Option RowVote) → late_in (rows_of ys) ≡ late_voters ys → late_in (row_or (elim v as (λ _. Option Row) [ None ↦ None | Some v ↦ Some (record { p = y.p; vote = v }) ]) (rows_of ys)) ≡ late_vote y.p v (late_voters ys)
+    by : (v : Option RowVote) → late_in (rows_of ys) ≡ late_voters ys → late_in (row_or (elim v as (λ _. Option Row) [ None ↦ None | Some v ↦ Some (record { provider = y.provider; vote = v }) ]) (rows_of ys)) ≡ late_vote y.provider v (late_voters ys)
     by None k = k
-    by (Some v) k = ap (late_first y.p v) k
+    by (Some v) k = ap (late_first y.provider v) k
 
 -- no default of one who is late
 abbrev NotLate : RowVote → Type 0
@@ -209,18 +209,18 @@ NotLate (row_vote.Failed d) = Unit {0}
 
 given_lates : (p : ProviderId) (v : RowVote) → NotLate v → (xs : List Voter) → late_voters (map (given_to p v) xs) ≡ late_voters xs
 given_lates p v not [] = refl
-given_lates p v not (y ∷ ys) = by (is_voter p y) ∙ ap (late_vote y.p y.vote) (given_lates p v not ys)
+given_lates p v not (y ∷ ys) = by (is_voter p y) ∙ ap (late_vote y.provider y.vote) (given_lates p v not ys)
   where
     none : (v : RowVote) → NotLate v → (q : ProviderId) (ps : List ProviderId) → late_first q v ps ≡ ps
     none (row_vote.Cast w) k q ps = refl
     none (row_vote.Late d) k q ps = absurd k
     none (row_vote.Failed d) k q ps = refl
 
-    or_is : (o : Option RowVote) (ps : List ProviderId) → late_vote y.p (or_vote v o) ps ≡ late_vote y.p o ps
-    or_is None ps = none v not y.p ps
+    or_is : (o : Option RowVote) (ps : List ProviderId) → late_vote y.provider (or_vote v o) ps ≡ late_vote y.provider o ps
+    or_is None ps = none v not y.provider ps
     or_is (Some w) ps = refl
 
-    by : (b : Bool) → late_vote (if b then given v y else y).p (if b then given v y else y).vote (late_voters (map (given_to p v) ys)) ≡ late_vote y.p y.vote (late_voters (map (given_to p v) ys))
+    by : (b : Bool) → late_vote (if b then given v y else y).provider (if b then given v y else y).vote (late_voters (map (given_to p v) ys)) ≡ late_vote y.provider y.vote (late_voters (map (given_to p v) ys))
     by true = or_is y.vote (late_voters (map (given_to p v) ys))
     by false = refl
 
@@ -233,7 +233,7 @@ or_voted v None e = absurd (cc)
 or_voted v (Some w) e = refl
 
 given_voted : (v : RowVote) (y : Voter) → is_open y ≡ false → given v y ≡ y
-given_voted v y e = let q = or_voted v y.vote e in λ i. record { p = y.p; vote = q i }
+given_voted v y e = let q = or_voted v y.vote e in λ i. record { provider = y.provider; vote = q i }
 
 -- where each voter has a row, none is changed
 all_given : (f : Voter → Voter) → ((y : Voter) → is_open y ≡ false → f y ≡ y) → (xs : List Voter) → list_any is_open xs ≡ false → map f xs ≡ xs
@@ -330,12 +330,12 @@ settled_told es led l (Some t) e k q fit = by (state_in l).running refl q
 
 -- ---- a tick, and who is late by it
 
-ticked_lates : (d : DefaultVote) (xs : List Voter) → late_voters xs ≡ [] → late_voters (map (given (row_vote.Late d)) xs) ≡ map (λ (y : Voter). y.p) (filter is_open xs)
+ticked_lates : (d : DefaultVote) (xs : List Voter) → late_voters xs ≡ [] → late_voters (map (given (row_vote.Late d)) xs) ≡ map (λ (y : Voter). y.provider) (filter is_open xs)
 ticked_lates d [] e = refl
 ticked_lates d (y ∷ ys) e = by y.vote e (ticked_lates d ys)
   where
-    by : (o : Option RowVote) → late_vote y.p o (late_voters ys) ≡ [] → (late_voters ys ≡ [] → late_voters (map (given (row_vote.Late d)) ys) ≡ map (λ (z : Voter). z.p) (filter is_open ys)) → late_vote y.p (or_vote (row_vote.Late d) o) (late_voters (map (given (row_vote.Late d)) ys)) ≡ map (λ (z : Voter). z.p) (if is_none o then y ∷ filter is_open ys else filter is_open ys)
-    by None q k = ap (λ ps. y.p ∷ ps) (k q)
+    by : (o : Option RowVote) → late_vote y.provider o (late_voters ys) ≡ [] → (late_voters ys ≡ [] → late_voters (map (given (row_vote.Late d)) ys) ≡ map (λ (z : Voter). z.provider) (filter is_open ys)) → late_vote y.provider (or_vote (row_vote.Late d) o) (late_voters (map (given (row_vote.Late d)) ys)) ≡ map (λ (z : Voter). z.provider) (if is_none o then y ∷ filter is_open ys else filter is_open ys)
+    by None q k = ap (λ ps. y.provider ∷ ps) (k q)
     by (Some (row_vote.Cast v)) q k = k q
     by (Some (row_vote.Failed v)) q k = k q
     by (Some (row_vote.Late v)) q k = absurd (cc)
@@ -382,7 +382,7 @@ late_few : (rows : List Row) → length (late_in rows) ≤ length rows
 late_few [] = omega arith
 late_few (r ∷ rows) = by r.vote (late_few rows)
   where
-    by : (v : RowVote) → length (late_in rows) ≤ length rows → length (late_first r.p v (late_in rows)) ≤ suc (length rows)
+    by : (v : RowVote) → length (late_in rows) ≤ length rows → length (late_first r.provider v (late_in rows)) ≤ suc (length rows)
     by (row_vote.Cast w) k = omega arith
     by (row_vote.Late d) k = omega arith
     by (row_vote.Failed d) k = omega arith

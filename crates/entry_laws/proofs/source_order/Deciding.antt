@@ -26,7 +26,7 @@ module _ (h : Turn) (P : Type 0) where
 
   pub at_decision : (s : Core) (g : List ℕ) (p : ProviderId) (r : ℕ) (y : Option Why) → Full s → Full (keep_decision s g p r y)
   unfolding keep_decision
-  at_decision s g p r y a = at_led h P s g (λ l. record l { decided = decisions_with (record { p = p; r = r; why = y }) l.decided }) (λ l. record { joins = λ q e. e; attrs = refl }) a
+  at_decision s g p r y a = at_led h P s g (λ l. record l { decided = decisions_with (record { provider = p; request = r; why = y }) l.decided }) (λ l. record { joins = λ q e. e; attrs = refl }) a
 
   pub at_refused : (s : Core) (g : List ℕ) (p : ProviderId) (r : ℕ) (y : Why) → Full s → Full (refused s g p r y)
   unfolding refused
@@ -37,7 +37,7 @@ module _ (h : Turn) (P : Type 0) where
   unfolding decide_join wait_join keep_decision with_led
   at_decided_join s g p r attrs None going decided a =
       let c : Core = keep_decision s g p r None in
-      let k : Going h c = going_row h s g (λ row. record row { led = record (row.led) { decided = decisions_with (record { p = p; r = r; why = None }) row.led.decided } }) (λ x. refl) (λ x. record { joins = λ q e. e; attrs = refl }) going in
+      let k : Going h c = going_row h s g (λ row. record row { led = record (row.led) { decided = decisions_with (record { provider = p; request = r; why = None }) row.led.decided } }) (λ x. refl) (λ x. record { joins = λ q e. e; attrs = refl }) going in
       at_row_for h P c g (λ row. record row { led = record (row.led) { waiting = waits_join p row.led.waiting; join_attrs = keep_attrs row.led.join_attrs p attrs (is_idle_empty (state_of s g)) } }) (λ x. refl) (λ x. refl) (λ x. refl) (inl (holds_joining h c g p attrs (is_idle_empty (state_of s g)) decided k)) (at_decision s g p r None a)
   at_decided_join s g p r attrs (Some y) going decided a = at_refused s g p r y a
 

@@ -73,7 +73,7 @@ module _ (h : Turn) (P : Type 0) where
     where
       by : (zero used : Bool) → Full (elim used as (λ _. Core) [ true ↦ named s g n zero | false ↦ s ])
       by zero false = a
-      by true true = at_fold (At h P) (λ t (q : Request). take_tell t q.p q.r (GroupsFull 64)) (requests_of s g) (λ t q i k. at_tell (keeps_quiet h P) t q.p q.r (GroupsFull 64) k) s a
+      by true true = at_fold (At h P) (λ t (q : Request). take_tell t q.provider q.request (GroupsFull 64)) (requests_of s g) (λ t q i k. at_tell (keeps_quiet h P) t q.provider q.request (GroupsFull 64) k) s a
       by false true = at_calm h P (set_leader s g n) _ (calm_fold send_request request_calm (requests_of s g) (set_leader s g n)) (at_led_by h P s g n a)
 
   -- ---- REQUEST

@@ -51,7 +51,7 @@ so_far x now = record { event = x.what; records = now } ∷ x.before
 
 -- the attributes that are kept of a join
 abbrev pub kept_of : Led → ProviderId → Option JoinAttrs
-kept_of l p = find (λ (j : JoinAttrs). same_provider j.p p) l.join_attrs
+kept_of l p = find (λ (j : JoinAttrs). same_provider j.provider p) l.join_attrs
 
 -- where they are kept it was decided in an empty idle group, and asked for these
 abbrev pub DecidedAs : History → ℕ → ViewId → List ℕ → ProviderId → Option JoinAttrs → Type 0
@@ -64,7 +64,7 @@ RowWaits h n v row = (p : ProviderId) → among row.led.waiting.joins p ≡ true
 -- those that are kept are of providers that differ
 abbrev pub Apart : List JoinAttrs → Type 0
 Apart [] = Unit {0}
-Apart (j ∷ js) = (find (λ (k : JoinAttrs). same_provider k.p j.p) js ≡ None) × Apart js
+Apart (j ∷ js) = (find (λ (k : JoinAttrs). same_provider k.provider j.provider) js ≡ None) × Apart js
 
 abbrev pub RowHolds : History → ℕ → ViewId → GroupRow → Type 0
 RowHolds h n v row = Apart row.led.join_attrs × RowWaits h n v row
@@ -136,7 +136,7 @@ new_holds h n v g = (tt, λ p e. absurd (cc))
 fewer_holds : (h : History) (n : ℕ) (v : ViewId) (x y : GroupRow) → y.name ≡ x.name → Fewer x.led y.led → RowHolds h n v x → RowHolds h n v y
 fewer_holds h n v x y name less holds = (
   subst Apart (sym less.attrs) holds.0,
-  λ p e. subst (λ (z : List ℕ × List JoinAttrs). DecidedAs h n v z.0 p (find (λ (j : JoinAttrs). same_provider j.p p) z.1)) (λ i. (sym name i, sym less.attrs i)) (holds.1 p (less.joins p e)),
+  λ p e. subst (λ (z : List ℕ × List JoinAttrs). DecidedAs h n v z.0 p (find (λ (j : JoinAttrs). same_provider j.provider p) z.1)) (λ i. (sym name i, sym less.attrs i)) (holds.1 p (less.joins p e)),
 )
 
 -- a row of the group changes
@@ -201,7 +201,7 @@ module _ (x : Turn) where
 pub failure_fewer : (l : Led) (p : ProviderId) (c : Cause) → Fewer l (record l { waiting = add_failure p c l.waiting })
 failure_fewer l p c = record { joins = λ q e. ap (λ ps. among ps q) (sym (by (takes_failure p l.waiting))) ∙ e; attrs = refl }
   where
-    by : (b : Bool) → (if b then record (l.waiting) { failures = l.waiting.failures ++ record { p = p; cause = c } ∷ [] } else l.waiting).joins ≡ l.waiting.joins
+    by : (b : Bool) → (if b then record (l.waiting) { failures = l.waiting.failures ++ record { provider = p; cause = c } ∷ [] } else l.waiting).joins ≡ l.waiting.joins
     by true = refl
     by false = refl
 
@@ -238,24 +238,24 @@ left_fewer l b = record { joins = λ q e. by (batches_joins b) l.waiting.joins q
 
 -- ---- a join that comes to wait
 
-none_without : (p : ProviderId) (f : JoinAttrs → Bool) (js : List JoinAttrs) → find (λ (j : JoinAttrs). same_provider j.p p) js ≡ None → find (λ (j : JoinAttrs). same_provider j.p p) (drop_where f js) ≡ None
+none_without : (p : ProviderId) (f : JoinAttrs → Bool) (js : List JoinAttrs) → find (λ (j : JoinAttrs). same_provider j.provider p) js ≡ None → find (λ (j : JoinAttrs). same_provider j.provider p) (drop_where f js) ≡ None
 none_without p f [] e = refl
-none_without p f (y ∷ js) e = by (f y) (same_provider y.p p) refl e (none_without p f js)
+none_without p f (y ∷ js) e = by (f y) (same_provider y.provider p) refl e (none_without p f js)
   where
     Rest : Type 0
-    Rest = find (λ (j : JoinAttrs). same_provider j.p p) js ≡ None → find (λ (j : JoinAttrs). same_provider j.p p) (drop_where f js) ≡ None
+    Rest = find (λ (j : JoinAttrs). same_provider j.provider p) js ≡ None → find (λ (j : JoinAttrs). same_provider j.provider p) (drop_where f js) ≡ None
 
-    skip : (b : Bool) → cond b (Some y) (find (λ (j : JoinAttrs). same_provider j.p p) js) ≡ None → find (λ (j : JoinAttrs). same_provider j.p p) js ≡ None
+    skip : (b : Bool) → cond b (Some y) (find (λ (j : JoinAttrs). same_provider j.provider p) js) ≡ None → find (λ (j : JoinAttrs). same_provider j.provider p) js ≡ None
     skip true q = absurd (cc)
     skip false q = q
 
-    keep : (b : Bool) → cond b (Some y) (find (λ (j : JoinAttrs). same_provider j.p p) js) ≡ None → Rest → cond b (Some y) (find (λ (j : JoinAttrs). same_provider j.p p) (drop_where f js)) ≡ None
+    keep : (b : Bool) → cond b (Some y) (find (λ (j : JoinAttrs). same_provider j.provider p) js) ≡ None → Rest → cond b (Some y) (find (λ (j : JoinAttrs). same_provider j.provider p) (drop_where f js)) ≡ None
     keep true q rest = absurd (cc)
     keep false q rest = rest q
 
-    by : (a b : Bool) → same_provider y.p p ≡ b → find (λ (j : JoinAttrs). same_provider j.p p) (y ∷ js) ≡ None → Rest → find (λ (j : JoinAttrs). same_provider j.p p) (elim a as (λ _. List JoinAttrs) [ true ↦ js | false ↦ y ∷ drop_where f js ]) ≡ None
-    by true b z q rest = skip (same_provider y.p p) q
-    by false b z q rest = keep (same_provider y.p p) q rest
+    by : (a b : Bool) → same_provider y.provider p ≡ b → find (λ (j : JoinAttrs). same_provider j.provider p) (y ∷ js) ≡ None → Rest → find (λ (j : JoinAttrs). same_provider j.provider p) (elim a as (λ _. List JoinAttrs) [ true ↦ js | false ↦ y ∷ drop_where f js ]) ≡ None
+    by true b z q rest = skip (same_provider y.provider p) q
+    by false b z q rest = keep (same_provider y.provider p) q rest
 
 apart_without : (f : JoinAttrs → Bool) (js : List JoinAttrs) → Apart js → Apart (drop_where f js)
 apart_without f [] a = tt
@@ -263,27 +263,27 @@ apart_without f (y ∷ js) a = by (f y) (apart_without f js a.1)
   where
     by : (b : Bool) → Apart (drop_where f js) → Apart (elim b as (λ _. List JoinAttrs) [ true ↦ js | false ↦ y ∷ drop_where f js ])
     by true rest = a.1
-    by false rest = (none_without y.p f js a.0, rest)
+    by false rest = (none_without y.provider f js a.0, rest)
 
-none_dropped : (p : ProviderId) (js : List JoinAttrs) → Apart js → find (λ (j : JoinAttrs). same_provider j.p p) (drop_where (λ (j : JoinAttrs). same_provider j.p p) js) ≡ None
+none_dropped : (p : ProviderId) (js : List JoinAttrs) → Apart js → find (λ (j : JoinAttrs). same_provider j.provider p) (drop_where (λ (j : JoinAttrs). same_provider j.provider p) js) ≡ None
 none_dropped p [] a = refl
-none_dropped p (y ∷ js) a = by (same_provider y.p p) refl (none_dropped p js a.1)
+none_dropped p (y ∷ js) a = by (same_provider y.provider p) refl (none_dropped p js a.1)
   where
-    by : (b : Bool) → same_provider y.p p ≡ b → find (λ (j : JoinAttrs). same_provider j.p p) (drop_where (λ (j : JoinAttrs). same_provider j.p p) js) ≡ None → find (λ (j : JoinAttrs). same_provider j.p p) (elim b as (λ _. List JoinAttrs) [ true ↦ js | false ↦ y ∷ drop_where (λ (j : JoinAttrs). same_provider j.p p) js ]) ≡ None
-    by true e rest = subst (λ q. find (λ (j : JoinAttrs). same_provider j.p q) js ≡ None) (provider_same y.p p e) a.0
-    by false e rest = ap (λ b. cond b (Some y) (find (λ (j : JoinAttrs). same_provider j.p p) (drop_where (λ (j : JoinAttrs). same_provider j.p p) js))) e ∙ rest
+    by : (b : Bool) → same_provider y.provider p ≡ b → find (λ (j : JoinAttrs). same_provider j.provider p) (drop_where (λ (j : JoinAttrs). same_provider j.provider p) js) ≡ None → find (λ (j : JoinAttrs). same_provider j.provider p) (elim b as (λ _. List JoinAttrs) [ true ↦ js | false ↦ y ∷ drop_where (λ (j : JoinAttrs). same_provider j.provider p) js ]) ≡ None
+    by true e rest = subst (λ q. find (λ (j : JoinAttrs). same_provider j.provider q) js ≡ None) (provider_same y.provider p e) a.0
+    by false e rest = ap (λ b. cond b (Some y) (find (λ (j : JoinAttrs). same_provider j.provider p) (drop_where (λ (j : JoinAttrs). same_provider j.provider p) js))) e ∙ rest
 
-other_dropped : (p q : ProviderId) (js : List JoinAttrs) → (q ≡ p → ⊥) → find (λ (j : JoinAttrs). same_provider j.p q) (drop_where (λ (j : JoinAttrs). same_provider j.p p) js) ≡ find (λ (j : JoinAttrs). same_provider j.p q) js
+other_dropped : (p q : ProviderId) (js : List JoinAttrs) → (q ≡ p → ⊥) → find (λ (j : JoinAttrs). same_provider j.provider q) (drop_where (λ (j : JoinAttrs). same_provider j.provider p) js) ≡ find (λ (j : JoinAttrs). same_provider j.provider q) js
 other_dropped p q [] ne = refl
-other_dropped p q (y ∷ js) ne = by (same_provider y.p p) refl (other_dropped p q js ne)
+other_dropped p q (y ∷ js) ne = by (same_provider y.provider p) refl (other_dropped p q js ne)
   where
-    away : same_provider y.p p ≡ true → (b : Bool) → same_provider y.p q ≡ b → b ≡ false
+    away : same_provider y.provider p ≡ true → (b : Bool) → same_provider y.provider q ≡ b → b ≡ false
     away e false f = refl
-    away e true f = absurd (ne (sym (provider_same y.p q f) ∙ provider_same y.p p e))
+    away e true f = absurd (ne (sym (provider_same y.provider q f) ∙ provider_same y.provider p e))
 
-    by : (b : Bool) → same_provider y.p p ≡ b → find (λ (j : JoinAttrs). same_provider j.p q) (drop_where (λ (j : JoinAttrs). same_provider j.p p) js) ≡ find (λ (j : JoinAttrs). same_provider j.p q) js → find (λ (j : JoinAttrs). same_provider j.p q) (elim b as (λ _. List JoinAttrs) [ true ↦ js | false ↦ y ∷ drop_where (λ (j : JoinAttrs). same_provider j.p p) js ]) ≡ find (λ (j : JoinAttrs). same_provider j.p q) (y ∷ js)
-    by true e rest = sym (ap (λ b. cond b (Some y) (find (λ (j : JoinAttrs). same_provider j.p q) js)) (away e (same_provider y.p q) refl))
-    by false e rest = ap (λ z. cond (same_provider y.p q) (Some y) z) rest
+    by : (b : Bool) → same_provider y.provider p ≡ b → find (λ (j : JoinAttrs). same_provider j.provider q) (drop_where (λ (j : JoinAttrs). same_provider j.provider p) js) ≡ find (λ (j : JoinAttrs). same_provider j.provider q) js → find (λ (j : JoinAttrs). same_provider j.provider q) (elim b as (λ _. List JoinAttrs) [ true ↦ js | false ↦ y ∷ drop_where (λ (j : JoinAttrs). same_provider j.provider p) js ]) ≡ find (λ (j : JoinAttrs). same_provider j.provider q) (y ∷ js)
+    by true e rest = sym (ap (λ b. cond b (Some y) (find (λ (j : JoinAttrs). same_provider j.provider q) js)) (away e (same_provider y.provider q) refl))
+    by false e rest = ap (λ z. cond (same_provider y.provider q) (Some y) z) rest
 
 find_pushed : (f : JoinAttrs → Bool) (js : List JoinAttrs) (y : JoinAttrs) → find f js ≡ None → find f (js ++ y ∷ []) ≡ cond (f y) (Some y) None
 find_pushed f [] y e = refl
@@ -297,40 +297,40 @@ other_pushed : (f : JoinAttrs → Bool) (js : List JoinAttrs) (y : JoinAttrs) �
 other_pushed f [] y e = ap (λ b. cond b (Some y) None) e
 other_pushed f (x ∷ js) y e = ap (λ z. cond (f x) (Some x) z) (other_pushed f js y e)
 
-apart_pushed : (js : List JoinAttrs) (y : JoinAttrs) → find (λ (j : JoinAttrs). same_provider j.p y.p) js ≡ None → Apart js → Apart (js ++ y ∷ [])
+apart_pushed : (js : List JoinAttrs) (y : JoinAttrs) → find (λ (j : JoinAttrs). same_provider j.provider y.provider) js ≡ None → Apart js → Apart (js ++ y ∷ [])
 apart_pushed [] y none a = (refl, tt)
-apart_pushed (x ∷ js) y none a = by (same_provider x.p y.p) refl none (λ q. apart_pushed js y q a.1)
+apart_pushed (x ∷ js) y none a = by (same_provider x.provider y.provider) refl none (λ q. apart_pushed js y q a.1)
   where
-    turned : same_provider x.p y.p ≡ false → (b : Bool) → same_provider y.p x.p ≡ b → b ≡ false
+    turned : same_provider x.provider y.provider ≡ false → (b : Bool) → same_provider y.provider x.provider ≡ b → b ≡ false
     turned e false f = refl
-    turned e true f = absurd (let z : same_provider x.p y.p ≡ true = subst (λ w. same_provider w y.p ≡ true) (provider_same y.p x.p f) (provider_self y.p) in cc)
+    turned e true f = absurd (let z : same_provider x.provider y.provider ≡ true = subst (λ w. same_provider w y.provider ≡ true) (provider_same y.provider x.provider f) (provider_self y.provider) in cc)
 
-    by : (b : Bool) → same_provider x.p y.p ≡ b → cond b (Some x) (find (λ (j : JoinAttrs). same_provider j.p y.p) js) ≡ None → (find (λ (j : JoinAttrs). same_provider j.p y.p) js ≡ None → Apart (js ++ y ∷ [])) → Apart (x ∷ js ++ y ∷ [])
+    by : (b : Bool) → same_provider x.provider y.provider ≡ b → cond b (Some x) (find (λ (j : JoinAttrs). same_provider j.provider y.provider) js) ≡ None → (find (λ (j : JoinAttrs). same_provider j.provider y.provider) js ≡ None → Apart (js ++ y ∷ [])) → Apart (x ∷ js ++ y ∷ [])
     by true e q rest = absurd (cc)
-    by false e q rest = (other_pushed (λ (j : JoinAttrs). same_provider j.p x.p) js y (turned e (same_provider y.p x.p) refl) ∙ a.0, rest q)
+    by false e q rest = (other_pushed (λ (j : JoinAttrs). same_provider j.provider x.provider) js y (turned e (same_provider y.provider x.provider) refl) ∙ a.0, rest q)
 
 module _ (js : List JoinAttrs) (p : ProviderId) (a : Attrs) (apart : Apart js) where
   kept_apart : (idle : Bool) → Apart (keep_attrs js p a idle)
   unfolding keep_attrs
-  kept_apart false = apart_without (λ (j : JoinAttrs). same_provider j.p p) js apart
-  kept_apart true = apart_pushed (drop_where (λ (j : JoinAttrs). same_provider j.p p) js) (record { p = p; attrs = a }) (none_dropped p js apart) (apart_without (λ (j : JoinAttrs). same_provider j.p p) js apart)
+  kept_apart false = apart_without (λ (j : JoinAttrs). same_provider j.provider p) js apart
+  kept_apart true = apart_pushed (drop_where (λ (j : JoinAttrs). same_provider j.provider p) js) (record { provider = p; attrs = a }) (none_dropped p js apart) (apart_without (λ (j : JoinAttrs). same_provider j.provider p) js apart)
 
   -- what is kept of others stays
-  kept_others : (idle : Bool) (q : ProviderId) → (q ≡ p → ⊥) → find (λ (j : JoinAttrs). same_provider j.p q) (keep_attrs js p a idle) ≡ find (λ (j : JoinAttrs). same_provider j.p q) js
+  kept_others : (idle : Bool) (q : ProviderId) → (q ≡ p → ⊥) → find (λ (j : JoinAttrs). same_provider j.provider q) (keep_attrs js p a idle) ≡ find (λ (j : JoinAttrs). same_provider j.provider q) js
   unfolding keep_attrs
   kept_others false q ne = other_dropped p q js ne
-  kept_others true q ne = other_pushed (λ (j : JoinAttrs). same_provider j.p q) (drop_where (λ (j : JoinAttrs). same_provider j.p p) js) (record { p = p; attrs = a }) (away (same_provider p q) refl) ∙ other_dropped p q js ne
+  kept_others true q ne = other_pushed (λ (j : JoinAttrs). same_provider j.provider q) (drop_where (λ (j : JoinAttrs). same_provider j.provider p) js) (record { provider = p; attrs = a }) (away (same_provider p q) refl) ∙ other_dropped p q js ne
     where
       away : (b : Bool) → same_provider p q ≡ b → b ≡ false
       away false f = refl
       away true f = absurd (ne (sym (provider_same p q f)))
 
   -- its own where it was decided in an empty idle group
-  kept_own : (h : History) (n : ℕ) (v : ViewId) (g : List ℕ) (idle : Bool) → Decided h n v g p idle a → DecidedAs h n v g p (find (λ (j : JoinAttrs). same_provider j.p p) (keep_attrs js p a idle))
+  kept_own : (h : History) (n : ℕ) (v : ViewId) (g : List ℕ) (idle : Bool) → Decided h n v g p idle a → DecidedAs h n v g p (find (λ (j : JoinAttrs). same_provider j.provider p) (keep_attrs js p a idle))
   unfolding keep_attrs
   kept_own h n v g false d = subst (DecidedAs h n v g p) (sym (none_dropped p js apart)) (a, d)
   kept_own h n v g true d =
-      subst (DecidedAs h n v g p) (sym (find_pushed (λ (j : JoinAttrs). same_provider j.p p) (drop_where (λ (j : JoinAttrs). same_provider j.p p) js) (record { p = p; attrs = a }) (none_dropped p js apart) ∙ ap (λ b. cond b (Some (record { p = p; attrs = a })) None) (provider_self p))) d
+      subst (DecidedAs h n v g p) (sym (find_pushed (λ (j : JoinAttrs). same_provider j.provider p) (drop_where (λ (j : JoinAttrs). same_provider j.provider p) js) (record { provider = p; attrs = a }) (none_dropped p js apart) ∙ ap (λ b. cond b (Some (record { provider = p; attrs = a })) None) (provider_self p))) d
 
 pub holds_joining : (x : Turn) (s : Core) (g : List ℕ) (p : ProviderId) (a : Attrs) (idle : Bool) → Decided (so_far x []) x.node x.view g p idle a → Going x s → Going x (with_led s g (λ l. record l { waiting = waits_join p l.waiting; join_attrs = keep_attrs l.join_attrs p a idle }))
 unfolding with_led with_row
@@ -353,8 +353,8 @@ holds_joining x s g p a idle decided k =
             at true e = inl (provider_same q p e)
             at false e = inr (λ z. absurd (let w : same_provider q p ≡ true = subst (λ r. same_provider q r ≡ true) z (provider_self q) in cc))
 
-        by : (q : ProviderId) → (among y.led.waiting.joins q ≡ true) ⊎ (q ≡ p) → (q ≡ p) ⊎ (q ≡ p → ⊥) → DecidedAs (so_far x []) x.node x.view y.name q (find (λ (j : JoinAttrs). same_provider j.p q) (keep_attrs y.led.join_attrs p a idle))
-        by q old (inl e) = subst (λ z. DecidedAs (so_far x []) x.node x.view y.name z (find (λ (j : JoinAttrs). same_provider j.p z) (keep_attrs y.led.join_attrs p a idle))) (sym e) (kept_own y.led.join_attrs p a w.0 (so_far x []) x.node x.view y.name idle d)
+        by : (q : ProviderId) → (among y.led.waiting.joins q ≡ true) ⊎ (q ≡ p) → (q ≡ p) ⊎ (q ≡ p → ⊥) → DecidedAs (so_far x []) x.node x.view y.name q (find (λ (j : JoinAttrs). same_provider j.provider q) (keep_attrs y.led.join_attrs p a idle))
+        by q old (inl e) = subst (λ z. DecidedAs (so_far x []) x.node x.view y.name z (find (λ (j : JoinAttrs). same_provider j.provider z) (keep_attrs y.led.join_attrs p a idle))) (sym e) (kept_own y.led.join_attrs p a w.0 (so_far x []) x.node x.view y.name idle d)
         by q (inl e) (inr ne) = subst (DecidedAs (so_far x []) x.node x.view y.name q) (sym (kept_others y.led.join_attrs p a w.0 idle q ne)) (w.1 q e)
         by q (inr e) (inr ne) = absurd (ne e)
 

@@ -47,7 +47,7 @@ RowGives pick rs proto phase p (row_vote.Failed d) rest part = rest part
 -- the part is that of the earliest row whose ballot has one, and none where none has one
 abbrev pub RowsGive : Pick → List Happened → ProtoId → ℕ → List Row → Option (List ℕ) → Type 0
 RowsGive pick rs proto phase [] part = part ≡ None
-RowsGive pick rs proto phase (r ∷ rows) part = RowGives pick rs proto phase r.p r.vote (RowsGive pick rs proto phase rows) part
+RowsGive pick rs proto phase (r ∷ rows) part = RowGives pick rs proto phase r.provider r.vote (RowsGive pick rs proto phase rows) part
 
 abbrev pub Gives : Pick → List Happened → Closed → Option (List ℕ) → Type 0
 Gives pick rs c part = RowsGive pick rs c.proto c.phase c.rows part
@@ -82,7 +82,7 @@ BallotTold rs p proto phase None = Unit {0}
 BallotTold rs p proto phase (Some b) = Has (happened.Cast p proto phase b.vote b.value b.message) rs
 
 abbrev pub KeptTold : List Happened → KeptBallot → Type 0
-KeptTold rs k = BallotTold rs k.p k.proto k.phase k.ballot.filled
+KeptTold rs k = BallotTold rs k.provider k.proto k.phase k.ballot.filled
 
 -- of a ballot that is sent
 abbrev pub BodyTold : List Happened → Body → Type 0

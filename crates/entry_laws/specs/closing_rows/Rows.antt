@@ -28,7 +28,7 @@ use Rattle.step_refinement.specs.Runs.{Reached}
 
 -- one row for each voter of the state, in the voters' order
 abbrev pub AreOfVoters : GroupState → List Row → Type 0
-AreOfVoters s rows = map (λ (r : Row). r.p) rows ≡ voters s
+AreOfVoters s rows = map (λ (r : Row). r.provider) rows ≡ voters s
 
 -- the rows of an entry that closes a phase, where the state before it is this
 abbrev pub HasRows : GroupState → Entry → Type 0
@@ -58,7 +58,7 @@ RowsAreAlwaysVoters = (c : Config) (w : Scene) → Reached c w → RowsAreVoters
 -- a slot for each voter of the state, in order
 abbrev pub TallyFits : Option TallyView → GroupState → Type 0
 TallyFits None st = Unit {0}
-TallyFits (Some t) st = map (λ (x : Voter). x.p) t.voters ≡ voters st
+TallyFits (Some t) st = map (λ (x : Voter). x.provider) t.voters ≡ voters st
 
 -- each tally that a node keeps of a group is of the voters of its list's state
 abbrev pub TalliesAreOfVoters : Type 0

@@ -42,7 +42,7 @@ late_first p (row_vote.Failed d) ps = ps
 
 abbrev pub late_in : List Row → List ProviderId
 late_in [] = []
-late_in (r ∷ rows) = late_first r.p r.vote (late_in rows)
+late_in (r ∷ rows) = late_first r.provider r.vote (late_in rows)
 
 -- nobody was late, or the entry before announces just these, in this protocol and phase
 abbrev pub RowsTold : List Entry → Closed → Type 0

@@ -103,14 +103,14 @@ module _ (n inc : ℕ) (before : History) where
       node : (p : ProviderId) → Has p (hearers s.sessions h (state_of s h) e) → (p.node ≡ n) × (p.inc ≡ inc)
       node p a = let f = hearer_found s.sessions h (state_of s h) e p a in let o = k.hearing.at.own p f.0 f.1 in (o.0, o.1)
 
-      one : (x : Cast) → Has x cs → IsNext x.p e (last_heard x.p s.views.view h (earlier now before)) (len_of s h)
+      one : (x : Cast) → Has x cs → IsNext x.provider e (last_heard x.provider s.views.view h (earlier now before)) (len_of s h)
       one x i =
-          hearer_next n inc before s.views.view s.sessions (reverse s.records) (len_of s) (state_of s) k.hearing.at h e x.p (cast_has e after s.sessions.level (hearers s.sessions h (state_of s h) e) bs x i)
+          hearer_next n inc before s.views.view s.sessions (reverse s.records) (len_of s) (state_of s) k.hearing.at h e x.provider (cast_has e after s.sessions.level (hearers s.sessions h (state_of s h) e) bs x i)
 
-      next : (x : Cast) → Has x cs → IsNext x.p e (last_heard x.p s.views.view h (earlier now before)) (len_of s h) × IsUp x.p s.views.view (earlier now before)
+      next : (x : Cast) → Has x cs → IsNext x.provider e (last_heard x.provider s.views.view h (earlier now before)) (len_of s h) × IsUp x.provider s.views.view (earlier now before)
       next x i =
           let a = cast_has e after s.sessions.level (hearers s.sessions h (state_of s h) e) bs x i in
-          let o = node x.p a in
+          let o = node x.provider a in
           (one x i, (ap (λ m. view_now m (earlier now before)) o.0 ∙ k.view, ap (λ m. inc_now m (earlier now before)) o.0 ∙ k.incs n ∙ k.start ∙ sym o.1))
 
       all : Within NextHeard (pushed rs now) before
@@ -173,7 +173,7 @@ module _ (n inc : ℕ) (before : History) where
   strict_does _ _ (Loses s t f) fine k = record { hearing = hearing_does n inc before s (with_sessions s t) (Loses s t f) k.hearing; law = k.law; view = k.view; incs = k.incs; start = k.start; alone = k.alone }
   strict_does _ _ (Joins s t g instance attrs none) fine k = record { hearing = hearing_does n inc before s _ (Joins s t g instance attrs none) k.hearing; law = k.law; view = k.view; incs = k.incs; start = k.start; alone = k.alone }
   strict_does _ _ (Votes s x o b found opened unkept) fine k =
-      let r : Happened = happened.Cast x.p o.proto o.phase b.vote b.value b.message in
+      let r : Happened = happened.Cast x.provider o.proto o.phase b.vote b.value b.message in
       record {
         hearing = hearing_does n inc before s (voting s x o b) (Votes s x o b found opened unkept) k.hearing;
         law = subst (λ z. Within NextHeard z before) (sym (reverse-append s.records (r ∷ []))) (aside_next (reverse s.records) before r tt, k.law);

@@ -47,7 +47,7 @@ module _ (before : History) (n : ℕ) (v : ViewId) (h : List ℕ) (i : ℕ) (e :
   casts_count p o now q u g = casts_keep (λ z. heard_count q u g (earlier z before) ≡ heard_count q u g (earlier now before)) (λ w proto phase b z k. k) p o now refl
 
   abbrev one_heard : Cast → List Happened → List Happened
-  one_heard c now = pushed (cast_records c.p c.cast) (happened.Heard c.p v h i e st.members st.value ∷ now)
+  one_heard c now = pushed (cast_records c.provider c.cast) (happened.Heard c.provider v h i e st.members st.value ∷ now)
 
   split : (c : Cast) (cs : List Cast) (now : List Happened) → heards (c ∷ cs) now ≡ heards cs (one_heard c now)
   split c cs now = pushed_append (heard_at v h i e st c) (flat_map (heard_at v h i e st) cs) now
@@ -55,13 +55,13 @@ module _ (before : History) (n : ℕ) (v : ViewId) (h : List ℕ) (i : ℕ) (e :
   pub all_stay : (cs : List Cast) (now : List Happened) (m : ℕ) (g : List ℕ) → stays m g (earlier (heards cs now) before) ≡ stays m g (earlier now before)
   all_stay [] now m g = refl
   all_stay (c ∷ cs) now m g =
-      ap (λ z. stays m g (earlier z before)) (split c cs now) ∙ all_stay cs (one_heard c now) m g ∙ casts_stay c.p c.cast (happened.Heard c.p v h i e st.members st.value ∷ now) m g
+      ap (λ z. stays m g (earlier z before)) (split c cs now) ∙ all_stay cs (one_heard c now) m g ∙ casts_stay c.provider c.cast (happened.Heard c.provider v h i e st.members st.value ∷ now) m g
 
-  one_out : (c : Cast) (now : List Happened) (p : ProviderId) (u : ViewId) (g : List ℕ) → (c.p ≡ p → ⊥) → heard_count p u g (earlier (one_heard c now) before) ≡ heard_count p u g (earlier now before)
+  one_out : (c : Cast) (now : List Happened) (p : ProviderId) (u : ViewId) (g : List ℕ) → (c.provider ≡ p → ⊥) → heard_count p u g (earlier (one_heard c now) before) ≡ heard_count p u g (earlier now before)
   one_out c now p u g ne =
-      casts_count c.p c.cast (happened.Heard c.p v h i e st.members st.value ∷ now) p u g ∙ count_other p u g c.p v h i e st.members st.value (earlier now before) ne
+      casts_count c.provider c.cast (happened.Heard c.provider v h i e st.members st.value ∷ now) p u g ∙ count_other p u g c.provider v h i e st.members st.value (earlier now before) ne
 
-  pub count_out : (cs : List Cast) (now : List Happened) (p : ProviderId) (u : ViewId) (g : List ℕ) → ((c : Cast) → Has c cs → c.p ≡ p → ⊥) → heard_count p u g (earlier (heards cs now) before) ≡ heard_count p u g (earlier now before)
+  pub count_out : (cs : List Cast) (now : List Happened) (p : ProviderId) (u : ViewId) (g : List ℕ) → ((c : Cast) → Has c cs → c.provider ≡ p → ⊥) → heard_count p u g (earlier (heards cs now) before) ≡ heard_count p u g (earlier now before)
   count_out [] now p u g ne = refl
   count_out (c ∷ cs) now p u g ne =
       ap (λ z. heard_count p u g (earlier z before)) (split c cs now) ∙ count_out cs (one_heard c now) p u g (λ d j. ne d (inr j)) ∙ one_out c now p u g (ne c (inl refl))
@@ -69,13 +69,13 @@ module _ (before : History) (n : ℕ) (v : ViewId) (h : List ℕ) (i : ℕ) (e :
   pub count_far : (cs : List Cast) (now : List Happened) (p : ProviderId) (u : ViewId) (g : List ℕ) → (h ≡ g → ⊥) → heard_count p u g (earlier (heards cs now) before) ≡ heard_count p u g (earlier now before)
   count_far [] now p u g ne = refl
   count_far (c ∷ cs) now p u g ne =
-      ap (λ z. heard_count p u g (earlier z before)) (split c cs now) ∙ count_far cs (one_heard c now) p u g ne ∙ casts_count c.p c.cast (happened.Heard c.p v h i e st.members st.value ∷ now) p u g ∙ count_apart p u g c.p v h i e st.members st.value (earlier now before) ne
+      ap (λ z. heard_count p u g (earlier z before)) (split c cs now) ∙ count_far cs (one_heard c now) p u g ne ∙ casts_count c.provider c.cast (happened.Heard c.provider v h i e st.members st.value ∷ now) p u g ∙ count_apart p u g c.provider v h i e st.members st.value (earlier now before) ne
 
-  pub count_in : (cs : List Cast) (now : List Happened) (p : ProviderId) → CastsAlone cs → (c : Cast) → Has c cs → c.p ≡ p → heard_count p v h (earlier (heards cs now) before) ≡ heard_count p v h (earlier now before) + 1
+  pub count_in : (cs : List Cast) (now : List Happened) (p : ProviderId) → CastsAlone cs → (c : Cast) → Has c cs → c.provider ≡ p → heard_count p v h (earlier (heards cs now) before) ≡ heard_count p v h (earlier now before) + 1
   count_in [] now p alone c j is = absurd j
   count_in (d ∷ cs) now p alone c (inl q) is =
-      let at : d.p ≡ p = ap (λ (z : Cast). z.p) (sym q) ∙ is in
-      ap (λ z. heard_count p v h (earlier z before)) (split d cs now) ∙ count_out cs (one_heard d now) p v h (λ x j z. alone.0 x j (z ∙ sym at)) ∙ casts_count d.p d.cast (happened.Heard d.p v h i e st.members st.value ∷ now) p v h ∙ subst (λ z. heard_count z v h (happened.Heard d.p v h i e st.members st.value ∷ earlier now before) ≡ heard_count z v h (earlier now before) + 1) at (count_own d.p v h i e st.members st.value (earlier now before))
+      let at : d.provider ≡ p = ap (λ (z : Cast). z.provider) (sym q) ∙ is in
+      ap (λ z. heard_count p v h (earlier z before)) (split d cs now) ∙ count_out cs (one_heard d now) p v h (λ x j z. alone.0 x j (z ∙ sym at)) ∙ casts_count d.provider d.cast (happened.Heard d.provider v h i e st.members st.value ∷ now) p v h ∙ subst (λ z. heard_count z v h (happened.Heard d.provider v h i e st.members st.value ∷ earlier now before) ≡ heard_count z v h (earlier now before) + 1) at (count_own d.provider v h i e st.members st.value (earlier now before))
   count_in (d ∷ cs) now p alone c (inr j) is =
       ap (λ z. heard_count p v h (earlier z before)) (split d cs now) ∙ count_in cs (one_heard d now) p alone.1 c j is ∙ ap (λ z. z + 1) (one_out d now p v h (λ z. alone.0 c j (is ∙ sym z)))
 
@@ -87,20 +87,20 @@ module _ (before : History) (n : ℕ) (v : ViewId) (h : List ℕ) (i : ℕ) (e :
     pub takes : IsTrue (takes_part i (part p xs))
     pub next : i ≡ first + count
 
-  pub all_order : (xs : List Stay) (cs : List Cast) (now : List Happened) → stays n h (earlier now before) ≡ xs → Within Order now before → ((c : Cast) → Has c cs → Ready xs c.p (heard_count c.p v h (earlier now before))) → CastsAlone cs → Within Order (heards cs now) before
+  pub all_order : (xs : List Stay) (cs : List Cast) (now : List Happened) → stays n h (earlier now before) ≡ xs → Within Order now before → ((c : Cast) → Has c cs → Ready xs c.provider (heard_count c.provider v h (earlier now before))) → CastsAlone cs → Within Order (heards cs now) before
   all_order xs [] now at k ready alone = k
   all_order xs (c ∷ cs) now at k ready alone =
-      let heard : List Happened = happened.Heard c.p v h i e st.members st.value ∷ now in
+      let heard : List Happened = happened.Heard c.provider v h i e st.members st.value ∷ now in
       let r = ready c (inl refl) in
-      let law : Within Order (one_heard c now) before = casts_keep (λ z. Within Order z before) (λ w proto phase b z i. (tt, i)) c.p c.cast heard (one r, k) in
-      subst (λ z. Within Order z before) (sym (split c cs now)) (all_order xs cs (one_heard c now) (casts_stay c.p c.cast heard n h ∙ at) law (λ d j. subst (Ready xs d.p) (sym (one_out c now d.p v h (λ z. alone.0 d j (sym z)))) (ready d (inr j))) alone.1)
+      let law : Within Order (one_heard c now) before = casts_keep (λ z. Within Order z before) (λ w proto phase b z i. (tt, i)) c.provider c.cast heard (one r, k) in
+      subst (λ z. Within Order z before) (sym (split c cs now)) (all_order xs cs (one_heard c now) (casts_stay c.provider c.cast heard n h ∙ at) law (λ d j. subst (Ready xs d.provider) (sym (one_out c now d.provider v h (λ z. alone.0 d j (sym z)))) (ready d (inr j))) alone.1)
     where
-      there : c.p.node ≡ n → stays (c.p).node h (earlier now before) ≡ xs
+      there : c.provider.node ≡ n → stays (c.provider).node h (earlier now before) ≡ xs
       there node = ap (λ m. stays m h (earlier now before)) node ∙ at
 
-      one : Ready xs c.p (heard_count c.p v h (earlier now before)) → IsTrue (is_after (heard_count c.p v h (earlier now before)) (part c.p (stays (c.p).node h (earlier now before))).first i) × IsTrue (takes_part i (part c.p (stays (c.p).node h (earlier now before))))
+      one : Ready xs c.provider (heard_count c.provider v h (earlier now before)) → IsTrue (is_after (heard_count c.provider v h (earlier now before)) (part c.provider (stays (c.provider).node h (earlier now before))).first i) × IsTrue (takes_part i (part c.provider (stays (c.provider).node h (earlier now before))))
       one r =
-          (ap (λ o. is_after (heard_count c.p v h (earlier now before)) o i) (ap (λ z. (part c.p z).first) (there r.node) ∙ r.is) ∙ eq-eqb i (r.first + heard_count c.p v h (earlier now before)) r.next, subst (λ z. IsTrue (takes_part i (part c.p z))) (sym (there r.node)) r.takes)
+          (ap (λ o. is_after (heard_count c.provider v h (earlier now before)) o i) (ap (λ z. (part c.provider z).first) (there r.node) ∙ r.is) ∙ eq-eqb i (r.first + heard_count c.provider v h (earlier now before)) r.next, subst (λ z. IsTrue (takes_part i (part c.provider z))) (sym (there r.node)) r.takes)
 
 -- ---- the whole
 
@@ -171,7 +171,7 @@ module _ (n : ℕ) (before : History) (v : ViewId) (t : SessionState) (now : Lis
 
   pub handed_order : Within Order now before → Within Order after_now before
   handed_order law =
-      all_order before n v h i e st xs cs put_now here (tt, law) (λ c j. ready c.p (cast_has e st t.level (hearers t h (states h) e) bs c j)) alone
+      all_order before n v h i e st xs cs put_now here (tt, law) (λ c j. ready c.provider (cast_has e st t.level (hearers t h (states h) e) bs c j)) alone
 
   stays_now : (g : List ℕ) → stays n g (earlier after_now before) ≡ stays n g (earlier put_now before)
   stays_now g = all_stay before n v h i e st cs put_now n g
@@ -254,7 +254,7 @@ module _ (n : ℕ) (before : History) (v : ViewId) (t : SessionState) (now : Lis
               no_begin : Has p (beginners t h e) → ⊥
               no_begin a = let z : true ≡ false = sym (handed_begun t h (states h) st e bs p a y q) ∙ wait in cc
 
-              no_hear : (c : Cast) → Has c cs → c.p ≡ p → ⊥
+              no_hear : (c : Cast) → Has c cs → c.provider ≡ p → ⊥
               no_hear c j is =
                   let f = hearer_found t h (states h) e p (subst (λ z. Has z (hearers t h (states h) e)) is (cast_has e st t.level (hearers t h (states h) e) bs c j)) in
                   ⊎_elim (λ (z : (f.0).takes_part ≡ true). let u : true ≡ false = sym z ∙ ap (λ (a : Provider). a.takes_part) (some_is (sym f.1 ∙ found)) ∙ take in cc) no_begin f.3

@@ -98,7 +98,7 @@ does_ins _ _ (Hands s c g e bs o same) k m u ms h =
 does_ins _ _ (Loses s t f) k m u ms h = k m u ms h
 does_ins _ _ (Joins s t g instance attrs none) k m u ms h = k m u ms h
 does_ins _ _ (Votes s x o b found opened unkept) k m u ms h =
-    let r : Happened = happened.Cast x.p o.proto o.phase b.vote b.value b.message in
+    let r : Happened = happened.Cast x.provider o.proto o.phase b.vote b.value b.message in
     ⊎_elim (λ (i : Has (happened.In m u ms) s.records). k m u ms i) (λ (i : Has (happened.In m u ms) (r ∷ [])). absurd (⊎_elim (λ (e : happened.In m u ms ≡ r). let z = e in cc) (λ (z : ⊥). z) i)) (has_append (happened.In m u ms) s.records (r ∷ []) h)
 does_ins _ _ (Enters s i lt none) k m u ms h = enters_ins s i none m u ms h
 
@@ -182,8 +182,8 @@ module _ (n inc : ℕ) (before : History) (v : ViewId) (last : ℕ) where
       own : (p : ProviderId) (x : Provider) → provider_of s.sessions p ≡ Some x → p.node ≡ n
       own p x q = (k.strict.hearing.at.own p x q).0
 
-      hears : (x : Cast) → Has x cs → x.p.node ≡ n
-      hears x i = let f = hearer_found s.sessions h (state_of s h) e x.p (cast_has e st s.sessions.level ps bs x i) in own x.p f.0 f.1
+      hears : (x : Cast) → Has x cs → x.provider.node ≡ n
+      hears x i = let f = hearer_found s.sessions h (state_of s h) e x.provider (cast_has e st s.sessions.level ps bs x i) in own x.provider f.0 f.1
 
       alone : CastsAlone cs
       alone = casts_alone e st s.sessions.level ps bs (hearers_alone s.sessions h (state_of s h) e (k.strict.alone h) named)
@@ -297,7 +297,7 @@ module _ (n inc : ℕ) (before : History) (v : ViewId) (last : ℕ) where
         numbers = λ q. let a = k.numbers q in omega (arith, a);
       }
   ordered_does _ _ (Votes s x o b found opened unkept) rs more fine lively fresh k =
-      let r : Happened = happened.Cast x.p o.proto o.phase b.vote b.value b.message in
+      let r : Happened = happened.Cast x.provider o.proto o.phase b.vote b.value b.message in
       let turned : reverse (s.records ++ r ∷ []) ≡ r ∷ reverse s.records = reverse-append s.records (r ∷ []) in
       record {
         strict = strict_does n inc before s (voting s x o b) (Votes s x o b found opened unkept) (λ q h. fine q (more q h)) k.strict;

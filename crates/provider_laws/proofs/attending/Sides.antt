@@ -29,8 +29,8 @@ module _ (P : Core → Type 0) where
     where
       kept_if : (u : Core) (g : List ℕ) (b : Option Base) (o : Option Provider) → P u → P (dissolved_if u g old b o)
       kept_if u g b None i = i
-      kept_if u g b (Some x) i = by (x.takes_part && bytes_eq x.group g && not (is_in_base old x.p b))
+      kept_if u g b (Some x) i = by (x.takes_part && bytes_eq x.group g && not (is_in_base old x.provider b))
         where
-          by : (t : Bool) → P (elim t as (λ _. Core) [ true ↦ dissolved u x.p (number_of (outstanding u.sessions x.p)) | false ↦ u ])
-          by true = tells u x.p (number_of (outstanding u.sessions x.p)) i
+          by : (t : Bool) → P (elim t as (λ _. Core) [ true ↦ dissolved u x.provider (number_of (outstanding u.sessions x.provider)) | false ↦ u ])
+          by true = tells u x.provider (number_of (outstanding u.sessions x.provider)) i
           by false = i

@@ -108,15 +108,15 @@ count_apart p u g q v h i e ms value rs ne = by (same_provider q p) (same_view v
     by true true false k = refl
 
 -- who is found with one provider more was found before, or is that one
-pub found_joined : (x : Provider) (p : ProviderId) (xs : List Provider) (y : Provider) → find (is_provider p) (xs ++ x ∷ []) ≡ Some y → (find (is_provider p) xs ≡ Some y) ⊎ ((y ≡ x) × (p ≡ x.p))
+pub found_joined : (x : Provider) (p : ProviderId) (xs : List Provider) (y : Provider) → find (is_provider p) (xs ++ x ∷ []) ≡ Some y → (find (is_provider p) xs ≡ Some y) ⊎ ((y ≡ x) × (p ≡ x.provider))
 found_joined x p [] y e = last (is_provider p x) refl e
   where
-    last : (b : Bool) → is_provider p x ≡ b → (if b then Some x else None) ≡ Some y → (find (is_provider p) [] ≡ Some y) ⊎ ((y ≡ x) × (p ≡ x.p))
-    last true q e = let z : y ≡ x = cc in inr (z, sym (provider_same x.p p q))
+    last : (b : Bool) → is_provider p x ≡ b → (if b then Some x else None) ≡ Some y → (find (is_provider p) [] ≡ Some y) ⊎ ((y ≡ x) × (p ≡ x.provider))
+    last true q e = let z : y ≡ x = cc in inr (z, sym (provider_same x.provider p q))
     last false q e = absurd (cc)
 found_joined x p (z ∷ xs) y e = by (is_provider p z) e (found_joined x p xs y)
   where
-    by : (b : Bool) → (if b then Some z else find (is_provider p) (xs ++ x ∷ [])) ≡ Some y → (find (is_provider p) (xs ++ x ∷ []) ≡ Some y → (find (is_provider p) xs ≡ Some y) ⊎ ((y ≡ x) × (p ≡ x.p))) → ((if b then Some z else find (is_provider p) xs) ≡ Some y) ⊎ ((y ≡ x) × (p ≡ x.p))
+    by : (b : Bool) → (if b then Some z else find (is_provider p) (xs ++ x ∷ [])) ≡ Some y → (find (is_provider p) (xs ++ x ∷ []) ≡ Some y → (find (is_provider p) xs ≡ Some y) ⊎ ((y ≡ x) × (p ≡ x.provider))) → ((if b then Some z else find (is_provider p) xs) ≡ Some y) ⊎ ((y ≡ x) × (p ≡ x.provider))
     by true e rest = inl e
     by false e rest = rest e
 
@@ -138,12 +138,12 @@ module _ (n : ℕ) (v : ViewId) (t : SessionState) (S : ℕ → List ℕ → Lis
   place_joined c h instance attrs fresh k =
       record {
         stay = k.stay;
-        taking = λ p y q take. ⊎_elim (λ (a : find (is_provider p) t.providers ≡ Some y). k.taking p y a take) (λ (a : (y ≡ x) × (p ≡ x.p)). absurd (let z : false ≡ true = ap (λ (z : Provider). z.takes_part) (sym a.0) ∙ take in cc)) (found_joined x p t.providers y q);
-        waiting = λ p y q take. ⊎_elim (λ (a : find (is_provider p) t.providers ≡ Some y). k.waiting p y a take) (λ (a : (y ≡ x) × (p ≡ x.p)). subst (λ (z : ProviderId × Provider). ((part z.0 (S n z.1.group)).first ≡ None) × (C z.0 v z.1.group ≡ 0)) (λ i. (sym a.1 i, sym a.0 i)) fresh) (found_joined x p t.providers y q);
+        taking = λ p y q take. ⊎_elim (λ (a : find (is_provider p) t.providers ≡ Some y). k.taking p y a take) (λ (a : (y ≡ x) × (p ≡ x.provider)). absurd (let z : false ≡ true = ap (λ (z : Provider). z.takes_part) (sym a.0) ∙ take in cc)) (found_joined x p t.providers y q);
+        waiting = λ p y q take. ⊎_elim (λ (a : find (is_provider p) t.providers ≡ Some y). k.waiting p y a take) (λ (a : (y ≡ x) × (p ≡ x.provider)). subst (λ (z : ProviderId × Provider). ((part z.0 (S n z.1.group)).first ≡ None) × (C z.0 v z.1.group ≡ 0)) (λ i. (sym a.1 i, sym a.0 i)) fresh) (found_joined x p t.providers y q);
       }
     where
       x : Provider
-      x = record { p = new_provider t instance; client = c; group = h; takes_part = false; opened = None }
+      x = record { provider = new_provider t instance; client = c; group = h; takes_part = false; opened = None }
 
 -- ---- an entry is put
 

@@ -111,7 +111,7 @@ begins_by_join t h e p k = join_brings p e (has_filter (λ p. hears h false (pro
 -- the casts of providers that differ are of such
 abbrev pub CastsAlone : List Cast → Type 0
 CastsAlone [] = Unit {0}
-CastsAlone (c ∷ cs) = ((d : Cast) → Has d cs → d.p ≡ c.p → ⊥) × CastsAlone cs
+CastsAlone (c ∷ cs) = ((d : Cast) → Has d cs → d.provider ≡ c.provider → ⊥) × CastsAlone cs
 
 pub casts_alone : (e : Entry) (after : GroupState) (level : ℕ) (ps : List ProviderId) (bs : List (Option Filled)) → Alone ps → CastsAlone (casts_of e after level ps bs)
 unfolding cast_of
@@ -134,13 +134,13 @@ module _ (before : History) (v : ViewId) (h : List ℕ) (i : ℕ) (e : Entry) (s
   cast_last : (p : ProviderId) (o : Option (ProtoId × ℕ × BallotView)) (now : List Happened) (q : ProviderId) → last_heard q v h (earlier (pushed (cast_records p o) now) before) ≡ last_heard q v h (earlier now before)
   cast_last p o now q = casts_keep (λ z. last_heard q v h (earlier z before) ≡ last_heard q v h (earlier now before)) (λ w proto phase b z i. i) p o now refl
 
-  pub all_next : (cs : List Cast) (now : List Happened) → Within NextHeard now before → ((c : Cast) → Has c cs → Next now c.p) → CastsAlone cs → Within NextHeard (pushed (flat_map (heard_at v h i e st) cs) now) before
+  pub all_next : (cs : List Cast) (now : List Happened) → Within NextHeard now before → ((c : Cast) → Has c cs → Next now c.provider) → CastsAlone cs → Within NextHeard (pushed (flat_map (heard_at v h i e st) cs) now) before
   all_next [] now k next alone = k
   all_next (c ∷ cs) now k next alone =
-      let heard : List Happened = happened.Heard c.p v h i e st.members st.value ∷ now in
-      let mid : List Happened = pushed (cast_records c.p c.cast) heard in
-      let law : Within NextHeard mid before = casts_keep (λ z. Within NextHeard z before) (λ w proto phase b z i. (tt, i)) c.p c.cast heard (next c (inl refl), k) in
-      subst (λ z. Within NextHeard z before) (sym (pushed_append (heard_at v h i e st c) (flat_map (heard_at v h i e st) cs) now)) (all_next cs mid law (λ d j. (subst (λ o. IsNext d.p e o i) (sym (cast_last c.p c.cast heard d.p ∙ heard_other d.p v h c.p v h i e st.members st.value (earlier now before) (alone.0 d j))) (next d (inr j)).0, casts_up c.p c.cast heard d.p (next d (inr j)).1)) alone.1)
+      let heard : List Happened = happened.Heard c.provider v h i e st.members st.value ∷ now in
+      let mid : List Happened = pushed (cast_records c.provider c.cast) heard in
+      let law : Within NextHeard mid before = casts_keep (λ z. Within NextHeard z before) (λ w proto phase b z i. (tt, i)) c.provider c.cast heard (next c (inl refl), k) in
+      subst (λ z. Within NextHeard z before) (sym (pushed_append (heard_at v h i e st c) (flat_map (heard_at v h i e st) cs) now)) (all_next cs mid law (λ d j. (subst (λ o. IsNext d.provider e o i) (sym (cast_last c.provider c.cast heard d.provider ∙ heard_other d.provider v h c.provider v h i e st.members st.value (earlier now before) (alone.0 d j))) (next d (inr j)).0, casts_up c.provider c.cast heard d.provider (next d (inr j)).1)) alone.1)
 
 -- who hears an entry heard the place before it last, or nothing of the list
 pub hearer_next : (n inc : ℕ) (before : History) (v : ViewId) (t : SessionState) (now : List Happened) (lens : List ℕ → ℕ) (states : List ℕ → GroupState) → Attending n inc before v t now lens states → (h : List ℕ) (e : Entry) (p : ProviderId) → Has p (hearers t h (states h) e) → IsNext p e (last_heard p v h (earlier now before)) (lens h)

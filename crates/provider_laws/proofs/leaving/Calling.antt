@@ -64,13 +64,13 @@ apart_removed test (x ∷ xs) k = by (test x) (apart_removed test xs k.1)
 
 -- the session of a token is taken out, and no other has its name
 module _ (t : ClientToken) (name : List ℕ) where
-  removed_unnamed : (y0 : Session) (xs : List Session) → ((y z : Session) → Has y xs → Has z xs → y.token.n ≡ z.token.n → y.name ≡ z.name) → Apart xs → Has y0 xs → y0.token.n ≡ t.n → y0.name ≡ name → (z : Session) → Has z (removed_at (place_where (is_session t) xs) xs) → z.name ≡ name → ⊥
+  removed_unnamed : (y0 : Session) (xs : List Session) → ((y z : Session) → Has y xs → Has z xs → y.token.number ≡ z.token.number → y.name ≡ z.name) → Apart xs → Has y0 xs → y0.token.number ≡ t.number → y0.name ≡ name → (z : Session) → Has z (removed_at (place_where (is_session t) xs) xs) → z.name ≡ name → ⊥
   removed_unnamed y0 [] single k there token named z i e = i
   removed_unnamed y0 (x ∷ xs) single k there token named z i e =
       by (is_session t x) refl i (λ j. removed_unnamed y0 xs (λ a b p q. single a b (inr p) (inr q)) k.1 j token named z)
     where
       other : (is_session t x ≡ false) → (x ≡ y0 → ⊥)
-      other f q = let a : is_session t x ≡ true = eq-eqb x.token.n t.n (ap (λ (a : Session). a.token.n) q ∙ token) in let b : true ≡ false = sym a ∙ f in cc
+      other f q = let a : is_session t x ≡ true = eq-eqb x.token.number t.number (ap (λ (a : Session). a.token.number) q ∙ token) in let b : true ≡ false = sym a ∙ f in cc
 
       later : is_session t x ≡ false → Has y0 (x ∷ xs) → Has y0 xs
       later f (inl q) = absurd (other f (sym q))
@@ -84,7 +84,7 @@ module _ (t : ClientToken) (name : List ℕ) where
 
       by : (b : Bool) → is_session t x ≡ b → Has z (removed_at (if b then Some 0 else option_map suc (place_where (is_session t) xs)) (x ∷ xs)) → (Has y0 xs → Has z (removed_at (place_where (is_session t) xs) xs) → z.name ≡ name → ⊥) → ⊥
       by true f j rest =
-          let token_x : x.token.n ≡ y0.token.n = eqb-true x.token.n t.n f ∙ sym token in
+          let token_x : x.token.number ≡ y0.token.number = eqb-true x.token.number t.number f ∙ sym token in
           k.0 z j (e ∙ sym named ∙ sym (single x y0 (inl refl) there token_x))
       by false f j rest = at (place_where (is_session t) xs) f (rest (later f there)) j
 
@@ -96,7 +96,7 @@ CallSays t (happened.Up n j) = ⊥
 CallSays t (happened.Down n) = ⊥
 CallSays t (happened.Heard p v g i e ms value) = ⊥
 CallSays t (happened.Told p r y) = ⊥
-CallSays t (happened.Asked p r g x) = (q : Request) × Has q t.requests × (q.p ≡ p)
+CallSays t (happened.Asked p r g x) = (q : Request) × Has q t.requests × (q.provider ≡ p)
 CallSays t _ = Unit {0}
 
 pub record Fit (t : Core) : Type 0 where
@@ -150,8 +150,8 @@ fit_proposed s none client (Ok u) apart k = by (last_or None u.requests) refl
     by : (o : Option Request) → last_or None u.requests ≡ o → Fit (ask_last d o)
     by None e = fit_with s u none (apart u refl)
     by (Some q) e =
-        let t : Core = recorded d (happened.Asked q.p q.r q.group q.proposal) in
-        fit_sends t (send_request t q) (request_sends t q) (fit_recorded d (happened.Asked q.p q.r q.group q.proposal) (q, there q (last_has u.requests q None e), refl) (fit_with s u none (apart u refl)))
+        let t : Core = recorded d (happened.Asked q.provider q.request q.group q.proposal) in
+        fit_sends t (send_request t q) (request_sends t q) (fit_recorded d (happened.Asked q.provider q.request q.group q.proposal) (q, there q (last_has u.requests q None e), refl) (fit_with s u none (apart u refl)))
 fit_proposed s none client (Err f) apart k = fit_refused s client f k
 
 fit_given : (s : Core) → s.records ≡ [] → (client : List ℕ) (r : Result SessionState GsFault) → ((u : SessionState) → r ≡ Ok u → Apart u.sessions) → Fit s → Fit (give_ballot s client r)
@@ -170,7 +170,7 @@ fit_given s none client (Ok u) apart k = by (last_or None u.kept)
 
     said : (b : KeptBallot) (o : Option Filled) → Fit (record_ballot d b o)
     said b None = begin
-    said b (Some f) = fit_recorded d (happened.Cast b.p b.proto b.phase f.vote f.value f.message) tt begin
+    said b (Some f) = fit_recorded d (happened.Cast b.provider b.proto b.phase f.vote f.value f.message) tt begin
 
     by : (o : Option KeptBallot) → Fit (cast_last d o)
     by None = begin
@@ -207,7 +207,7 @@ new_apart s name u e k = by (list_any (is_named name) s.sessions) refl _ _ e
     by : (b : Bool) → list_any (is_named name) s.sessions ≡ b → (a c : Option GsFault) → unless_fault (or_fault a (or_fault (if b then Some fault.Exists else None) c)) (add_session s name) ≡ Ok u → Apart u.sessions
     by true f None c q = absurd (cc)
     by true f (Some x) c q = absurd (cc)
-    by false f a c q = subst (λ (z : SessionState). Apart z.sessions) (sym (unless_is _ (add_session s name) u q)) (apart_added s.sessions (record { token = record { n = s.last_client + 1 }; name = name }) (new f) k)
+    by false f a c q = subst (λ (z : SessionState). Apart z.sessions) (sym (unless_is _ (add_session s name) u q)) (apart_added s.sessions (record { token = record { number = s.last_client + 1 }; name = name }) (new f) k)
 
 pub call_fits : (c : CallLine) (s : Core) → s.records ≡ [] → Fit s → Fit (take_call s c)
 unfolding take_call inited joined left expelled state_changed message_sent subscribe_taken unsubscribe_taken goodbye_taken join_asked end_session

@@ -51,11 +51,11 @@ live_found t p k = by (find (is_provider p) t.providers) refl
   where
     by : (o : Option Provider) → find (is_provider p) t.providers ≡ o → (x : Provider) × (find (is_provider p) t.providers ≡ Some x)
     by (Some x) e = (x, e)
-    by None e = absurd (find_none (is_provider p) t.providers k.0 (ap is_none e) k.1 (ap (λ z. is_provider p (record (k.0) { p = z })) k.2 ∙ provider_self p))
+    by None e = absurd (find_none (is_provider p) t.providers k.0 (ap is_none e) k.1 (ap (λ z. is_provider p (record (k.0) { provider = z })) k.2 ∙ provider_self p))
 
 pub found_live : (t : SessionState) (p : ProviderId) (x : Provider) → provider_of t p ≡ Some x → IsLive t p
 unfolding provider_of
-found_live t p x e = let k = find_has (is_provider p) t.providers x e in (x, k.0, provider_same x.p p k.1)
+found_live t p x e = let k = find_has (is_provider p) t.providers x e in (x, k.0, provider_same x.provider p k.1)
 
 comes_fewer : (s t : SessionState) → Fewer s t → Comes s t
 comes_fewer s t f = record { last = f.last; back = λ p l. inl (let z = live_found t p l in found_live s p z.0 (f.providers p z.0 z.1)) }
@@ -65,11 +65,11 @@ unfolding join_asked
 comes_joined s t g instance attrs = record { last = omega arith; back = λ p l. by p l.0 l.2 (has_append l.0 s.providers (x ∷ []) l.1) }
   where
     x : Provider
-    x = record { p = new_provider s instance; client = t; group = g; takes_part = false; opened = None }
+    x = record { provider = new_provider s instance; client = t; group = g; takes_part = false; opened = None }
 
-    by : (p : ProviderId) (y : Provider) → y.p ≡ p → Has y s.providers ⊎ Has y (x ∷ []) → IsLive s p ⊎ (s.last_request < p.join)
+    by : (p : ProviderId) (y : Provider) → y.provider ≡ p → Has y s.providers ⊎ Has y (x ∷ []) → IsLive s p ⊎ (s.last_request < p.join)
     by p y e (inl i) = inl (y, i, e)
-    by p y e (inr (inl q)) = inr (let z : p.join ≡ s.last_request + 1 = ap (λ (a : ProviderId). a.join) (sym e) ∙ ap (λ (a : Provider). a.p.join) q in omega (arith, z))
+    by p y e (inr (inl q)) = inr (let z : p.join ≡ s.last_request + 1 = ap (λ (a : ProviderId). a.join) (sym e) ∙ ap (λ (a : Provider). a.provider.join) q in omega (arith, z))
     by p y e (inr (inr z)) = absurd z
 
 comes_enters : (s : Core) (i : Install) → Comes s.sessions (entering s i).sessions

@@ -39,7 +39,7 @@ Unused w p = (w.incs p.node < p.inc) ⊎ Late p (w.incs p.node) (w.cores p.node)
 pub record Kept (h : History) (s : Core) : Type 0 where
   pub owners : Owned (λ p. client_of p h) s.sessions
   pub apart : Apart s.sessions.sessions
-  pub unlet : (x : Provider) → Has x s.sessions.providers → was_let_go x.p h ≡ false
+  pub unlet : (x : Provider) → Has x s.sessions.providers → was_let_go x.provider h ≡ false
 
 abbrev pub KeptIf : History → Option Core → Type 0
 KeptIf h = IfUp (Kept h)
@@ -50,10 +50,10 @@ pub record Clean (w : Scene) : Type 0 where
   pub law : EachRecord NotLetGo w.before
 
 -- an event by which the node does not change
-pub kept_on : (h : History) (s : Core) (o : Option Event) (rs : List Happened) → ((x : Provider) → Has x s.sessions.providers → list_any (asks_join x.p) rs ≡ false) → ((x : Provider) → Has x s.sessions.providers → was_let_go x.p (record { event = o; records = rs } ∷ h) ≡ false) → Kept h s → Kept (record { event = o; records = rs } ∷ h) s
+pub kept_on : (h : History) (s : Core) (o : Option Event) (rs : List Happened) → ((x : Provider) → Has x s.sessions.providers → list_any (asks_join x.provider) rs ≡ false) → ((x : Provider) → Has x s.sessions.providers → was_let_go x.provider (record { event = o; records = rs } ∷ h) ≡ false) → Kept h s → Kept (record { event = o; records = rs } ∷ h) s
 kept_on h s o rs unasked unlet k =
     record {
-      owners = owned_slim (λ p. client_of p h) (λ p. client_of p (record { event = o; records = rs } ∷ h)) s.sessions s.sessions (λ x i. client_on x.p o rs h (unasked x i)) (slim_same s.sessions s.sessions refl refl refl) k.owners;
+      owners = owned_slim (λ p. client_of p h) (λ p. client_of p (record { event = o; records = rs } ∷ h)) s.sessions s.sessions (λ x i. client_on x.provider o rs h (unasked x i)) (slim_same s.sessions s.sessions refl refl refl) k.owners;
       apart = k.apart;
       unlet = unlet;
     }

@@ -123,9 +123,9 @@ module _ (c : Config) (w : Scene) (e : Happening) (t : Scene) (o : Outer recount
 
   stay_kept : (m : ℕ) (d : Core) → AllElsewhere m e.records → w.cores m ≡ Some d → Kept w.before d → Kept (e ∷ w.before) d
   stay_kept m d all up k =
-      kept_on w.before d e.event e.records (λ x i. any_none _ e.records (λ r j. unasked_join r (idle_asks r (o.idle r j)) x.p)) (λ x i. spared_in x.p e w.before (here_ends m x.p all (mine x i)) (λ v q j g is node named. gone (o.told v q j (call.Goodbye g) is) (node ∙ mine x i)) (k.unlet x i)) k
+      kept_on w.before d e.event e.records (λ x i. any_none _ e.records (λ r j. unasked_join r (idle_asks r (o.idle r j)) x.provider)) (λ x i. spared_in x.provider e w.before (here_ends m x.provider all (mine x i)) (λ v q j g is node named. gone (o.told v q j (call.Goodbye g) is) (node ∙ mine x i)) (k.unlet x i)) k
     where
-      mine : (x : Provider) → Has x d.sessions.providers → x.p.node ≡ m
+      mine : (x : Provider) → Has x d.sessions.providers → x.provider.node ≡ m
       mine x i =
           ((subst (NodeIsIf w.config (reached_rests c w reached_w []).ghost [] m (w.incs m)) up ((reached_rests c w reached_w []).nodes m)).0.owes.providers x i).0
 
@@ -163,7 +163,7 @@ clean c w r = clean_of w (ran_holds recounting c cleanly (leaving c) w r)
 pub who_is_let_go : WhoIsLetGoHearsNothing
 who_is_let_go c w k = (clean c w (recounted_ran c w k)).law
 
-pub stay_in : (c : Config) (w : Scene) → Ran recounting c w → (n : ℕ) (s : Core) → w.cores n ≡ Some s → (x : Provider) → Has x s.sessions.providers → was_let_go x.p w.before ≡ false
+pub stay_in : (c : Config) (w : Scene) → Ran recounting c w → (n : ℕ) (s : Core) → w.cores n ≡ Some s → (x : Provider) → Has x s.sessions.providers → was_let_go x.provider w.before ≡ false
 stay_in c w r n s up x i =
     let z : Kept w.before s = subst (KeptIf w.before) up ((clean c w r).nodes n) in z.unlet x i
 

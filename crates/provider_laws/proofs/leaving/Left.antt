@@ -49,10 +49,10 @@ pub told_kept : (s : SessionState) (p : ProviderId) (r : ℕ) (y : Why) → ((ta
 unfolding take_telling told_of without_providers
 told_kept s p r y = by (takes_telling s p r y) (is_join_request (outstanding s p) || is_dissolved y)
   where
-    fewer : (q : Request) → Has q (filter (λ (q : Request). not (among (p ∷ []) q.p)) s.requests) → Has q s.requests
-    fewer q i = (has_filter (λ (q : Request). not (among (p ∷ []) q.p)) q s.requests i).0
+    fewer : (q : Request) → Has q (filter (λ (q : Request). not (among (p ∷ []) q.provider)) s.requests) → Has q s.requests
+    fewer q i = (has_filter (λ (q : Request). not (among (p ∷ []) q.provider)) q s.requests i).0
 
-    by : (a b : Bool) → ((if a then (if b then without_providers s (p ∷ []) else record s { requests = filter (λ (q : Request). not (among (p ∷ []) q.p)) s.requests }) else s).last_request ≡ s.last_request) × ((q : Request) → Has q (if a then (if b then without_providers s (p ∷ []) else record s { requests = filter (λ (q : Request). not (among (p ∷ []) q.p)) s.requests }) else s).requests → Has q s.requests)
+    by : (a b : Bool) → ((if a then (if b then without_providers s (p ∷ []) else record s { requests = filter (λ (q : Request). not (among (p ∷ []) q.provider)) s.requests }) else s).last_request ≡ s.last_request) × ((q : Request) → Has q (if a then (if b then without_providers s (p ∷ []) else record s { requests = filter (λ (q : Request). not (among (p ∷ []) q.provider)) s.requests }) else s).requests → Has q s.requests)
     by false b = (refl, λ q i. i)
     by true true = (refl, fewer)
     by true false = (refl, fewer)
@@ -65,16 +65,16 @@ gone_told : (s : SessionState) (p : ProviderId) (r : ℕ) (y : Why) → is_disso
 unfolding take_telling told_of takes_telling without_providers provider_of
 gone_told s p r y d live = by (find (is_provider p) s.providers) refl (is_numbered r (outstanding s p)) (is_join_request (outstanding s p)) (is_dissolved y) d live
   where
-    dropped : (x : Provider) → Has x (filter (λ (x : Provider). not (among (p ∷ []) x.p)) s.providers) → x.p ≡ p → ⊥
+    dropped : (x : Provider) → Has x (filter (λ (x : Provider). not (among (p ∷ []) x.provider)) s.providers) → x.provider ≡ p → ⊥
     dropped x i e =
-        let k = (has_filter (λ (x : Provider). not (among (p ∷ []) x.p)) x s.providers i).1 in
-        let a : not (among (p ∷ []) x.p) ≡ false = ap (λ z. not (among (p ∷ []) z)) e ∙ ap (λ b. not (b || false)) (provider_self p) in cc
+        let k = (has_filter (λ (x : Provider). not (among (p ∷ []) x.provider)) x s.providers i).1 in
+        let a : not (among (p ∷ []) x.provider) ≡ false = ap (λ z. not (among (p ∷ []) z)) e ∙ ap (λ b. not (b || false)) (provider_self p) in cc
 
-    lacks : (x : Provider) → Has x s.providers → x.p ≡ p → find (is_provider p) s.providers ≡ None → ⊥
+    lacks : (x : Provider) → Has x s.providers → x.provider ≡ p → find (is_provider p) s.providers ≡ None → ⊥
     lacks x i e none =
         find_none (is_provider p) s.providers x (ap is_none none) i (ap (λ z. same_provider z p) e ∙ provider_self p)
 
-    by : (o : Option Provider) → find (is_provider p) s.providers ≡ o → (a b c : Bool) → c ≡ true → IsLive (if is_some o && (a || c) then (if b || c then without_providers s (p ∷ []) else record s { requests = filter (λ (q : Request). not (among (p ∷ []) q.p)) s.requests }) else s) p → ⊥
+    by : (o : Option Provider) → find (is_provider p) s.providers ≡ o → (a b c : Bool) → c ≡ true → IsLive (if is_some o && (a || c) then (if b || c then without_providers s (p ∷ []) else record s { requests = filter (λ (q : Request). not (among (p ∷ []) q.provider)) s.requests }) else s) p → ⊥
     by None f a b c t k = lacks k.0 k.1 k.2 f
     by (Some x) f true true true t k = dropped k.0 k.1 k.2
     by (Some x) f true false true t k = dropped k.0 k.1 k.2
@@ -89,24 +89,24 @@ live_slim s t p a k = let z = a.provs k.0 k.1 in (z.0, z.1, z.2 ∙ k.2)
 
 -- it asked for what is told of, or is a provider of the node
 abbrev pub Known : SessionState → ProviderId → Type 0
-Known t p = ((q : Request) × Has q t.requests × (q.p ≡ p)) ⊎ IsLive t p
+Known t p = ((q : Request) × Has q t.requests × (q.provider ≡ p)) ⊎ IsLive t p
 
 -- who has something outstanding asked for it
-asked_known : (t : SessionState) (p : ProviderId) (r : ℕ) → is_numbered r (outstanding t p) ≡ true → (q : Request) × Has q t.requests × (q.p ≡ p)
+asked_known : (t : SessionState) (p : ProviderId) (r : ℕ) → is_numbered r (outstanding t p) ≡ true → (q : Request) × Has q t.requests × (q.provider ≡ p)
 unfolding outstanding
 asked_known t p r e = by (find (is_asked_by p) t.requests) refl e
   where
-    by : (o : Option Request) → find (is_asked_by p) t.requests ≡ o → is_numbered r o ≡ true → (q : Request) × Has q t.requests × (q.p ≡ p)
+    by : (o : Option Request) → find (is_asked_by p) t.requests ≡ o → is_numbered r o ≡ true → (q : Request) × Has q t.requests × (q.provider ≡ p)
     by None f n = absurd (cc)
-    by (Some q) f n = let h = find_has (is_asked_by p) t.requests q f in (q, h.0, provider_same q.p p h.1)
+    by (Some q) f n = let h = find_has (is_asked_by p) t.requests q f in (q, h.0, provider_same q.provider p h.1)
 
-found_live : (t : SessionState) (p : ProviderId) (x : Provider) → provider_of t p ≡ Some x → IsLive t x.p
+found_live : (t : SessionState) (p : ProviderId) (x : Provider) → provider_of t p ≡ Some x → IsLive t x.provider
 unfolding provider_of
 found_live t p x e = (x, (find_has (is_provider p) t.providers x e).0, refl)
 
-heard_live : (t : SessionState) (g : List ℕ) (before after : GroupState) (e : Entry) (bs : List (Option Filled)) (c : Cast) → Has c (casts_out t g before after e bs) → IsLive t c.p
+heard_live : (t : SessionState) (g : List ℕ) (before after : GroupState) (e : Entry) (bs : List (Option Filled)) (c : Cast) → Has c (casts_out t g before after e bs) → IsLive t c.provider
 unfolding casts_out
-heard_live t g before after e bs c h = hearer_has t g before e c.p (cast_has e after t.level (hearers t g before e) bs c h)
+heard_live t g before after e bs c h = hearer_has t g before e c.provider (cast_has e after t.level (hearers t g before e) bs c h)
 
 -- ---- records
 
@@ -192,7 +192,7 @@ module _ (root : Core) where
       record {
         sends = λ s network to b spoken k. same s (send_on s network to b) refl refl k;
         puts = λ s g e ok k. pushed (with_row s g _) (happened.Put s.views.me s.views.view g (len_of s g) e) tt tt (same s (with_row s g _) refl refl k);
-        hears = λ s g before after e bs c i h k. pushed s (happened.Heard c.p s.views.view g i e after.members after.value) tt (live_slim root.sessions s.sessions c.p k.slim.sessions (heard_live s.sessions g before after e bs c h)) k;
+        hears = λ s g before after e bs c i h k. pushed s (happened.Heard c.provider s.views.view g i e after.members after.value) tt (live_slim root.sessions s.sessions c.provider k.slim.sessions (heard_live s.sessions g before after e bs c h)) k;
         casts = λ s p proto phase vote value message k. pushed s (happened.Cast p proto phase vote value message) tt tt k;
         handed = handed;
       }
@@ -242,7 +242,7 @@ module _ (root : Core) where
       record {
         views = λ s v k. same s (record s { views = (viewing s v).views }) refl refl k;
         enters = λ s i k. on_enters (Left root) entering_pushed s i (entered s i k);
-        dissolves = λ s q x e k. told s x.p (number_of (outstanding s.sessions x.p)) Dissolved (inr (found_live s.sessions q x e)) k;
+        dissolves = λ s q x e k. told s x.provider (number_of (outstanding s.sessions x.provider)) Dissolved (inr (found_live s.sessions q x e)) k;
       }
 
 -- after the call of a step, or before any other step, providers only leave

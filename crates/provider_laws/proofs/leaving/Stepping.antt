@@ -154,38 +154,38 @@ module _ (c : Config) (w : Scene) (n : ℕ) (f : Answering) (s : Core) (e : Node
 
   owners : Owned (λ p. client_of p (over v t ∷ w.before)) t.sessions
   owners =
-      owned_slim (λ p. if list_any (asks_join p) (reverse root.records) then joining_client (Some v) else client_of p w.before) (λ p. client_of p (over v t ∷ w.before)) root.sessions t.sessions (λ x i. ap (λ b. if b then joining_client (Some v) else client_of x.p w.before) (left.slim.asks x.p)) left.slim.sessions (rooted e says)
+      owned_slim (λ p. if list_any (asks_join p) (reverse root.records) then joining_client (Some v) else client_of p w.before) (λ p. client_of p (over v t ∷ w.before)) root.sessions t.sessions (λ x i. ap (λ b. if b then joining_client (Some v) else client_of x.provider w.before) (left.slim.asks x.provider)) left.slim.sessions (rooted e says)
 
   -- a goodbye that is taken leaves nobody of its client
-  no_goodbye : (x : Provider) → Has x t.sessions.providers → (m : ℕ) (d : List ℕ) → v ≡ event.Call m (call.Goodbye d) → is_named d (client_of x.p w.before) ≡ true → list_any is_refused (reverse t.records) ≡ false → ⊥
+  no_goodbye : (x : Provider) → Has x t.sessions.providers → (m : ℕ) (d : List ℕ) → v ≡ event.Call m (call.Goodbye d) → is_named d (client_of x.provider w.before) ≡ true → list_any is_refused (reverse t.records) ≡ false → ⊥
   no_goodbye x i m d q named taken = by (subst (λ z. ((f : GsFault) × Has (happened.Refused s.views.me d f) (root_of (at_work s) z).records) ⊎ ((y : Session) → Has y (root_of (at_work s) z).sessions.sessions → y.name ≡ d → ⊥)) (sym (is m (call.Goodbye d) q).1) (goodbye_ends (λ p. client_of p w.before) (at_work s) d begun were.owners))
     where
-      o : (y : Session) × Has y t.sessions.sessions × (y.token.n ≡ x.client.n) × (client_of x.p (over v t ∷ w.before) ≡ Some y.name)
+      o : (y : Session) × Has y t.sessions.sessions × (y.token.number ≡ x.client.number) × (client_of x.provider (over v t ∷ w.before) ≡ Some y.name)
       o = owners.owner x i
 
-      name : (b : Bool) → (if b then joining_client (Some v) else client_of x.p w.before) ≡ Some (o.0).name → (o.0).name ≡ d
+      name : (b : Bool) → (if b then joining_client (Some v) else client_of x.provider w.before) ≡ Some (o.0).name → (o.0).name ≡ d
       name true z = absurd (let y : None ≡ Some (o.0).name = sym (ap (λ u. joining_client (Some u)) q) ∙ z in cc)
       name false z = sym (text_same d (o.0).name (ap (is_named d) (sym z) ∙ named))
 
       by : ((f : GsFault) × Has (happened.Refused s.views.me d f) root.records) ⊎ ((y : Session) → Has y root.sessions.sessions → y.name ≡ d → ⊥) → ⊥
       by (inl r) = let z : false ≡ true = sym taken ∙ has_any is_refused (reverse t.records) (happened.Refused s.views.me d r.0) (reverse_has (happened.Refused s.views.me d r.0) t.records (left.grown (happened.Refused s.views.me d r.0) r.1)) refl in cc
-      by (inr un) = un o.0 (subst (Has o.0) left.slim.sessions.names o.1) (name (list_any (asks_join x.p) (reverse t.records)) o.3)
+      by (inr un) = un o.0 (subst (Has o.0) left.slim.sessions.names o.1) (name (list_any (asks_join x.provider) (reverse t.records)) o.3)
 
   own : Kept (over v t ∷ w.before) t
   own =
       record {
         owners = owners;
         apart = subst Apart (sym left.slim.sessions.names) fit.apart;
-        unlet = λ x i. spared x.p v (reverse t.records) w.before (spares x.p (inc_now x.p.node (records_of w.before)) (λ z. (x, i, refl))) (λ m d q at named taken. no_goodbye x i m d q named taken) (unlet_live x.p (live_slim root.sessions t.sessions x.p left.slim.sessions (x, i, refl)));
+        unlet = λ x i. spared x.provider v (reverse t.records) w.before (spares x.provider (inc_now x.provider.node (records_of w.before)) (λ z. (x, i, refl))) (λ m d q at named taken. no_goodbye x i m d q named taken) (unlet_live x.provider (live_slim root.sessions t.sessions x.provider left.slim.sessions (x, i, refl)));
       }
 
   others : (m : ℕ) → m ≢ n → (o : Option Core) → NodeIsIf w.config (rests []).ghost [] m (w.incs m) o → KeptIf w.before o → KeptIf (over v t ∷ w.before) o
   others m ne None z kept = tt
   others m ne (Some d) z kept =
-      kept_on w.before d (Some v) (reverse t.records) (λ x i. none_asks x.p (λ a. away x i a)) (λ x i. spared x.p v (reverse t.records) w.before (spares x.p (inc_now x.p.node (records_of w.before)) (λ a. absurd (away x i a))) (λ j g q at named taken. ne (sym (z.0.owes.providers x i).0 ∙ sym at ∙ (is j (call.Goodbye g) q).0)) (kept.unlet x i)) kept
+      kept_on w.before d (Some v) (reverse t.records) (λ x i. none_asks x.provider (λ a. away x i a)) (λ x i. spared x.provider v (reverse t.records) w.before (spares x.provider (inc_now x.provider.node (records_of w.before)) (λ a. absurd (away x i a))) (λ j g q at named taken. ne (sym (z.0.owes.providers x i).0 ∙ sym at ∙ (is j (call.Goodbye g) q).0)) (kept.unlet x i)) kept
     where
-      away : (x : Provider) → Has x d.sessions.providers → Known root.sessions x.p → ⊥
-      away x i a = ne (sym (z.0.owes.providers x i).0 ∙ (known x.p a).0)
+      away : (x : Provider) → Has x d.sessions.providers → Known root.sessions x.provider → ⊥
+      away x i a = ne (sym (z.0.owes.providers x i).0 ∙ (known x.provider a).0)
 
   -- whoever is to come was to come
   was_unused : (p : ProviderId) → Unused (ended w n v t) p → Unused w p

@@ -36,7 +36,7 @@ parts_sent s u (Some n) b k = record { groups = k.groups; views = k.views; confi
 parts_gone : (s u : Core) (ended : List Provider) → Parts s u → Parts s (fold send_gone u ended)
 unfolding send_gone
 parts_gone s u [] k = k
-parts_gone s u (x ∷ xs) k = parts_gone s (send_gone u x) xs (parts_sent s u (leader_of u x.group) (body.Gone u.views.view x.group x.p) k)
+parts_gone s u (x ∷ xs) k = parts_gone s (send_gone u x) xs (parts_sent s u (leader_of u x.group) (body.Gone u.views.view x.group x.provider) k)
 
 parts_all : (s u : Core) (ended : List Provider) → Parts s u → Parts s (send_all_gone u ended)
 unfolding send_all_gone

@@ -102,7 +102,7 @@ module _ (s : Core) where
       record {
         sends = λ a network to b spoken k. onward_alike a (send_on a network to b) refl refl refl k;
         puts = λ a g e ok k. onward_alike (with_row a g _) (put a g e) refl refl refl (onward_row a g _ ok (put_grows a.views.view e) k);
-        hears = λ a g before after e bs x i h k. onward_alike a (recorded a (happened.Heard x.p a.views.view g i e after.members after.value)) refl refl refl k;
+        hears = λ a g before after e bs x i h k. onward_alike a (recorded a (happened.Heard x.provider a.views.view g i e after.members after.value)) refl refl refl k;
         casts = λ a p proto phase vote value message k. onward_alike a (recorded a (happened.Cast p proto phase vote value message)) refl refl refl k;
         handed = λ a g before after e bs k. onward_alike a (with_sessions a (handed_on a.sessions g before after e bs)) refl refl refl k;
       }

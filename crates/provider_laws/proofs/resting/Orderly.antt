@@ -120,7 +120,7 @@ on_joining {s} g q r a idle room p =
     on_row_at {s = t} g (λ row. record row { led = change row.led }) (λ x. refl) (subst (λ (z : GroupRow). Few (change z.led).waiting) (sym here) (added (led_of s g).waiting room (row_few s g p.few))) (added nothing_led.waiting (omega arith) nothing_few) held
   where
     decide : Led → Led
-    decide l = record l { decided = decisions_with (record { p = q; r = r; why = None }) l.decided }
+    decide l = record l { decided = decisions_with (record { provider = q; request = r; why = None }) l.decided }
 
     change : Led → Led
     change l = record l { waiting = waits_join q l.waiting; join_attrs = keep_attrs l.join_attrs q a idle }

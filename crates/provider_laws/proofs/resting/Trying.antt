@@ -128,7 +128,7 @@ pub record Held (g : List ℕ) (s t : Core) : Type 0 where
 held_refused : (s : Core) (g : List ℕ) (p : ProviderId) (r : ℕ) (y : Why) → Orderly s → IsNamed s g → Held g s (refused s g p r y)
 unfolding refused keep_decision sent send_on row_of led_of
 held_refused s g p r y k named =
-    let decide : Led → Led = λ l. record l { decided = decisions_with (record { p = p; r = r; why = Some y }) l.decided } in
+    let decide : Led → Led = λ l. record l { decided = decisions_with (record { provider = p; request = r; why = Some y }) l.decided } in
     let t : Core = keep_decision s g p r (Some y) in
     let a : Still g s t = still_led s g decide (λ l w. w) k named in
     record {
@@ -250,7 +250,7 @@ failures_try (suc n) f s g k named few = by (is_empty out) refl (failures_try n 
     b = batches_failures (state_of s g).attrs.batch
 
     out : List Failure
-    out = filter (λ (x : Failure). among (state_of s g).members x.p) (next_failures (state_of s g).attrs.batch w)
+    out = filter (λ (x : Failure). among (state_of s g).members x.provider) (next_failures (state_of s g).attrs.batch w)
 
     t : Core
     t = with_waiting s g (failures_left (state_of s g).attrs.batch)
@@ -271,4 +271,4 @@ failures_try (suc n) f s g k named few = by (is_empty out) refl (failures_try n 
     by true e (Ends q o) = Ends q (after_still g s t (failures_begin n f t g) a not_more o)
     by true e (Nothing z q none less) = Nothing (still_then g s t (failures_begin n f t g).core a z) q none (omega (arith, less, not_more))
     by false e rest =
-        Ends refl (begins_try f s t g (Fail out) (state_of s g).attrs.phases named a (subst (λ (z : WaitingView). length z.failures + length z.joins < count s g) (sym now) (let y = left_less (λ (x : Failure). among (state_of s g).members x.p) b w.failures e in omega (arith, y))))
+        Ends refl (begins_try f s t g (Fail out) (state_of s g).attrs.phases named a (subst (λ (z : WaitingView). length z.failures + length z.joins < count s g) (sym now) (let y = left_less (λ (x : Failure). among (state_of s g).members x.provider) b w.failures e in omega (arith, y))))

@@ -27,7 +27,7 @@ parts =
     record {
       sends = λ s network to b spoken k. alike s (send_on s network to b) refl k;
       puts = λ s g e ok k. alike (with_row s g _) (put s g e) refl (on_row g _ (λ x. refl, λ x w. w) k);
-      hears = λ s g before after e bs x i h k. alike s (recorded s (happened.Heard x.p s.views.view g i e after.members after.value)) refl k;
+      hears = λ s g before after e bs x i h k. alike s (recorded s (happened.Heard x.provider s.views.view g i e after.members after.value)) refl k;
       casts = λ s p proto phase vote value message k. alike s (recorded s (happened.Cast p proto phase vote value message)) refl k;
       handed = λ s g before after e bs k. alike s (with_sessions s (handed_on s.sessions g before after e bs)) refl k;
     }
@@ -65,7 +65,7 @@ views =
     record {
       views = λ s v k. alike s (record s { views = (viewing s v).views }) refl k;
       enters = λ s i k. based i (view_entered s i (bases_of i)) refl;
-      dissolves = λ s q x e k. alike s (dissolved s x.p (number_of (outstanding s.sessions x.p))) refl k;
+      dissolves = λ s q x e k. alike s (dissolved s x.provider (number_of (outstanding s.sessions x.provider))) refl k;
     }
 
 calls : KeepsCalls Orderly

@@ -97,12 +97,12 @@ all_voiced v h i e st [] r k = absurd k
 all_voiced v h i e st (c ∷ cs) r k =
     ⊎_elim (λ (a : Has r (heard_at v h i e st c)). one c.cast a) (λ (a : Has r (flat_map (heard_at v h i e st) cs)). all_voiced v h i e st cs r a) (has_append r (heard_at v h i e st c) (flat_map (heard_at v h i e st) cs) k)
   where
-    cast : (y : ProtoId × ℕ × BallotView) (b : Option Filled) → Has r (cast_record c.p y.0 y.1 b) → Voiced r
+    cast : (y : ProtoId × ℕ × BallotView) (b : Option Filled) → Has r (cast_record c.provider y.0 y.1 b) → Voiced r
     cast y None a = absurd a
     cast y (Some f) (inl q) = subst Voiced (sym q) tt
     cast y (Some f) (inr z) = absurd z
 
-    one : (o : Option (ProtoId × ℕ × BallotView)) → Has r (happened.Heard c.p v h i e st.members st.value ∷ cast_records c.p o) → Voiced r
+    one : (o : Option (ProtoId × ℕ × BallotView)) → Has r (happened.Heard c.provider v h i e st.members st.value ∷ cast_records c.provider o) → Voiced r
     one o (inl q) = subst Voiced (sym q) tt
     one None (inr a) = absurd a
     one (Some y) (inr a) = cast y (y.2).filled a
@@ -137,7 +137,7 @@ quiet_adds _ _ (Hands s c g x bs o same) e r h =
 quiet_adds _ _ (Loses s t f) e r h = inl h
 quiet_adds _ _ (Joins s t g instance attrs none) e r h = inl h
 quiet_adds _ _ (Votes s x o b found opened unkept) e r h =
-    let q : Happened = happened.Cast x.p o.proto o.phase b.vote b.value b.message in
+    let q : Happened = happened.Cast x.provider o.proto o.phase b.vote b.value b.message in
     ⊎_elim (λ (k : Has r s.records). inl k) (λ (k : r ≡ q). inr (subst (Own s.views.view) (sym k) tt)) (last_more r q s.records h)
 quiet_adds _ _ (Enters s i lt none) e r h = absurd (no_entering s i lt e)
 

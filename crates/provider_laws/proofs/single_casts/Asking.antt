@@ -134,51 +134,51 @@ module _ (v : ViewId) (h : List ℕ) (i : ℕ) (e : Entry) (st : GroupState) (be
   joined : (c : Cast) (cs : List Cast) (now : List Happened) → pushed (all (c ∷ cs)) now ≡ pushed (all cs) (pushed (one c) now)
   joined c cs now = pushed_append (one c) (all cs) now
 
-  pub run_other : (cs : List Cast) (p : ProviderId) (now : List Happened) → ((c : Cast) → Has c cs → c.p ≡ p → ⊥) → due p (pushed (all cs) now) ≡ due p now
+  pub run_other : (cs : List Cast) (p : ProviderId) (now : List Happened) → ((c : Cast) → Has c cs → c.provider ≡ p → ⊥) → due p (pushed (all cs) now) ≡ due p now
   run_other [] p now ne = refl
   run_other (c ∷ cs) p now ne =
-      ap (due p) (joined c cs now) ∙ run_other cs p (pushed (one c) now) (λ d k. ne d (inr k)) ∙ one_other c.p p c.cast now (ne c (inl refl))
+      ap (due p) (joined c cs now) ∙ run_other cs p (pushed (one c) now) (λ d k. ne d (inr k)) ∙ one_other c.provider p c.cast now (ne c (inl refl))
 
   pub run_late : (cs : List Cast) (p : ProviderId) (now : List Happened) → is_late e ≡ true → ((c : Cast) → Has c cs → c.cast ≡ None) → due p (pushed (all cs) now) ≡ due p now
   unfolding cast_records
   run_late [] p now late none = refl
   run_late (c ∷ cs) p now late none =
-      ap (due p) (joined c cs now) ∙ run_late cs p (pushed (one c) now) late (λ d k. none d (inr k)) ∙ ap (λ o. due p (pushed (notice c.p ∷ cast_records c.p o) now)) (none c (inl refl)) ∙ one_late c.p p now late
+      ap (due p) (joined c cs now) ∙ run_late cs p (pushed (one c) now) late (λ d k. none d (inr k)) ∙ ap (λ o. due p (pushed (notice c.provider ∷ cast_records c.provider o) now)) (none c (inl refl)) ∙ one_late c.provider p now late
 
   -- one of them cast
   pub record CastIn (cs : List Cast) (p : ProviderId) : Type 0 where
     pub cast : Cast
     pub there : Has cast cs
-    pub by : cast.p ≡ p
+    pub by : cast.provider ≡ p
     pub given : ProtoId × ℕ × BallotView
     pub is : cast.cast ≡ Some given
 
-  pub run_own : (cs : List Cast) (p : ProviderId) (now : List Happened) → opens_phase e ≡ true → (due p (pushed (all cs) now) ≡ true) ⊎ (CastIn cs p ⊎ ((due p (pushed (all cs) now) ≡ due p now) × ((c : Cast) → Has c cs → c.p ≡ p → ⊥)))
+  pub run_own : (cs : List Cast) (p : ProviderId) (now : List Happened) → opens_phase e ≡ true → (due p (pushed (all cs) now) ≡ true) ⊎ (CastIn cs p ⊎ ((due p (pushed (all cs) now) ≡ due p now) × ((c : Cast) → Has c cs → c.provider ≡ p → ⊥)))
   run_own [] p now opens = inr (inr (refl, λ c k q. k))
   run_own (c ∷ cs) p now opens = by (run_own cs p (pushed (one c) now) opens)
     where
-      own : (b : Bool) → same_provider c.p p ≡ b → due p (pushed (all cs) (pushed (one c) now)) ≡ due p (pushed (one c) now) → ((d : Cast) → Has d cs → d.p ≡ p → ⊥) → (due p (pushed (all (c ∷ cs)) now) ≡ true) ⊎ (CastIn (c ∷ cs) p ⊎ ((due p (pushed (all (c ∷ cs)) now) ≡ due p now) × ((d : Cast) → Has d (c ∷ cs) → d.p ≡ p → ⊥)))
+      own : (b : Bool) → same_provider c.provider p ≡ b → due p (pushed (all cs) (pushed (one c) now)) ≡ due p (pushed (one c) now) → ((d : Cast) → Has d cs → d.provider ≡ p → ⊥) → (due p (pushed (all (c ∷ cs)) now) ≡ true) ⊎ (CastIn (c ∷ cs) p ⊎ ((due p (pushed (all (c ∷ cs)) now) ≡ due p now) × ((d : Cast) → Has d (c ∷ cs) → d.provider ≡ p → ⊥)))
       own true k q none =
-          let at : c.p ≡ p = provider_same c.p p k in
-          ⊎_elim (λ (z : due c.p (pushed (one c) now) ≡ true). inl (ap (due p) (joined c cs now) ∙ q ∙ subst (λ m. due m (pushed (one c) now) ≡ true) at z)) (λ (z : (y : ProtoId × ℕ × BallotView) × (c.cast ≡ Some y)). inr (inl (record { cast = c; there = inl refl; by = at; given = z.0; is = z.1 }))) (one_own c.p c.cast now opens)
-      own false k q none = inr (inr (ap (due p) (joined c cs now) ∙ q ∙ one_other c.p p c.cast now ne, others))
+          let at : c.provider ≡ p = provider_same c.provider p k in
+          ⊎_elim (λ (z : due c.provider (pushed (one c) now) ≡ true). inl (ap (due p) (joined c cs now) ∙ q ∙ subst (λ m. due m (pushed (one c) now) ≡ true) at z)) (λ (z : (y : ProtoId × ℕ × BallotView) × (c.cast ≡ Some y)). inr (inl (record { cast = c; there = inl refl; by = at; given = z.0; is = z.1 }))) (one_own c.provider c.cast now opens)
+      own false k q none = inr (inr (ap (due p) (joined c cs now) ∙ q ∙ one_other c.provider p c.cast now ne, others))
         where
-          ne : c.p ≡ p → ⊥
-          ne z = let m : same_provider c.p p ≡ true = subst (λ m. same_provider c.p m ≡ true) z (provider_self c.p) in let u : true ≡ false = sym m ∙ k in absurd (cc)
+          ne : c.provider ≡ p → ⊥
+          ne z = let m : same_provider c.provider p ≡ true = subst (λ m. same_provider c.provider m ≡ true) z (provider_self c.provider) in let u : true ≡ false = sym m ∙ k in absurd (cc)
 
-          others : (d : Cast) → Has d (c ∷ cs) → d.p ≡ p → ⊥
-          others d (inl z) f = ne (ap (λ (m : Cast). m.p) (sym z) ∙ f)
+          others : (d : Cast) → Has d (c ∷ cs) → d.provider ≡ p → ⊥
+          others d (inl z) f = ne (ap (λ (m : Cast). m.provider) (sym z) ∙ f)
           others d (inr z) f = none d z f
 
-      by : (due p (pushed (all cs) (pushed (one c) now)) ≡ true) ⊎ (CastIn cs p ⊎ ((due p (pushed (all cs) (pushed (one c) now)) ≡ due p (pushed (one c) now)) × ((d : Cast) → Has d cs → d.p ≡ p → ⊥))) → (due p (pushed (all (c ∷ cs)) now) ≡ true) ⊎ (CastIn (c ∷ cs) p ⊎ ((due p (pushed (all (c ∷ cs)) now) ≡ due p now) × ((d : Cast) → Has d (c ∷ cs) → d.p ≡ p → ⊥)))
+      by : (due p (pushed (all cs) (pushed (one c) now)) ≡ true) ⊎ (CastIn cs p ⊎ ((due p (pushed (all cs) (pushed (one c) now)) ≡ due p (pushed (one c) now)) × ((d : Cast) → Has d cs → d.provider ≡ p → ⊥))) → (due p (pushed (all (c ∷ cs)) now) ≡ true) ⊎ (CastIn (c ∷ cs) p ⊎ ((due p (pushed (all (c ∷ cs)) now) ≡ due p now) × ((d : Cast) → Has d (c ∷ cs) → d.provider ≡ p → ⊥)))
       by (inl z) = inl (ap (due p) (joined c cs now) ∙ z)
       by (inr (inl z)) = inr (inl (record { cast = z.cast; there = inr z.there; by = z.by; given = z.given; is = z.is }))
-      by (inr (inr z)) = own (same_provider c.p p) refl z.0 z.1
+      by (inr (inr z)) = own (same_provider c.provider p) refl z.0 z.1
 
   pub run_law : (cs : List Cast) (now : List Happened) → ((c : Cast) → Has c cs → (y : ProtoId × ℕ × BallotView) → c.cast ≡ Some y → opens_phase e ≡ true) → Within Rightly now before → Within Rightly (pushed (all cs) now) before
   run_law [] now opens k = k
   run_law (c ∷ cs) now opens k =
-      subst (λ l. Within Rightly l before) (sym (joined c cs now)) (run_law cs (pushed (one c) now) (λ d z. opens d (inr z)) (one_law c.p c.cast now (opens c (inl refl)) k))
+      subst (λ l. Within Rightly l before) (sym (joined c cs now)) (run_law cs (pushed (one c) now) (λ d z. opens d (inr z)) (one_law c.provider c.cast now (opens c (inl refl)) k))
 
 -- ---- what is cast with a notice
 

@@ -44,7 +44,7 @@ use Rattle.provider_laws.proofs.attending.Staying.{found_joined}
 pub record Keeps (t : SessionState) (p : ProviderId) (o : OpenPhase) : Type 0 where
   pub ballot : KeptBallot
   pub there : Has ballot t.kept
-  pub of : ballot.p ≡ p
+  pub of : ballot.provider ≡ p
   pub proto : ballot.proto ≡ o.proto
   pub phase : ballot.phase ≡ o.phase
 
@@ -52,7 +52,7 @@ pub record Keeps (t : SessionState) (p : ProviderId) (o : OpenPhase) : Type 0 wh
 pub record BallotRecorded (rs : List Happened) (k : KeptBallot) : Type 0 where
   pub filled : Filled
   pub is : k.ballot.filled ≡ Some filled
-  pub there : Has (happened.Cast k.p k.proto k.phase filled.vote filled.value filled.message) rs
+  pub there : Has (happened.Cast k.provider k.proto k.phase filled.vote filled.value filled.message) rs
 
 pub recorded_later : (rs ts : List Happened) (k : KeptBallot) → ((r : Happened) → Has r rs → Has r ts) → BallotRecorded rs k → BallotRecorded ts k
 recorded_later rs ts k more b = record { filled = b.filled; is = b.is; there = more _ b.there }
@@ -62,13 +62,13 @@ pub record Casting (n : ℕ) (before : History) (t : SessionState) (now : List H
   pub others : (p : ProviderId) → p.node ≢ n → ballot_due p (earlier now before) ≡ ballot_due p (records_of before)
   pub ready : (p : ProviderId) (x : Provider) (o : OpenPhase) → provider_of t p ≡ Some x → x.opened ≡ Some o → (ballot_due p (earlier now before) ≡ true) ⊎ Keeps t p o
   pub taking : (p : ProviderId) (x : Provider) (o : OpenPhase) → provider_of t p ≡ Some x → x.opened ≡ Some o → x.takes_part ≡ true
-  pub group : (k : KeptBallot) (x : Provider) → Has k t.kept → provider_of t k.p ≡ Some x → k.group ≡ x.group
-  pub numbered : (k : KeptBallot) → Has k t.kept → k.p.join ≤ t.last_request
+  pub group : (k : KeptBallot) (x : Provider) → Has k t.kept → provider_of t k.provider ≡ Some x → k.group ≡ x.group
+  pub numbered : (k : KeptBallot) → Has k t.kept → k.provider.join ≤ t.last_request
   pub cast : (k : KeptBallot) → Has k t.kept → BallotRecorded (earlier now before) k
 
 -- ---- what is kept, found by a test
 
-pub any_kept : (p : ProviderId) (o : OpenPhase) (ks : List KeptBallot) (k : KeptBallot) → Has k ks → k.p ≡ p → k.proto ≡ o.proto → k.phase ≡ o.phase → list_any (is_kept_for p o.proto o.phase) ks ≡ true
+pub any_kept : (p : ProviderId) (o : OpenPhase) (ks : List KeptBallot) (k : KeptBallot) → Has k ks → k.provider ≡ p → k.proto ≡ o.proto → k.phase ≡ o.phase → list_any (is_kept_for p o.proto o.phase) ks ≡ true
 any_kept p o ks k h a b c = has_any (is_kept_for p o.proto o.phase) ks k h ((λ i. same_provider (a i) p && same_proto (b i) o.proto && c i == o.phase) ∙ same p o.proto o.phase)
   where
     same : (q : ProviderId) (r : ProtoId) (m : ℕ) → (same_provider q q && same_proto r r && m == m) ≡ true
@@ -98,7 +98,7 @@ module _ (n : ℕ) (before : History) where
         others = k.others;
         ready = λ p x o q z. ⊎_elim (λ (a : ballot_due p (earlier now before) ≡ true). inl a) (λ (a : Keeps t p o). inr (still p x o q a)) (k.ready p x o (f.providers p x q) z);
         taking = λ p x o q z. k.taking p x o (f.providers p x q) z;
-        group = λ b x h q. k.group b x (fewer_has t s f b h) (f.providers b.p x q);
+        group = λ b x h q. k.group b x (fewer_has t s f b h) (f.providers b.provider x q);
         numbered = λ b h. let a = k.numbered b (fewer_has t s f b h) in let c = f.last in omega arith;
         cast = λ b h. k.cast b (fewer_has t s f b h);
       }
@@ -113,24 +113,24 @@ module _ (n : ℕ) (before : History) where
       record {
         law = k.law;
         others = k.others;
-        ready = λ p x o q z. ⊎_elim (λ (a : find (is_provider p) t.providers ≡ Some x). ⊎_elim (λ (b : ballot_due p (earlier now before) ≡ true). inl b) (λ (b : Keeps t p o). inr (record { ballot = b.ballot; there = b.there; of = b.of; proto = b.proto; phase = b.phase })) (k.ready p x o a z)) (λ (a : (x ≡ y) × (p ≡ y.p)). absurd (let b : None ≡ Some o = ap (λ (m : Provider). m.opened) (sym a.0) ∙ z in cc)) (found_joined y p t.providers x q);
-        taking = λ p x o q z. ⊎_elim (λ (a : find (is_provider p) t.providers ≡ Some x). k.taking p x o a z) (λ (a : (x ≡ y) × (p ≡ y.p)). absurd (let b : None ≡ Some o = ap (λ (m : Provider). m.opened) (sym a.0) ∙ z in cc)) (found_joined y p t.providers x q);
-        group = λ b x there q. ⊎_elim (λ (a : find (is_provider b.p) t.providers ≡ Some x). k.group b x there a) (λ (a : (x ≡ y) × (b.p ≡ y.p)). absurd (let le = k.numbered b there in let z : b.p.join ≡ t.last_request + 1 = ap (λ (z : ProviderId). z.join) a.1 in omega arith)) (found_joined y b.p t.providers x q);
+        ready = λ p x o q z. ⊎_elim (λ (a : find (is_provider p) t.providers ≡ Some x). ⊎_elim (λ (b : ballot_due p (earlier now before) ≡ true). inl b) (λ (b : Keeps t p o). inr (record { ballot = b.ballot; there = b.there; of = b.of; proto = b.proto; phase = b.phase })) (k.ready p x o a z)) (λ (a : (x ≡ y) × (p ≡ y.provider)). absurd (let b : None ≡ Some o = ap (λ (m : Provider). m.opened) (sym a.0) ∙ z in cc)) (found_joined y p t.providers x q);
+        taking = λ p x o q z. ⊎_elim (λ (a : find (is_provider p) t.providers ≡ Some x). k.taking p x o a z) (λ (a : (x ≡ y) × (p ≡ y.provider)). absurd (let b : None ≡ Some o = ap (λ (m : Provider). m.opened) (sym a.0) ∙ z in cc)) (found_joined y p t.providers x q);
+        group = λ b x there q. ⊎_elim (λ (a : find (is_provider b.provider) t.providers ≡ Some x). k.group b x there a) (λ (a : (x ≡ y) × (b.provider ≡ y.provider)). absurd (let le = k.numbered b there in let z : b.provider.join ≡ t.last_request + 1 = ap (λ (z : ProviderId). z.join) a.1 in omega arith)) (found_joined y b.provider t.providers x q);
         numbered = λ b there. let le = k.numbered b there in omega arith;
         cast = k.cast;
       }
     where
       y : Provider
-      y = record { p = new_provider t instance; client = c; group = h; takes_part = false; opened = None }
+      y = record { provider = new_provider t instance; client = c; group = h; takes_part = false; opened = None }
 
   -- a vote by a call: whatever is not kept was due
-  pub casting_votes : (t : SessionState) (x : Provider) (o : OpenPhase) (f : Filled) (now : List Happened) → provider_of t x.p ≡ Some x → x.opened ≡ Some o → list_any (is_kept_for x.p o.proto o.phase) t.kept ≡ false → x.p.node ≡ n → x.p.join ≤ t.last_request → Casting n before t now → Casting n before (keeps t x o f) (happened.Cast x.p o.proto o.phase f.vote f.value f.message ∷ now)
+  pub casting_votes : (t : SessionState) (x : Provider) (o : OpenPhase) (f : Filled) (now : List Happened) → provider_of t x.provider ≡ Some x → x.opened ≡ Some o → list_any (is_kept_for x.provider o.proto o.phase) t.kept ≡ false → x.provider.node ≡ n → x.provider.join ≤ t.last_request → Casting n before t now → Casting n before (keeps t x o f) (happened.Cast x.provider o.proto o.phase f.vote f.value f.message ∷ now)
   unfolding provider_of
   casting_votes t x o f now found opened unkept node last k =
       record {
         law = (due, k.law);
-        others = λ p ne. cast_another p x.p o.proto o.phase f (earlier now before) (λ z. ne (ap (λ (m : ProviderId). m.node) (sym z) ∙ node)) ∙ k.others p ne;
-        ready = λ p y q a b. ready p y q a b (same_provider x.p p) refl;
+        others = λ p ne. cast_another p x.provider o.proto o.phase f (earlier now before) (λ z. ne (ap (λ (m : ProviderId). m.node) (sym z) ∙ node)) ∙ k.others p ne;
+        ready = λ p y q a b. ready p y q a b (same_provider x.provider p) refl;
         taking = k.taking;
         group = λ b y there q. ⊎_elim (λ (a : Has b t.kept). k.group b y a q) (λ (a : Has b (one ∷ [])). mine b y a q) (has_append b t.kept (one ∷ []) there);
         numbered = λ b there. ⊎_elim (λ (a : Has b t.kept). k.numbered b a) (λ (a : Has b (one ∷ [])). number b a) (has_append b t.kept (one ∷ []) there);
@@ -138,31 +138,31 @@ module _ (n : ℕ) (before : History) where
       }
     where
       one : KeptBallot
-      one = record { p = x.p; group = x.group; proto = o.proto; phase = o.phase; ballot = ballot_of t.level f }
+      one = record { provider = x.provider; group = x.group; proto = o.proto; phase = o.phase; ballot = ballot_of t.level f }
 
       told : Happened
-      told = happened.Cast x.p o.proto o.phase f.vote f.value f.message
+      told = happened.Cast x.provider o.proto o.phase f.vote f.value f.message
 
       recorded_one : (b : KeptBallot) → Has b (one ∷ []) → BallotRecorded (told ∷ earlier now before) b
       recorded_one b (inl z) = subst (BallotRecorded (told ∷ earlier now before)) (sym z) (record { filled = f; is = refl; there = inl refl })
       recorded_one b (inr z) = absurd z
 
-      due : ballot_due x.p (earlier now before) ≡ true
-      due = ⊎_elim (λ (a : ballot_due x.p (earlier now before) ≡ true). a) (λ (a : Keeps t x.p o). absurd (let z : true ≡ false = sym (any_kept x.p o t.kept a.ballot a.there a.of a.proto a.phase) ∙ unkept in cc)) (k.ready x.p x o found opened)
+      due : ballot_due x.provider (earlier now before) ≡ true
+      due = ⊎_elim (λ (a : ballot_due x.provider (earlier now before) ≡ true). a) (λ (a : Keeps t x.provider o). absurd (let z : true ≡ false = sym (any_kept x.provider o t.kept a.ballot a.there a.of a.proto a.phase) ∙ unkept in cc)) (k.ready x.provider x o found opened)
 
-      mine : (b : KeptBallot) (y : Provider) → Has b (one ∷ []) → find (is_provider b.p) t.providers ≡ Some y → b.group ≡ y.group
+      mine : (b : KeptBallot) (y : Provider) → Has b (one ∷ []) → find (is_provider b.provider) t.providers ≡ Some y → b.group ≡ y.group
       mine b y (inr z) q = absurd z
       mine b y (inl z) q =
-          let same : y ≡ x = some_is (sym q ∙ ap (λ (m : KeptBallot). find (is_provider m.p) t.providers) z ∙ found) in
+          let same : y ≡ x = some_is (sym q ∙ ap (λ (m : KeptBallot). find (is_provider m.provider) t.providers) z ∙ found) in
           ap (λ (m : KeptBallot). m.group) z ∙ ap (λ (m : Provider). m.group) (sym same)
 
-      number : (b : KeptBallot) → Has b (one ∷ []) → b.p.join ≤ t.last_request
-      number b (inl z) = subst (λ (m : KeptBallot). m.p.join ≤ t.last_request) (sym z) last
+      number : (b : KeptBallot) → Has b (one ∷ []) → b.provider.join ≤ t.last_request
+      number b (inl z) = subst (λ (m : KeptBallot). m.provider.join ≤ t.last_request) (sym z) last
       number b (inr z) = absurd z
 
-      ready : (p : ProviderId) (y : Provider) (q : OpenPhase) → find (is_provider p) t.providers ≡ Some y → y.opened ≡ Some q → (b : Bool) → same_provider x.p p ≡ b → (ballot_due p (happened.Cast x.p o.proto o.phase f.vote f.value f.message ∷ earlier now before) ≡ true) ⊎ Keeps (keeps t x o f) p q
+      ready : (p : ProviderId) (y : Provider) (q : OpenPhase) → find (is_provider p) t.providers ≡ Some y → y.opened ≡ Some q → (b : Bool) → same_provider x.provider p ≡ b → (ballot_due p (happened.Cast x.provider o.proto o.phase f.vote f.value f.message ∷ earlier now before) ≡ true) ⊎ Keeps (keeps t x o f) p q
       ready p y q a c true e =
-          let at : x.p ≡ p = provider_same x.p p e in
+          let at : x.provider ≡ p = provider_same x.provider p e in
           let same : y ≡ x = some_is (sym a ∙ ap (λ z. find (is_provider z) t.providers) (sym at) ∙ found) in
           let phase : q ≡ o = some_is (sym c ∙ ap (λ (m : Provider). m.opened) same ∙ opened) in
           inr (record { ballot = one; there = append_has_right one t.kept (one ∷ []) (inl refl); of = at; proto = ap (λ (m : OpenPhase). m.proto) (sym phase); phase = ap (λ (m : OpenPhase). m.phase) (sym phase) })
@@ -192,21 +192,21 @@ has_pushed r (x ∷ rs) now before (inl e) = has_later r rs (x ∷ now) before (
 has_pushed r (x ∷ rs) now before (inr h) = has_pushed r rs (x ∷ now) before h
 
 -- a ballot that came with a notice is recorded
-pub brought_recorded : (v : ViewId) (h : List ℕ) (i : ℕ) (e : Entry) (st : GroupState) (level : ℕ) (ps : List ProviderId) (bs : List (Option Filled)) (now : List Happened) (before : History) (b : KeptBallot) → Has b (flat_map (λ (c : Cast). kept_by h c.p c.cast) (casts_of e st level ps bs)) → BallotRecorded (earlier (pushed (flat_map (heard_at v h i e st) (casts_of e st level ps bs)) now) before) b
+pub brought_recorded : (v : ViewId) (h : List ℕ) (i : ℕ) (e : Entry) (st : GroupState) (level : ℕ) (ps : List ProviderId) (bs : List (Option Filled)) (now : List Happened) (before : History) (b : KeptBallot) → Has b (flat_map (λ (c : Cast). kept_by h c.provider c.cast) (casts_of e st level ps bs)) → BallotRecorded (earlier (pushed (flat_map (heard_at v h i e st) (casts_of e st level ps bs)) now) before) b
 unfolding cast_records cast_record
-brought_recorded v h i e st level ps bs now before b there = let f = flat_has (λ (c : Cast). kept_by h c.p c.cast) b (casts_of e st level ps bs) there in by f.0 f.1 (f.0).cast refl f.2
+brought_recorded v h i e st level ps bs now before b there = let f = flat_has (λ (c : Cast). kept_by h c.provider c.cast) b (casts_of e st level ps bs) there in by f.0 f.1 (f.0).cast refl f.2
   where
     rs : List Happened
     rs = flat_map (heard_at v h i e st) (casts_of e st level ps bs)
 
-    by : (c : Cast) → Has c (casts_of e st level ps bs) → (o : Option (ProtoId × ℕ × BallotView)) → c.cast ≡ o → Has b (kept_by h c.p o) → BallotRecorded (earlier (pushed rs now) before) b
+    by : (c : Cast) → Has c (casts_of e st level ps bs) → (o : Option (ProtoId × ℕ × BallotView)) → c.cast ≡ o → Has b (kept_by h c.provider o) → BallotRecorded (earlier (pushed rs now) before) b
     by c k None q z = absurd z
     by c k (Some y) q (inr z) = absurd z
     by c k (Some y) q (inl z) =
         let f = filled_with e st level ps bs c k y q in
-        let r : Happened = happened.Cast c.p y.0 y.1 (f.0).vote (f.0).value (f.0).message in
-        let said : Has r (cast_records c.p (Some y)) = subst (λ m. Has r (cast_record c.p y.0 y.1 m)) (sym f.1) (inl refl) in
-        let mine : Has r (heard_at v h i e st c) = inr (subst (λ m. Has r (cast_records c.p m)) (sym q) said) in
+        let r : Happened = happened.Cast c.provider y.0 y.1 (f.0).vote (f.0).value (f.0).message in
+        let said : Has r (cast_records c.provider (Some y)) = subst (λ m. Has r (cast_record c.provider y.0 y.1 m)) (sym f.1) (inl refl) in
+        let mine : Has r (heard_at v h i e st c) = inr (subst (λ m. Has r (cast_records c.provider m)) (sym q) said) in
         let all : Has r rs = has_flat (heard_at v h i e st) r c (casts_of e st level ps bs) k mine in
         subst (BallotRecorded (earlier (pushed rs now) before)) (sym z) (record { filled = f.0; is = f.1; there = has_pushed r rs now before all })
 
@@ -219,7 +219,7 @@ casting_handed n inc before v t now lens states at k h st e bs =
       ready = ready;
       taking = taking;
       group = group;
-      numbered = λ b there. ⊎_elim (λ (a : Has b t.kept). let le = k.numbered b a in let z = later.last in omega arith) (λ (a : Has b new). let c = cast_of b a in let f = hearer c.0 c.1 in let le = (at.own (c.0).p f.0 f.1).2 in let z = later.last in let same : b.p.join ≡ (c.0).p.join = ap (λ (m : ProviderId). m.join) c.2.1 in omega arith) (handed_from t h (states h) st e bs b there);
+      numbered = λ b there. ⊎_elim (λ (a : Has b t.kept). let le = k.numbered b a in let z = later.last in omega arith) (λ (a : Has b new). let c = cast_of b a in let f = hearer c.0 c.1 in let le = (at.own (c.0).provider f.0 f.1).2 in let z = later.last in let same : b.provider.join ≡ (c.0).provider.join = ap (λ (m : ProviderId). m.join) c.2.1 in omega arith) (handed_from t h (states h) st e bs b there);
       cast = λ b there. ⊎_elim (λ (a : Has b t.kept). recorded_later (earlier now before) (earlier last before) b (λ r i. has_later r (flat_map (heard_at v h (lens h) e st) cs) first before (inr i)) (k.cast b a)) (λ (a : Has b new). brought_recorded v h (lens h) e st t.level ps bs first before b a) (handed_from t h (states h) st e bs b there);
     }
   where
@@ -250,19 +250,19 @@ casting_handed n inc before v t now lens states at k h st e bs =
     phase : (c : Cast) → Has c cs → (y : ProtoId × ℕ × BallotView) → c.cast ≡ Some y → InPhase e st y
     phase c z y q = in_phase e st t.level ps bs c z y q
 
-    hearer : (c : Cast) → Has c cs → (x : Provider) × (provider_of t c.p ≡ Some x) × (x.group ≡ h) × ((x.takes_part ≡ true) ⊎ Has c.p (beginners t h e))
-    hearer c z = hearer_found t h (states h) e c.p (cast_has e st t.level ps bs c z)
+    hearer : (c : Cast) → Has c cs → (x : Provider) × (provider_of t c.provider ≡ Some x) × (x.group ≡ h) × ((x.takes_part ≡ true) ⊎ Has c.provider (beginners t h e))
+    hearer c z = hearer_found t h (states h) e c.provider (cast_has e st t.level ps bs c z)
 
-    node : (c : Cast) → Has c cs → c.p.node ≡ n
-    node c z = let f = hearer c z in (at.own c.p f.0 f.1).0
+    node : (c : Cast) → Has c cs → c.provider.node ≡ n
+    node c z = let f = hearer c z in (at.own c.provider f.0 f.1).0
 
     -- whose ballot came
-    cast_of : (b : KeptBallot) → Has b new → (c : Cast) × Has c cs × ((b.group ≡ h) × (b.p ≡ c.p))
-    cast_of b i = let f = flat_has (λ (c : Cast). kept_by h c.p c.cast) b cs i in (f.0, f.1, by (f.0).p (f.0).cast f.2)
+    cast_of : (b : KeptBallot) → Has b new → (c : Cast) × Has c cs × ((b.group ≡ h) × (b.provider ≡ c.provider))
+    cast_of b i = let f = flat_has (λ (c : Cast). kept_by h c.provider c.cast) b cs i in (f.0, f.1, by (f.0).provider (f.0).cast f.2)
       where
-        by : (p : ProviderId) (o : Option (ProtoId × ℕ × BallotView)) → Has b (kept_by h p o) → (b.group ≡ h) × (b.p ≡ p)
+        by : (p : ProviderId) (o : Option (ProtoId × ℕ × BallotView)) → Has b (kept_by h p o) → (b.group ≡ h) × (b.provider ≡ p)
         by p None z = absurd z
-        by p (Some y) (inl z) = (ap (λ (m : KeptBallot). m.group) z, ap (λ (m : KeptBallot). m.p) z)
+        by p (Some y) (inl z) = (ap (λ (m : KeptBallot). m.group) z, ap (λ (m : KeptBallot). m.provider) z)
         by p (Some y) (inr z) = absurd z
 
     none : is_late e ≡ true → (c : Cast) → Has c cs → c.cast ≡ None
@@ -273,7 +273,7 @@ casting_handed n inc before v t now lens states at k h st e bs =
         by (Some y) q = absurd (late_opens e late (phase c z y q).0)
 
     -- what was open stays so, with what was due or kept
-    unchanged : (p : ProviderId) (y : Provider) (o : OpenPhase) → provider_of w p ≡ Some y → (x : Provider) → provider_of t p ≡ Some x → x.opened ≡ Some o → ballot_due p (earlier last before) ≡ ballot_due p (earlier first before) → ((b : KeptBallot) → Has b t.kept → b.p ≡ p → (b.group ≡ h → ⊥) ⊎ (is_late e ≡ true)) → (ballot_due p (earlier last before) ≡ true) ⊎ Keeps w p o
+    unchanged : (p : ProviderId) (y : Provider) (o : OpenPhase) → provider_of w p ≡ Some y → (x : Provider) → provider_of t p ≡ Some x → x.opened ≡ Some o → ballot_due p (earlier last before) ≡ ballot_due p (earlier first before) → ((b : KeptBallot) → Has b t.kept → b.provider ≡ p → (b.group ≡ h → ⊥) ⊎ (is_late e ≡ true)) → (ballot_due p (earlier last before) ≡ true) ⊎ Keeps w p o
     unchanged p y o found x was is due how =
         ⊎_elim (λ (a : ballot_due p (earlier now before) ≡ true). inl (due ∙ a)) (λ (a : Keeps t p o). inr (record { ballot = a.ballot; there = handed_stays t h (states h) st e bs a.ballot a.there (how a.ballot a.there a.of) y (subst (λ z. provider_of w z ≡ Some y) (sym a.of) found); of = a.of; proto = a.proto; phase = a.phase })) (k.ready p x o was is)
 
@@ -281,14 +281,14 @@ casting_handed n inc before v t now lens states at k h st e bs =
     opened_now : (p : ProviderId) (y : Provider) (o : OpenPhase) → provider_of w p ≡ Some y → Has p ps → (asks e st p ≡ true) × (running_phase st.running ≡ Some o) → (ballot_due p (earlier last before) ≡ true) ⊎ Keeps w p o
     opened_now p y o found hears asked = by (run_own v h (lens h) e st before cs p first (asks_opens e st p asked.0))
       where
-        by : (ballot_due p (earlier last before) ≡ true) ⊎ (CastIn v h (lens h) e st before cs p ⊎ ((ballot_due p (earlier last before) ≡ ballot_due p (earlier first before)) × ((c : Cast) → Has c cs → c.p ≡ p → ⊥))) → (ballot_due p (earlier last before) ≡ true) ⊎ Keeps w p o
+        by : (ballot_due p (earlier last before) ≡ true) ⊎ (CastIn v h (lens h) e st before cs p ⊎ ((ballot_due p (earlier last before) ≡ ballot_due p (earlier first before)) × ((c : Cast) → Has c cs → c.provider ≡ p → ⊥))) → (ballot_due p (earlier last before) ≡ true) ⊎ Keeps w p o
         by (inl z) = inl z
         by (inr (inr z)) = let c = has_cast e st t.level ps bs p hears in absurd (z.1 c.0 c.1 c.2)
         by (inr (inl z)) =
-            let b : KeptBallot = record { p = z.cast.p; group = h; proto = (z.given).0; phase = (z.given).1; ballot = (z.given).2 } in
-            let there : Has b (kept_by h z.cast.p z.cast.cast) = subst (λ m. Has b (kept_by h z.cast.p m)) (sym z.is) (inl refl) in
+            let b : KeptBallot = record { provider = z.cast.provider; group = h; proto = (z.given).0; phase = (z.given).1; ballot = (z.given).2 } in
+            let there : Has b (kept_by h z.cast.provider z.cast.cast) = subst (λ m. Has b (kept_by h z.cast.provider m)) (sym z.is) (inl refl) in
             let same : o ≡ record { proto = (z.given).0; phase = (z.given).1 } = some_is (sym asked.1 ∙ (phase z.cast z.there z.given z.is).1) in
-            inr (record { ballot = b; there = handed_brings t h (states h) st e bs b (has_flat (λ (c : Cast). kept_by h c.p c.cast) b z.cast cs z.there there) y (subst (λ m. provider_of w m ≡ Some y) (sym z.by) found); of = z.by; proto = ap (λ (m : OpenPhase). m.proto) (sym same); phase = ap (λ (m : OpenPhase). m.phase) (sym same) })
+            inr (record { ballot = b; there = handed_brings t h (states h) st e bs b (has_flat (λ (c : Cast). kept_by h c.provider c.cast) b z.cast cs z.there there) y (subst (λ m. provider_of w m ≡ Some y) (sym z.by) found); of = z.by; proto = ap (λ (m : OpenPhase). m.proto) (sym same); phase = ap (λ (m : OpenPhase). m.phase) (sym same) })
 
     -- whoever did not hear is of another group, where it takes part
     elsewhere : (p : ProviderId) (x : Provider) (o : OpenPhase) → provider_of t p ≡ Some x → x.opened ≡ Some o → (Has p ps → ⊥) → x.group ≡ h → ⊥
@@ -327,5 +327,5 @@ casting_handed n inc before v t now lens states at k h st e bs =
             ⊎_elim (λ (a : (f.0).takes_part ≡ true). on f.0 f.1 a) (λ (a : Has p (beginners t h e)). handed_begun t h (states h) st e bs p a y found) f.3
         by x was (inr z) = on x was (k.taking p x o was (sym z.0 ∙ is))
 
-    group : (b : KeptBallot) (y : Provider) → Has b w.kept → provider_of w b.p ≡ Some y → b.group ≡ y.group
-    group b y there found = let f = stays.back b.p y found in ⊎_elim (λ (a : Has b t.kept). k.group b f.0 a f.1 ∙ sym f.2) (λ (a : Has b new). let c = cast_of b a in let g = hearer c.0 c.1 in c.2.0 ∙ sym g.2 ∙ ap (λ (z : Provider). z.group) (some_is (sym g.1 ∙ ap (λ z. provider_of t z) (sym c.2.1) ∙ f.1)) ∙ sym f.2) (handed_from t h (states h) st e bs b there)
+    group : (b : KeptBallot) (y : Provider) → Has b w.kept → provider_of w b.provider ≡ Some y → b.group ≡ y.group
+    group b y there found = let f = stays.back b.provider y found in ⊎_elim (λ (a : Has b t.kept). k.group b f.0 a f.1 ∙ sym f.2) (λ (a : Has b new). let c = cast_of b a in let g = hearer c.0 c.1 in c.2.0 ∙ sym g.2 ∙ ap (λ (z : Provider). z.group) (some_is (sym g.1 ∙ ap (λ z. provider_of t z) (sym c.2.1) ∙ f.1)) ∙ sym f.2) (handed_from t h (states h) st e bs b there)

@@ -37,6 +37,6 @@ module _ (n inc : ℕ) (before : History) where
   casting_does _ _ (Loses s t f) at k = casting_fewer n before s.sessions t (reverse s.records) f k
   casting_does _ _ (Joins s t g instance attrs none) at k = casting_joined n before s.sessions t g instance attrs (reverse s.records) k
   casting_does _ _ (Votes s x o b found opened unkept) at k =
-      let own = at.at.own x.p x found in
-      subst (Casting n before (keeps s.sessions x o b)) (sym (reverse-append s.records (happened.Cast x.p o.proto o.phase b.vote b.value b.message ∷ []))) (casting_votes n before s.sessions x o b (reverse s.records) found opened unkept own.0 own.2 k)
+      let own = at.at.own x.provider x found in
+      subst (Casting n before (keeps s.sessions x o b)) (sym (reverse-append s.records (happened.Cast x.provider o.proto o.phase b.vote b.value b.message ∷ []))) (casting_votes n before s.sessions x o b (reverse s.records) found opened unkept own.0 own.2 k)
   casting_does _ _ (Enters s i lt none) at k = enters_keep (Casting n before) (casting_silent n before) (casting_fewer n before) s i k

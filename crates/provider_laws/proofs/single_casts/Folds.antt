@@ -86,7 +86,7 @@ others_puts n u g before _ _ (Hands s c h e bs o same) q ne =
     by false false d z = refl
 others_puts n u g before _ _ (Loses s t f) q ne = refl
 others_puts n u g before _ _ (Joins s t h instance attrs none) q ne = refl
-others_puts n u g before _ _ (Votes s x o b found opened unkept) q ne = ap (λ z. puts_of n u g (earlier z before)) (reverse-append s.records (happened.Cast x.p o.proto o.phase b.vote b.value b.message ∷ []))
+others_puts n u g before _ _ (Votes s x o b found opened unkept) q ne = ap (λ z. puts_of n u g (earlier z before)) (reverse-append s.records (happened.Cast x.provider o.proto o.phase b.vote b.value b.message ∷ []))
 others_puts n u g before _ _ (Enters s i lt none) q ne = absurd (no_entering s i lt q)
 
 -- nor as a view is entered
@@ -208,6 +208,6 @@ module _ (bases : Bases) (n : ℕ) (before : History) (g : List ℕ) where
   folded_does _ _ (Loses s t f) q me k = record { state = k.state; len = k.len }
   folded_does _ _ (Joins s t h instance attrs none) q me k = record { state = k.state; len = k.len }
   folded_does _ _ (Votes s x o b found opened unkept) q me k =
-      let same : puts_at n s.views.view g before s ≡ puts_at n s.views.view g before (recorded s (happened.Cast x.p o.proto o.phase b.vote b.value b.message)) = sym (ap (λ z. puts_of n s.views.view g (earlier z before)) (reverse-append s.records (happened.Cast x.p o.proto o.phase b.vote b.value b.message ∷ []))) in
+      let same : puts_at n s.views.view g before s ≡ puts_at n s.views.view g before (recorded s (happened.Cast x.provider o.proto o.phase b.vote b.value b.message)) = sym (ap (λ z. puts_of n s.views.view g (earlier z before)) (reverse-append s.records (happened.Cast x.provider o.proto o.phase b.vote b.value b.message ∷ []))) in
       record { state = k.state ∙ ap (state_of_list bases s.views.view) same; len = k.len ∙ ap length same }
   folded_does _ _ (Enters s i lt none) q me k = absurd (no_entering s i lt q)

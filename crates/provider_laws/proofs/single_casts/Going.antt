@@ -61,7 +61,7 @@ does_more _ _ (Hands s c h e bs o same) = record { more = happened.Put s.views.m
     rs = flat_map (heard_at c.views.view h (len_of s h) e (state_of (put s h e) h)) (casts_out c.sessions h (state_of s h) (state_of (put s h e) h) e bs)
 does_more _ _ (Loses s t f) = record { more = []; is = sym (append-nil s.records) }
 does_more _ _ (Joins s t g instance attrs none) = record { more = []; is = sym (append-nil s.records) }
-does_more _ _ (Votes s x o b found opened unkept) = record { more = happened.Cast x.p o.proto o.phase b.vote b.value b.message ∷ []; is = refl }
+does_more _ _ (Votes s x o b found opened unkept) = record { more = happened.Cast x.provider o.proto o.phase b.vote b.value b.message ∷ []; is = refl }
 does_more _ _ (Enters s i lt none) =
     sides_keep (More s) (λ c p r k. record { more = k.more ++ happened.Told p r Dissolved ∷ []; is = ap (λ z. z ++ happened.Told p r Dissolved ∷ []) k.is ∙ append_assoc s.records k.more (happened.Told p r Dissolved ∷ []) }) (held_rows s) s.views.view (bases_of i) (view_entered s i (bases_of i)) (record { more = happened.In s.views.me i.view i.members ∷ map (λ (b : Base). happened.Base s.views.me i.view b.name b.from b.len b.state) (bases_of i); is = refl })
 
@@ -142,7 +142,7 @@ module _ (n inc : ℕ) (before : History) (bases : List ℕ → Bases) (rs : Lis
   naming_does _ _ (Loses s t f) q below k = naming_fewer n before s.sessions t (reverse s.records) f k.naming
   naming_does _ _ (Joins s t g instance attrs none) q below k = naming_joined n before s.sessions t g instance attrs (reverse s.records) k.naming
   naming_does _ _ (Votes s x o b found opened unkept) q below k =
-      subst (Naming n before (keeps s.sessions x o b)) (sym (reverse-append s.records (happened.Cast x.p o.proto o.phase b.vote b.value b.message ∷ []))) (naming_votes n before s.sessions x o b (reverse s.records) found opened k.naming)
+      subst (Naming n before (keeps s.sessions x o b)) (sym (reverse-append s.records (happened.Cast x.provider o.proto o.phase b.vote b.value b.message ∷ []))) (naming_votes n before s.sessions x o b (reverse s.records) found opened k.naming)
   naming_does _ _ (Enters s i lt none) q below k = absurd (no_entering s i lt q)
 
   -- within a view

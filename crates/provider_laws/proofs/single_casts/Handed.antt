@@ -38,21 +38,21 @@ Opening e after ps p x y =
 -- ---- phases
 
 module _ (e : Entry) (after : GroupState) where
-  keeps : (x : Provider) → (opened_after e after x).p ≡ x.p
+  keeps : (x : Provider) → (opened_after e after x).provider ≡ x.provider
   unfolding opened_after
   keeps x = by (is_late e)
     where
-      by : (b : Bool) → (if b then x else record x { opened = if asks e after x.p then running_phase after.running else None }).p ≡ x.p
+      by : (b : Bool) → (if b then x else record x { opened = if asks e after x.provider then running_phase after.running else None }).provider ≡ x.provider
       by true = refl
       by false = refl
 
   late_same : (x : Provider) → is_late e ≡ true → (opened_after e after x).opened ≡ x.opened
   unfolding opened_after
-  late_same x late = ap (λ b. (if b then x else record x { opened = if asks e after x.p then running_phase after.running else None }).opened) late
+  late_same x late = ap (λ b. (if b then x else record x { opened = if asks e after x.provider then running_phase after.running else None }).opened) late
 
-  opened_is : (x : Provider) → is_late e ≡ false → (opened_after e after x).opened ≡ left_open e after x.p
+  opened_is : (x : Provider) → is_late e ≡ false → (opened_after e after x).opened ≡ left_open e after x.provider
   unfolding opened_after
-  opened_is x late = ap (λ b. (if b then x else record x { opened = if asks e after x.p then running_phase after.running else None }).opened) late
+  opened_is x late = ap (λ b. (if b then x else record x { opened = if asks e after x.provider then running_phase after.running else None }).opened) late
 
   opens_fold : (ps : List ProviderId) (u : SessionState) (p : ProviderId) (y : Provider) → provider_of (open_phases u e after ps) p ≡ Some y → (x : Provider) × (provider_of u p ≡ Some x) × Opening e after ps p x y
   unfolding open_phases provider_of with_provider
@@ -71,8 +71,8 @@ module _ (e : Entry) (after : GroupState) where
       by z there (inr a) x found (inl how) false is true at =
           let same : p ≡ q = provider_same p q at in
           let o = edit_own p (opened_after e after) keeps u.providers z (subst (λ m. find (is_provider p) (edit_where (is_provider m) (opened_after e after) u.providers) ≡ Some z) (sym same) there) in
-          let its : z.p ≡ p = ap (λ (m : Provider). m.p) how ∙ found_is u p x found in
-          inl (a.0 ∙ ap (λ (m : Provider). m.opened) o.1 ∙ opened_is o.0 is ∙ ap (left_open e after) (sym (keeps o.0) ∙ ap (λ (m : Provider). m.p) (sym o.1) ∙ its), inl same)
+          let its : z.provider ≡ p = ap (λ (m : Provider). m.provider) how ∙ found_is u p x found in
+          inl (a.0 ∙ ap (λ (m : Provider). m.opened) o.1 ∙ opened_is o.0 is ∙ ap (left_open e after) (sym (keeps o.0) ∙ ap (λ (m : Provider). m.provider) (sym o.1) ∙ its), inl same)
       by z there (inr a) x found (inl how) false is false at = inr (a.0 ∙ ap (λ (m : Provider). m.opened) how, ⊎_elim (λ (l : is_late e ≡ true). inl l) (λ (out : Has p ps → ⊥). inr (away out)) a.1)
         where
           away : (Has p ps → ⊥) → Has p (q ∷ ps) → ⊥
@@ -190,7 +190,7 @@ module _ (s : SessionState) (g : List ℕ) (before after : GroupState) (e : Entr
 
   -- the ballots that the notice brings
   abbrev pub brought : List KeptBallot
-  brought = flat_map (λ (c : Cast). kept_by g c.p c.cast) cs
+  brought = flat_map (λ (c : Cast). kept_by g c.provider c.cast) cs
 
   found_before : (p : ProviderId) (y : Provider) → provider_of (without_providers w (removed_from after ps)) p ≡ Some y → provider_of o p ≡ Some y
   unfolding provider_of keep_casts
@@ -208,16 +208,16 @@ module _ (s : SessionState) (g : List ℕ) (before after : GroupState) (e : Entr
       by x (inl i) z q = inl i
       by x (inr i) z q = inr (i.0 ∙ q, i.1)
 
-  kept_there : (k : KeptBallot) → Has k u.kept → (y : Provider) → provider_of (without_providers w (removed_from after ps)) k.p ≡ Some y → Has k (without_providers w (removed_from after ps)).kept
+  kept_there : (k : KeptBallot) → Has k u.kept → (y : Provider) → provider_of (without_providers w (removed_from after ps)) k.provider ≡ Some y → Has k (without_providers w (removed_from after ps)).kept
   kept_there k i y found = (fewer_without w (removed_from after ps)).still y k found (subst (Has k) (sym (requests_same u e).1) i)
 
   -- a ballot of another group, or at a Late, stays as long as its provider does
-  pub handed_stays : (k : KeptBallot) → Has k s.kept → (k.group ≡ g → ⊥) ⊎ (is_late e ≡ true) → (y : Provider) → provider_of (handed_on s g before after e bs) k.p ≡ Some y → Has k (handed_on s g before after e bs).kept
+  pub handed_stays : (k : KeptBallot) → Has k s.kept → (k.group ≡ g → ⊥) ⊎ (is_late e ≡ true) → (y : Provider) → provider_of (handed_on s g before after e bs) k.provider ≡ Some y → Has k (handed_on s g before after e bs).kept
   unfolding handed_on heard keep_casts
   handed_stays k i how y found =
       kept_there k (append_has_left k o.kept brought (subst (Has k) (sym (parts_kept new a) ∙ sym (opens_kept e after ps t)) (after_stays s g e k i how))) y found
 
-  pub handed_brings : (k : KeptBallot) → Has k brought → (y : Provider) → provider_of (handed_on s g before after e bs) k.p ≡ Some y → Has k (handed_on s g before after e bs).kept
+  pub handed_brings : (k : KeptBallot) → Has k brought → (y : Provider) → provider_of (handed_on s g before after e bs) k.provider ≡ Some y → Has k (handed_on s g before after e bs).kept
   unfolding handed_on heard keep_casts
   handed_brings k i y found = kept_there k (append_has_right k o.kept brought i) y found
 

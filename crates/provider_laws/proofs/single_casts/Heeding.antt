@@ -122,27 +122,27 @@ module _ (n inc : ℕ) (before : History) (v : ViewId) (lens : List ℕ → ℕ)
       record {
         law = k.law;
         others = k.others;
-        unheard = λ p x o q z there. ⊎_elim (λ (a : find (is_provider p) t.providers ≡ Some x). k.unheard p x o a z there) (λ (a : (x ≡ y) × (p ≡ y.p)). new p o a.1 there) (found_joined y p t.providers x q);
+        unheard = λ p x o q z there. ⊎_elim (λ (a : find (is_provider p) t.providers ≡ Some x). k.unheard p x o a z there) (λ (a : (x ≡ y) × (p ≡ y.provider)). new p o a.1 there) (found_joined y p t.providers x q);
         numbered = λ p o m there. ⊎_elim (λ (a : p.inc < inc). inl a) (λ (a : p.join ≤ t.last_request). inr (omega (arith, a))) (k.numbered p o m there);
-        runs = λ p x q z. ⊎_elim (λ (a : find (is_provider p) t.providers ≡ Some x). k.runs p x a z) (λ (a : (x ≡ y) × (p ≡ y.p)). absurd (let b : false ≡ true = ap (λ (m : Provider). m.takes_part) (sym a.0) ∙ z in cc)) (found_joined y p t.providers x q);
-        opened = λ p x o q z there. ⊎_elim (λ (a : find (is_provider p) t.providers ≡ Some x). k.opened p x o a z there) (λ (a : (x ≡ y) × (p ≡ y.p)). absurd (let b : false ≡ true = ap (λ (m : Provider). m.takes_part) (sym a.0) ∙ z in cc)) (found_joined y p t.providers x q);
+        runs = λ p x q z. ⊎_elim (λ (a : find (is_provider p) t.providers ≡ Some x). k.runs p x a z) (λ (a : (x ≡ y) × (p ≡ y.provider)). absurd (let b : false ≡ true = ap (λ (m : Provider). m.takes_part) (sym a.0) ∙ z in cc)) (found_joined y p t.providers x q);
+        opened = λ p x o q z there. ⊎_elim (λ (a : find (is_provider p) t.providers ≡ Some x). k.opened p x o a z there) (λ (a : (x ≡ y) × (p ≡ y.provider)). absurd (let b : false ≡ true = ap (λ (m : Provider). m.takes_part) (sym a.0) ∙ z in cc)) (found_joined y p t.providers x q);
       }
     where
       y : Provider
-      y = record { p = new_provider t instance; client = c; group = h; takes_part = false; opened = None }
+      y = record { provider = new_provider t instance; client = c; group = h; takes_part = false; opened = None }
 
       -- under a number that none has
-      new : (p : ProviderId) (o : OpenPhase) → p ≡ y.p → HeardOpened (earlier now before) p o → ⊥
+      new : (p : ProviderId) (o : OpenPhase) → p ≡ y.provider → HeardOpened (earlier now before) p o → ⊥
       new p o e there =
           let node : p.node ≡ n = ap (λ (z : ProviderId). z.node) e ∙ me in
           let same : p.inc ≡ inc = ap (λ (z : ProviderId). z.inc) e ∙ inc_is in
           let number : p.join ≡ t.last_request + 1 = ap (λ (z : ProviderId). z.join) e in
           ⊎_elim (λ (a : p.inc < inc). omega (arith, a, same)) (λ (a : p.join ≤ t.last_request). omega (arith, a, number)) (k.numbered p o node there)
 
-  pub heeding_votes : (t : SessionState) (x : Provider) (o : OpenPhase) (f : Filled) (now : List Happened) → Heeding n inc before v t now lens states → Heeding n inc before v (keeps t x o f) (happened.Cast x.p o.proto o.phase f.vote f.value f.message ∷ now) lens states
+  pub heeding_votes : (t : SessionState) (x : Provider) (o : OpenPhase) (f : Filled) (now : List Happened) → Heeding n inc before v t now lens states → Heeding n inc before v (keeps t x o f) (happened.Cast x.provider o.proto o.phase f.vote f.value f.message ∷ now) lens states
   unfolding provider_of
   heeding_votes t x o f now k =
-      let a = heeding_mute t now (happened.Cast x.p o.proto o.phase f.vote f.value f.message) tt (λ rs p q h. cast_opened x.p o.proto o.phase f rs p q h) k in
+      let a = heeding_mute t now (happened.Cast x.provider o.proto o.phase f.vote f.value f.message) tt (λ rs p q h. cast_opened x.provider o.proto o.phase f rs p q h) k in
       record { law = a.law; others = a.others; unheard = a.unheard; numbered = a.numbered; runs = a.runs; opened = a.opened }
 
 -- ---- handing on
@@ -222,14 +222,14 @@ module _ (n inc : ℕ) (before : History) (v : ViewId) (t : SessionState) (now :
   run_casts : (now' : List Happened) (q : ProviderId) (o : Option (ProtoId × ℕ × BallotView)) → Run now' → Run (pushed (cast_records q o) now')
   run_casts now' q o r = casts_keep Run (λ w proto phase f z x. record { law = (tt, x.law); from = λ p b there. x.from p b (cast_opened w proto phase f (earlier z before) p b there) }) q o now' r
 
-  run_all : (cs : List Cast) (now' : List Happened) → ((c : Cast) → Has c cs → Has c.p ps) → Within PlaceAnew (pushed (flat_map (heard_at v h i e st) cs) now') before → Run now' → Run (pushed (flat_map (heard_at v h i e st) cs) now')
+  run_all : (cs : List Cast) (now' : List Happened) → ((c : Cast) → Has c cs → Has c.provider ps) → Within PlaceAnew (pushed (flat_map (heard_at v h i e st) cs) now') before → Run now' → Run (pushed (flat_map (heard_at v h i e st) cs) now')
   run_all [] now' hears anew r = r
   run_all (c ∷ cs) now' hears anew r =
       let joined = pushed_append (heard_at v h i e st c) (flat_map (heard_at v h i e st) cs) now' in
       let rest : Within PlaceAnew (pushed (flat_map (heard_at v h i e st) cs) (pushed (heard_at v h i e st c) now')) before = subst (λ l. Within PlaceAnew l before) joined anew in
       let here : Within PlaceAnew (pushed (heard_at v h i e st c) now') before = within_tail (flat_map (heard_at v h i e st) cs) (pushed (heard_at v h i e st c) now') before rest in
-      let head = (within_tail (cast_records c.p c.cast) (happened.Heard c.p v h i e st.members st.value ∷ now') before here).0 in
-      let one : Run (pushed (heard_at v h i e st c) now') = run_casts (happened.Heard c.p v h i e st.members st.value ∷ now') c.p c.cast (run_hears now' c.p (hears c (inl refl)) head r) in
+      let head = (within_tail (cast_records c.provider c.cast) (happened.Heard c.provider v h i e st.members st.value ∷ now') before here).0 in
+      let one : Run (pushed (heard_at v h i e st c) now') = run_casts (happened.Heard c.provider v h i e st.members st.value ∷ now') c.provider c.cast (run_hears now' c.provider (hears c (inl refl)) head r) in
       subst Run (sym joined) (run_all cs (pushed (heard_at v h i e st c) now') (λ d z. hears d (inr z)) rest one)
 
   pub heeding_handed : Within PlaceAnew (pushed (flat_map (heard_at v h i e st) (casts_out t h (states h) st e bs)) first) before → Heeding n inc before v (handed_on t h (states h) st e bs) (pushed (flat_map (heard_at v h i e st) (casts_out t h (states h) st e bs)) first) lens' states'

@@ -84,7 +84,7 @@ module _ (n inc : ℕ) (before : History) (bs : List ℕ → Bases) (rs : List H
   heeds_does _ _ (Joins s t g instance attrs none) q below anew k =
       heeding_joined n inc before s.views.view (len_of s) (state_of s) s.sessions t g instance attrs (reverse s.records) k.hearing.at.me k.hearing.at.inc_is k.heeds
   heeds_does _ _ (Votes s x o b found opened unkept) q below anew k =
-      subst (λ l. Heeding n inc before s.views.view (keeps s.sessions x o b) l (len_of s) (state_of s)) (sym (reverse-append s.records (happened.Cast x.p o.proto o.phase b.vote b.value b.message ∷ []))) (heeding_votes n inc before s.views.view (len_of s) (state_of s) s.sessions x o b (reverse s.records) k.heeds)
+      subst (λ l. Heeding n inc before s.views.view (keeps s.sessions x o b) l (len_of s) (state_of s)) (sym (reverse-append s.records (happened.Cast x.provider o.proto o.phase b.vote b.value b.message ∷ []))) (heeding_votes n inc before s.views.view (len_of s) (state_of s) s.sessions x o b (reverse s.records) k.heeds)
   heeds_does _ _ (Enters s i lt none) q below anew k = absurd (no_entering s i lt q)
 
 -- ---- a view is entered

@@ -60,7 +60,7 @@ abbrev OnceCast : List Happened → History → Happened → Type 0
 OnceCast now before r = NotCastBefore (earlier now before) r
 
 abbrev Said : KeptBallot → Filled → Happened
-Said k f = happened.Cast k.p k.proto k.phase f.vote f.value f.message
+Said k f = happened.Cast k.provider k.proto k.phase f.vote f.value f.message
 
 -- ---- what is cast among later records was not cast before them
 
@@ -81,7 +81,7 @@ module _ (v : ViewId) (h : List ℕ) (i : ℕ) (e : Entry) (st : GroupState) (be
   all cs = flat_map (heard_at v h i e st) cs
 
   abbrev come : List Cast → List KeptBallot
-  come cs = flat_map (λ (c : Cast). kept_by h c.p c.cast) cs
+  come cs = flat_map (λ (c : Cast). kept_by h c.provider c.cast) cs
 
   abbrev Filled_in : List Cast → Type 0
   Filled_in cs = (c : Cast) → Has c cs → (y : ProtoId × ℕ × BallotView) → c.cast ≡ Some y → (f : Filled) × ((y.2).filled ≡ Some f)
@@ -99,8 +99,8 @@ module _ (v : ViewId) (h : List ℕ) (i : ℕ) (e : Entry) (st : GroupState) (be
 
   all_said : (cs : List Cast) (b : KeptBallot) → Filled_in cs → Has b (come cs) → (f : Filled) × Has (Said b f) (all cs)
   all_said cs b filled there =
-      let k = flat_has (λ (c : Cast). kept_by h c.p c.cast) b cs there in
-      let s = one_said (k.0).p (k.0).cast b (filled k.0 k.1) k.2 in
+      let k = flat_has (λ (c : Cast). kept_by h c.provider c.cast) b cs there in
+      let s = one_said (k.0).provider (k.0).cast b (filled k.0 k.1) k.2 in
       (s.0, has_flat (heard_at v h i e st) (Said b s.0) k.0 cs k.1 s.1)
 
   -- so they are apart
@@ -110,16 +110,16 @@ module _ (v : ViewId) (h : List ℕ) (i : ℕ) (e : Entry) (st : GroupState) (be
       let rest : Within OnceCast (pushed (all cs) (pushed (heard_at v h i e st c) now)) before = subst (λ l. Within OnceCast l before) (pushed_append (heard_at v h i e st c) (all cs) now) k in
       with c.cast refl (come_apart cs (pushed (heard_at v h i e st c) now) (λ d z. filled d (inr z)) rest) rest
     where
-      apart : (b d : KeptBallot) → Has b (kept_by h c.p c.cast) → Within OnceCast (pushed (all cs) (pushed (heard_at v h i e st c) now)) before → Has d (come cs) → SameBallot b d → ⊥
+      apart : (b d : KeptBallot) → Has b (kept_by h c.provider c.cast) → Within OnceCast (pushed (all cs) (pushed (heard_at v h i e st c) now)) before → Has d (come cs) → SameBallot b d → ⊥
       apart b d mine rest there same =
-          let x = one_said c.p c.cast b (filled c (inl refl)) mine in
+          let x = one_said c.provider c.cast b (filled c (inl refl)) mine in
           let y = all_said cs d (λ g z. filled g (inr z)) there in
-          cast_new (all cs) (pushed (heard_at v h i e st c) now) before d.p d.proto d.phase y.0 x.0 rest y.1 (subst (λ (z : ProviderId × ProtoId × ℕ). Has (happened.Cast z.0 z.1 z.2 (x.0).vote (x.0).value (x.0).message) (earlier (pushed (heard_at v h i e st c) now) before)) (λ k. (same.0 k, same.1 k, same.2 k)) (has_pushed (Said b x.0) (heard_at v h i e st c) now before x.1))
+          cast_new (all cs) (pushed (heard_at v h i e st c) now) before d.provider d.proto d.phase y.0 x.0 rest y.1 (subst (λ (z : ProviderId × ProtoId × ℕ). Has (happened.Cast z.0 z.1 z.2 (x.0).vote (x.0).value (x.0).message) (earlier (pushed (heard_at v h i e st c) now) before)) (λ k. (same.0 k, same.1 k, same.2 k)) (has_pushed (Said b x.0) (heard_at v h i e st c) now before x.1))
 
-      with : (o : Option (ProtoId × ℕ × BallotView)) → c.cast ≡ o → Apart (come cs) → Within OnceCast (pushed (all cs) (pushed (heard_at v h i e st c) now)) before → Apart (kept_by h c.p o ++ come cs)
+      with : (o : Option (ProtoId × ℕ × BallotView)) → c.cast ≡ o → Apart (come cs) → Within OnceCast (pushed (all cs) (pushed (heard_at v h i e st c) now)) before → Apart (kept_by h c.provider o ++ come cs)
       with None q old rest = old
       with (Some y) q old rest =
-          (λ d there same. apart _ d (subst (λ o. Has (record { p = c.p; group = h; proto = y.0; phase = y.1; ballot = y.2 }) (kept_by h c.p o)) (sym q) (inl refl)) rest there same, old)
+          (λ d there same. apart _ d (subst (λ o. Has (record { provider = c.provider; group = h; proto = y.0; phase = y.1; ballot = y.2 }) (kept_by h c.provider o)) (sym q) (inl refl)) rest there same, old)
 
 -- ---- lists
 
@@ -166,22 +166,22 @@ module _ (n inc : ℕ) (before : History) where
       said : Within OnceCast (pushed (flat_map (heard_at s.views.view h (len_of s h) e st) cs) first) before
       said = subst (λ l. Within OnceCast l before) (handing_said s.views.me s c h e bs same refl) casts
 
-      cross : (a b : KeptBallot) → Has a s.sessions.kept → Has b (flat_map (λ (x : Cast). kept_by h x.p x.cast) cs) → SameBallot a b → ⊥
+      cross : (a b : KeptBallot) → Has a s.sessions.kept → Has b (flat_map (λ (x : Cast). kept_by h x.provider x.cast) cs) → SameBallot a b → ⊥
       cross a b i j q =
           let x = held.cast a i in
           let y = all_said s.views.view h (len_of s h) e st before cs b filled j in
-          cast_new (flat_map (heard_at s.views.view h (len_of s h) e st) cs) first before b.p b.proto b.phase y.0 x.filled said y.1 (inr (subst (λ (z : ProviderId × ProtoId × ℕ). Has (happened.Cast z.0 z.1 z.2 x.filled.vote x.filled.value x.filled.message) (earlier (reverse s.records) before)) (λ k. (q.0 k, q.1 k, q.2 k)) x.there))
+          cast_new (flat_map (heard_at s.views.view h (len_of s h) e st) cs) first before b.provider b.proto b.phase y.0 x.filled said y.1 (inr (subst (λ (z : ProviderId × ProtoId × ℕ). Has (happened.Cast z.0 z.1 z.2 x.filled.vote x.filled.value x.filled.message) (earlier (reverse s.records) before)) (λ k. (q.0 k, q.1 k, q.2 k)) x.there))
 
-  apart_votes : (t : SessionState) (x : Provider) (o : OpenPhase) (f : Filled) → list_any (is_kept_for x.p o.proto o.phase) t.kept ≡ false → Apart t.kept → Apart (keeps t x o f).kept
+  apart_votes : (t : SessionState) (x : Provider) (o : OpenPhase) (f : Filled) → list_any (is_kept_for x.provider o.proto o.phase) t.kept ≡ false → Apart t.kept → Apart (keeps t x o f).kept
   apart_votes t x o f unkept k = apart_append t.kept (one ∷ []) k ((λ l z. absurd z), tt) cross
     where
       one : KeptBallot
-      one = record { p = x.p; group = x.group; proto = o.proto; phase = o.phase; ballot = ballot_of t.level f }
+      one = record { provider = x.provider; group = x.group; proto = o.proto; phase = o.phase; ballot = ballot_of t.level f }
 
       cross : (a b : KeptBallot) → Has a t.kept → Has b (one ∷ []) → SameBallot a b → ⊥
       cross a b i (inr z) q = z
       cross a b i (inl z) q =
-          let u : true ≡ false = sym (any_kept x.p o t.kept a i (q.0 ∙ ap (λ (m : KeptBallot). m.p) z) (q.1 ∙ ap (λ (m : KeptBallot). m.proto) z) (q.2 ∙ ap (λ (m : KeptBallot). m.phase) z)) ∙ unkept in absurd (cc)
+          let u : true ≡ false = sym (any_kept x.provider o t.kept a i (q.0 ∙ ap (λ (m : KeptBallot). m.provider) z) (q.1 ∙ ap (λ (m : KeptBallot). m.proto) z) (q.2 ∙ ap (λ (m : KeptBallot). m.phase) z)) ∙ unkept in absurd (cc)
 
   apart_does : (s t : Core) → Does s t → Within OnceCast (reverse t.records) before → Hearing n inc before s → Held n inc before s → Apart s.sessions.kept → Apart t.sessions.kept
   unfolding recorded with_sessions join_asked

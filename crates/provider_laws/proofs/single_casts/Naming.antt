@@ -53,15 +53,15 @@ module _ (n : ℕ) (before : History) where
       record {
         law = k.law;
         others = k.others;
-        named = λ p x o q z. ⊎_elim (λ (a : find (is_provider p) t.providers ≡ Some x). k.named p x o a z) (λ (a : (x ≡ y) × (p ≡ y.p)). absurd (let b : None ≡ Some o = ap (λ (m : Provider). m.opened) (sym a.0) ∙ z in cc)) (found_joined y p t.providers x q);
+        named = λ p x o q z. ⊎_elim (λ (a : find (is_provider p) t.providers ≡ Some x). k.named p x o a z) (λ (a : (x ≡ y) × (p ≡ y.provider)). absurd (let b : None ≡ Some o = ap (λ (m : Provider). m.opened) (sym a.0) ∙ z in cc)) (found_joined y p t.providers x q);
       }
     where
       y : Provider
-      y = record { p = new_provider t instance; client = c; group = h; takes_part = false; opened = None }
+      y = record { provider = new_provider t instance; client = c; group = h; takes_part = false; opened = None }
 
-  pub naming_votes : (t : SessionState) (x : Provider) (o : OpenPhase) (f : Filled) (now : List Happened) → provider_of t x.p ≡ Some x → x.opened ≡ Some o → Naming n before t now → Naming n before (keeps t x o f) (happened.Cast x.p o.proto o.phase f.vote f.value f.message ∷ now)
+  pub naming_votes : (t : SessionState) (x : Provider) (o : OpenPhase) (f : Filled) (now : List Happened) → provider_of t x.provider ≡ Some x → x.opened ≡ Some o → Naming n before t now → Naming n before (keeps t x o f) (happened.Cast x.provider o.proto o.phase f.vote f.value f.message ∷ now)
   unfolding provider_of
-  naming_votes t x o f now found opened k = record { law = (k.named x.p x o found opened, k.law); others = k.others; named = k.named }
+  naming_votes t x o f now found opened k = record { law = (k.named x.provider x o found opened, k.law); others = k.others; named = k.named }
 
 pub naming_handed : (n inc : ℕ) (before : History) (v : ViewId) (t : SessionState) (now : List Happened) (lens : List ℕ → ℕ) (states : List ℕ → GroupState) → Attending n inc before v t now lens states → Naming n before t now → (h : List ℕ) (st : GroupState) (e : Entry) (bs : List (Option Filled)) → fits (states h) e ≡ true → st ≡ after (states h) v (lens h) e → Naming n before (handed_on t h (states h) st e bs) (pushed (flat_map (heard_at v h (lens h) e st) (casts_out t h (states h) st e bs)) (happened.Put n v h (lens h) e ∷ now))
 unfolding casts_out
@@ -90,14 +90,14 @@ naming_handed n inc before v t now lens states at k h st e bs fit is_after =
     run : opens_phase e ≡ true → running_phase st.running ≡ opens e v (lens h)
     run k = ap (λ (s : GroupState). running_phase s.running) is_after ∙ opens_running (states h) v (lens h) e fit k
 
-    node : (c : Cast) → Has c cs → c.p.node ≡ n
-    node c z = let f = hearer_found t h (states h) e c.p (cast_has e st t.level ps bs c z) in (at.own c.p f.0 f.1).0
+    node : (c : Cast) → Has c cs → c.provider.node ≡ n
+    node c z = let f = hearer_found t h (states h) e c.provider (cast_has e st t.level ps bs c z) in (at.own c.provider f.0 f.1).0
 
     now_open : (p : ProviderId) (o : OpenPhase) → Has p ps → (b : Bool) → asks e st p ≡ b → (if b then running_phase st.running else None) ≡ Some o → open_phase p (earlier last before) ≡ Some o
     now_open p o hears false a q = absurd (cc)
     now_open p o hears true a q =
         let k = asks_opens e st p a in
-        ⊎_elim (λ (z : open_phase p (earlier last before) ≡ opens e v (lens h)). z ∙ sym (run k) ∙ q) (λ (z : (open_phase p (earlier last before) ≡ open_phase p (earlier first before)) × ((c : Cast) → Has c cs → c.p ≡ p → ⊥)). let c = has_cast e st t.level ps bs p hears in absurd (z.1 c.0 c.1 c.2)) (opens_own v h (lens h) e st before cs p first k)
+        ⊎_elim (λ (z : open_phase p (earlier last before) ≡ opens e v (lens h)). z ∙ sym (run k) ∙ q) (λ (z : (open_phase p (earlier last before) ≡ open_phase p (earlier first before)) × ((c : Cast) → Has c cs → c.provider ≡ p → ⊥)). let c = has_cast e st t.level ps bs p hears in absurd (z.1 c.0 c.1 c.2)) (opens_own v h (lens h) e st before cs p first k)
 
     named : (p : ProviderId) (y : Provider) (o : OpenPhase) → provider_of w p ≡ Some y → y.opened ≡ Some o → open_phase p (earlier last before) ≡ Some o
     named p y o found is = let f = handed_open t h (states h) st e bs p y found in by f.0 f.1 f.2

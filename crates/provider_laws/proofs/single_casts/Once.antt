@@ -60,5 +60,5 @@ kept_as_cast c w k n s up a b ha hb p proto phase =
     let x = kept_recorded c w k n s up a ha in
     let y = kept_recorded c w k n s up b hb in
     let there = subst (λ (z : ProviderId × ProtoId × ℕ). Has (happened.Cast z.0 z.1 z.2 y.filled.vote y.filled.value y.filled.message) (records_of w.before)) (λ i. (sym p i, sym proto i, sym phase i)) y.there in
-    let same : x.filled ≡ y.filled = one_cast (records_of w.before) a.p a.proto a.phase x.filled y.filled (along_all NotCastBefore w.before (cast_once c w k)) x.there there in
+    let same : x.filled ≡ y.filled = one_cast (records_of w.before) a.provider a.proto a.phase x.filled y.filled (along_all NotCastBefore w.before (cast_once c w k)) x.there there in
     x.is ∙ ap (λ f. Some f) same ∙ sym y.is

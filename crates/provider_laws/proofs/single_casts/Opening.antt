@@ -99,11 +99,11 @@ module _ (v : ViewId) (h : List ℕ) (i : ℕ) (e : Entry) (st : GroupState) (be
   joined : (c : Cast) (cs : List Cast) (now : List Happened) → pushed (all (c ∷ cs)) now ≡ pushed (all cs) (pushed (one c) now)
   joined c cs now = pushed_append (one c) (all cs) now
 
-  one_other : (c : Cast) (p : ProviderId) (now : List Happened) → (c.p ≡ p → ⊥) → phase_of p (pushed (one c) now) ≡ phase_of p now
-  one_other c p now ne = after_cast p c.p c.cast (notice c.p ∷ now) ∙ another c.p p (open_by e v i (phase_of p now)) (phase_of p now) ne
+  one_other : (c : Cast) (p : ProviderId) (now : List Happened) → (c.provider ≡ p → ⊥) → phase_of p (pushed (one c) now) ≡ phase_of p now
+  one_other c p now ne = after_cast p c.provider c.cast (notice c.provider ∷ now) ∙ another c.provider p (open_by e v i (phase_of p now)) (phase_of p now) ne
 
   one_late : (c : Cast) (p : ProviderId) (now : List Happened) → is_late e ≡ true → phase_of p (pushed (one c) now) ≡ phase_of p now
-  one_late c p now late = after_cast p c.p c.cast (notice c.p ∷ now) ∙ by (same_provider c.p p)
+  one_late c p now late = after_cast p c.provider c.cast (notice c.provider ∷ now) ∙ by (same_provider c.provider p)
     where
       by : (b : Bool) → (if b then open_by e v i (phase_of p now) else phase_of p now) ≡ phase_of p now
       by true = late_open e v i (phase_of p now) late
@@ -112,7 +112,7 @@ module _ (v : ViewId) (h : List ℕ) (i : ℕ) (e : Entry) (st : GroupState) (be
   own_phase : (p : ProviderId) (now : List Happened) → opens_phase e ≡ true → phase_of p (notice p ∷ now) ≡ opens e v i
   own_phase p now k = ap (λ b. if b then open_by e v i (phase_of p now) else phase_of p now) (provider_self p) ∙ opened_by e v i (phase_of p now) k
 
-  pub opens_other : (cs : List Cast) (p : ProviderId) (now : List Happened) → ((c : Cast) → Has c cs → c.p ≡ p → ⊥) → phase_of p (pushed (all cs) now) ≡ phase_of p now
+  pub opens_other : (cs : List Cast) (p : ProviderId) (now : List Happened) → ((c : Cast) → Has c cs → c.provider ≡ p → ⊥) → phase_of p (pushed (all cs) now) ≡ phase_of p now
   opens_other [] p now ne = refl
   opens_other (c ∷ cs) p now ne =
       ap (phase_of p) (joined c cs now) ∙ opens_other cs p (pushed (one c) now) (λ d k. ne d (inr k)) ∙ one_other c p now (ne c (inl refl))
@@ -122,26 +122,26 @@ module _ (v : ViewId) (h : List ℕ) (i : ℕ) (e : Entry) (st : GroupState) (be
   opens_late (c ∷ cs) p now late = ap (phase_of p) (joined c cs now) ∙ opens_late cs p (pushed (one c) now) late ∙ one_late c p now late
 
   -- whoever heard has the phase open
-  pub opens_own : (cs : List Cast) (p : ProviderId) (now : List Happened) → opens_phase e ≡ true → (phase_of p (pushed (all cs) now) ≡ opens e v i) ⊎ ((phase_of p (pushed (all cs) now) ≡ phase_of p now) × ((c : Cast) → Has c cs → c.p ≡ p → ⊥))
+  pub opens_own : (cs : List Cast) (p : ProviderId) (now : List Happened) → opens_phase e ≡ true → (phase_of p (pushed (all cs) now) ≡ opens e v i) ⊎ ((phase_of p (pushed (all cs) now) ≡ phase_of p now) × ((c : Cast) → Has c cs → c.provider ≡ p → ⊥))
   opens_own [] p now k = inr (refl, λ c h q. h)
   opens_own (c ∷ cs) p now k = by (opens_own cs p (pushed (one c) now) k)
     where
-      own : (b : Bool) → same_provider c.p p ≡ b → phase_of p (pushed (all cs) (pushed (one c) now)) ≡ phase_of p (pushed (one c) now) → ((d : Cast) → Has d cs → d.p ≡ p → ⊥) → (phase_of p (pushed (all (c ∷ cs)) now) ≡ opens e v i) ⊎ ((phase_of p (pushed (all (c ∷ cs)) now) ≡ phase_of p now) × ((d : Cast) → Has d (c ∷ cs) → d.p ≡ p → ⊥))
+      own : (b : Bool) → same_provider c.provider p ≡ b → phase_of p (pushed (all cs) (pushed (one c) now)) ≡ phase_of p (pushed (one c) now) → ((d : Cast) → Has d cs → d.provider ≡ p → ⊥) → (phase_of p (pushed (all (c ∷ cs)) now) ≡ opens e v i) ⊎ ((phase_of p (pushed (all (c ∷ cs)) now) ≡ phase_of p now) × ((d : Cast) → Has d (c ∷ cs) → d.provider ≡ p → ⊥))
       own true z q none =
-          let at : c.p ≡ p = provider_same c.p p z in
-          inl (ap (phase_of p) (joined c cs now) ∙ q ∙ after_cast p c.p c.cast (notice c.p ∷ now) ∙ subst (λ m. phase_of p (notice m ∷ now) ≡ opens e v i) (sym at) (own_phase p now k))
+          let at : c.provider ≡ p = provider_same c.provider p z in
+          inl (ap (phase_of p) (joined c cs now) ∙ q ∙ after_cast p c.provider c.cast (notice c.provider ∷ now) ∙ subst (λ m. phase_of p (notice m ∷ now) ≡ opens e v i) (sym at) (own_phase p now k))
       own false z q none = inr (ap (phase_of p) (joined c cs now) ∙ q ∙ one_other c p now ne, others)
         where
-          ne : c.p ≡ p → ⊥
-          ne y = let m : same_provider c.p p ≡ true = subst (λ m. same_provider c.p m ≡ true) y (provider_self c.p) in let u : true ≡ false = sym m ∙ z in absurd (cc)
+          ne : c.provider ≡ p → ⊥
+          ne y = let m : same_provider c.provider p ≡ true = subst (λ m. same_provider c.provider m ≡ true) y (provider_self c.provider) in let u : true ≡ false = sym m ∙ z in absurd (cc)
 
-          others : (d : Cast) → Has d (c ∷ cs) → d.p ≡ p → ⊥
-          others d (inl y) f = ne (ap (λ (m : Cast). m.p) (sym y) ∙ f)
+          others : (d : Cast) → Has d (c ∷ cs) → d.provider ≡ p → ⊥
+          others d (inl y) f = ne (ap (λ (m : Cast). m.provider) (sym y) ∙ f)
           others d (inr y) f = none d y f
 
-      by : (phase_of p (pushed (all cs) (pushed (one c) now)) ≡ opens e v i) ⊎ ((phase_of p (pushed (all cs) (pushed (one c) now)) ≡ phase_of p (pushed (one c) now)) × ((d : Cast) → Has d cs → d.p ≡ p → ⊥)) → (phase_of p (pushed (all (c ∷ cs)) now) ≡ opens e v i) ⊎ ((phase_of p (pushed (all (c ∷ cs)) now) ≡ phase_of p now) × ((d : Cast) → Has d (c ∷ cs) → d.p ≡ p → ⊥))
+      by : (phase_of p (pushed (all cs) (pushed (one c) now)) ≡ opens e v i) ⊎ ((phase_of p (pushed (all cs) (pushed (one c) now)) ≡ phase_of p (pushed (one c) now)) × ((d : Cast) → Has d cs → d.provider ≡ p → ⊥)) → (phase_of p (pushed (all (c ∷ cs)) now) ≡ opens e v i) ⊎ ((phase_of p (pushed (all (c ∷ cs)) now) ≡ phase_of p now) × ((d : Cast) → Has d (c ∷ cs) → d.provider ≡ p → ⊥))
       by (inl z) = inl (ap (phase_of p) (joined c cs now) ∙ z)
-      by (inr z) = own (same_provider c.p p) refl z.0 z.1
+      by (inr z) = own (same_provider c.provider p) refl z.0 z.1
 
   one_phased : (p : ProviderId) (o : Option (ProtoId × ℕ × BallotView)) (now : List Happened) → ((y : ProtoId × ℕ × BallotView) → o ≡ Some y → (opens_phase e ≡ true) × (opens e v i ≡ Some (record { proto = y.0; phase = y.1 }))) → Within Phased now before → Within Phased (pushed (notice p ∷ cast_records p o) now) before
   unfolding cast_records cast_record
@@ -155,4 +155,4 @@ module _ (v : ViewId) (h : List ℕ) (i : ℕ) (e : Entry) (st : GroupState) (be
   pub opens_law : (cs : List Cast) (now : List Happened) → ((c : Cast) → Has c cs → (y : ProtoId × ℕ × BallotView) → c.cast ≡ Some y → (opens_phase e ≡ true) × (opens e v i ≡ Some (record { proto = y.0; phase = y.1 }))) → Within Phased now before → Within Phased (pushed (all cs) now) before
   opens_law [] now k law = law
   opens_law (c ∷ cs) now k law =
-      subst (λ l. Within Phased l before) (sym (joined c cs now)) (opens_law cs (pushed (one c) now) (λ d z. k d (inr z)) (one_phased c.p c.cast now (k c (inl refl)) law))
+      subst (λ l. Within Phased l before) (sym (joined c cs now)) (opens_law cs (pushed (one c) now) (λ d z. k d (inr z)) (one_phased c.provider c.cast now (k c (inl refl)) law))

@@ -17,4 +17,4 @@ WhoIsLetGoHearsNothing = (c : Config) (w : Scene) → Recounted c w → EachReco
 -- and whoever is a provider of a node that is up was not let go
 abbrev pub ProvidersWereNotLetGo : Type 0
 ProvidersWereNotLetGo =
-    (c : Config) (w : Scene) → Recounted c w → (n : ℕ) (s : Core) → w.cores n ≡ Some s → (x : Provider) → Has x s.sessions.providers → was_let_go x.p w.before ≡ false
+    (c : Config) (w : Scene) → Recounted c w → (n : ℕ) (s : Core) → w.cores n ≡ Some s → (x : Provider) → Has x s.sessions.providers → was_let_go x.provider w.before ≡ false

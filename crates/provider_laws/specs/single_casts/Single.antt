@@ -59,7 +59,7 @@ ProvidersCastAfterNotice = (c : Config) (w : Scene) → Reached c w → CastsAft
 
 -- two ballots of one provider, protocol and phase
 abbrev pub SameBallot : KeptBallot → KeptBallot → Type 0
-SameBallot a b = (a.p ≡ b.p) × (a.proto ≡ b.proto) × (a.phase ≡ b.phase)
+SameBallot a b = (a.provider ≡ b.provider) × (a.proto ≡ b.proto) × (a.phase ≡ b.phase)
 
 -- no two of them are
 abbrev pub Apart : List KeptBallot → Type 0
@@ -73,7 +73,7 @@ OneBallotKept = (c : Config) (w : Scene) → Reached c w → (n : ℕ) (s : Core
 -- a node keeps the ballot of a provider for a phase as it was cast, so with one filling
 abbrev pub BallotsKeptAsCast : Type 0
 BallotsKeptAsCast =
-    (c : Config) (w : Scene) → Reached c w → (n : ℕ) (s : Core) → w.cores n ≡ Some s → (a b : KeptBallot) → Has a s.sessions.kept → Has b s.sessions.kept → a.p ≡ b.p → a.proto ≡ b.proto → a.phase ≡ b.phase → a.ballot.filled ≡ b.ballot.filled
+    (c : Config) (w : Scene) → Reached c w → (n : ℕ) (s : Core) → w.cores n ≡ Some s → (a b : KeptBallot) → Has a s.sessions.kept → Has b s.sessions.kept → a.provider ≡ b.provider → a.proto ≡ b.proto → a.phase ≡ b.phase → a.ballot.filled ≡ b.ballot.filled
 
 abbrev pub ProvidersHearPhasesOnce : Type 0
 ProvidersHearPhasesOnce = (c : Config) (w : Scene) → Reached c w → PhasesOpenOnce w.before

@@ -70,7 +70,7 @@ module _ (gone now : ProviderId → Type 0) (on : (p : ProviderId) → gone p �
 
   while_on : (st : GroupState) (t : TallyView) (run : Option Running) → TallyWhile gone st t run → TallyWhile now st t run
   while_on st t None k = tt
-  while_on st t (Some run) k = record { default = k.default; voters = λ x i. voter_on st x.p x.vote (k.voters x i) }
+  while_on st t (Some run) k = record { default = k.default; voters = λ x i. voter_on st x.provider x.vote (k.voters x i) }
 
   fails_on : (st : GroupState) (t : Option TallyView) → TallyFails gone st t → TallyFails now st t
   fails_on st None k = tt
@@ -87,7 +87,7 @@ module _ (gone now : ProviderId → Type 0) (on : (p : ProviderId) → gone p �
 
   pub queue_on : (led : Bool) (fs : List Failure) (st : GroupState) → QueueIs gone led fs st → QueueIs now led fs st
   queue_on led fs st (inl e) = inl e
-  queue_on led fs st (inr k) = inr (k.0, λ f i. waits_on st f.p f.cause (k.1 f i))
+  queue_on led fs st (inr k) = inr (k.0, λ f i. waits_on st f.provider f.cause (k.1 f i))
 
 -- ---- between events
 
@@ -99,7 +99,7 @@ pub record CoreFails (h : History) (s : Core) : Type 0 where
   pub queues : (g : List ℕ) → QueueIs (GoneCause h s.views.view g) (leads_row s (found s g)) (found s g).led.waiting.failures (state_in (found s g).list)
   pub apart : (g : List ℕ) → joiners_fit (state_in (found s g).list) ≡ true
   pub own : (p : ProviderId) → p.node ≡ s.views.me → p.inc ≡ s.views.inc → list_any (asks_join p) (records_of h) ≡ true → Lives (SaidGoodbye h) s.sessions (records_of h) p
-  pub mine : (x : Provider) → Has x s.sessions.providers → x.p.node ≡ s.views.me
+  pub mine : (x : Provider) → Has x s.sessions.providers → x.provider.node ≡ s.views.me
   pub owners : Owned (λ p. client_of p h) s.sessions
   pub whys : (g : List ℕ) → Whys (found s g).led
   pub takers : Takers s.views.me s.sessions (records_of h)
@@ -134,7 +134,7 @@ core_on m e h s me all k =
       mine = k.mine;
       whys = k.whys;
       takers = takers_more s.views.me s.sessions e.records (records_of h) k.takers;
-      owners = owned_slim (λ p. client_of p h) (λ p. client_of p (e ∷ h)) s.sessions s.sessions (λ x i. ap (λ b. if b then joining_client e.event else client_of x.p h) (none_any x.p e.records (λ r j. other_asks m x.p r (k.mine x i ∙ me) (all r j)))) (slim_same s.sessions s.sessions refl refl refl) k.owners;
+      owners = owned_slim (λ p. client_of p h) (λ p. client_of p (e ∷ h)) s.sessions s.sessions (λ x i. ap (λ b. if b then joining_client e.event else client_of x.provider h) (none_any x.provider e.records (λ r j. other_asks m x.provider r (k.mine x i ∙ me) (all r j)))) (slim_same s.sessions s.sessions refl refl refl) k.owners;
     }
 
 -- a node of a scene is who it is

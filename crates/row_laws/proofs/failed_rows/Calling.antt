@@ -74,11 +74,11 @@ module _ (h : History) (said : ProviderId → Type 0) (origin : Origin) (free : 
   abbrev Mine : Core → Type 0
   Mine s = (p : ProviderId) → IsLive s.sessions p → p.node ≡ s.views.me
 
-  at_last_asked : (s : Core) (o : Option Request) → ((q : Request) → o ≡ Some q → IsLive s.sessions q.p) → Mine s → Full s → Full (ask_last s o)
+  at_last_asked : (s : Core) (o : Option Request) → ((q : Request) → o ≡ Some q → IsLive s.sessions q.provider) → Mine s → Full s → Full (ask_last s o)
   unfolding ask_last
   at_last_asked s None live mine a = a
   at_last_asked s (Some q) live mine a =
-      at_request_sent h said origin P L M Every NoGroup Every _ q (at_asked h said origin P L M Every NoGroup Every free s q.p q.r q.group q.proposal (live q refl) (mine q.p (live q refl)) a)
+      at_request_sent h said origin P L M Every NoGroup Every _ q (at_asked h said origin P L M Every NoGroup Every free s q.provider q.request q.group q.proposal (live q refl) (mine q.provider (live q refl)) a)
 
   abbrev MineAfter : Core → Result SessionState GsFault → Type 0
   MineAfter s (Ok t) = (p : ProviderId) → IsLive t p → p.node ≡ s.views.me
@@ -92,7 +92,7 @@ module _ (h : History) (said : ProviderId → Type 0) (origin : Origin) (free : 
   at_cast : (s : Core) (k : KeptBallot) (b : Option Filled) → Full s → Full (record_ballot s k b)
   unfolding record_ballot
   at_cast s k None a = a
-  at_cast s k (Some b) a = at_recorded h said origin P L M Every NoGroup Every s (happened.Cast k.p k.proto k.phase b.vote b.value b.message) tt a
+  at_cast s k (Some b) a = at_recorded h said origin P L M Every NoGroup Every s (happened.Cast k.provider k.proto k.phase b.vote b.value b.message) tt a
 
   at_cast_sent : (s : Core) (k : KeptBallot) (b : Bool) → Full s → Full (ballot_sent_if s k b)
   unfolding ballot_sent_if
@@ -110,11 +110,11 @@ module _ (h : History) (said : ProviderId → Type 0) (origin : Origin) (free : 
   at_ballot s client (Err f) none keeps takes a = refused_at s client f none a
 
   -- GONE is sent for each provider that a goodbye ends
-  at_gone_sent : (s : Core) (x : Provider) → said x.p → Full s → Full (send_gone s x)
+  at_gone_sent : (s : Core) (x : Provider) → said x.provider → Full s → Full (send_gone s x)
   unfolding send_gone
-  at_gone_sent s x ok a = at_sent_if_known h said origin P L M Every NoGroup Every s (leader_of s x.group) (body.Gone s.views.view x.group x.p) (inl ok) a
+  at_gone_sent s x ok a = at_sent_if_known h said origin P L M Every NoGroup Every s (leader_of s x.group) (body.Gone s.views.view x.group x.provider) (inl ok) a
 
-  at_all_gone : (s : Core) (xs : List Provider) → ((x : Provider) → Has x xs → said x.p) → Full s → Full (send_all_gone s xs)
+  at_all_gone : (s : Core) (xs : List Provider) → ((x : Provider) → Has x xs → said x.provider) → Full s → Full (send_all_gone s xs)
   unfolding send_all_gone
   at_all_gone s xs ok a = by (frozen s)
     where
@@ -126,17 +126,17 @@ module _ (h : History) (said : ProviderId → Type 0) (origin : Origin) (free : 
   Ends s xs (Ok t) = OwnFor h said origin.born t s
   Ends s xs (Err f) = Unit {0}
 
-  at_goodbye : (s : Core) (client : List ℕ) (xs : List Provider) (r : Result SessionState GsFault) → (M → IsTaken r) → (IsTaken r → (x : Provider) → Has x xs → said x.p) → Ends s xs r → NoTaker s.sessions r → Full s → Full (goodbye_said s client xs r)
+  at_goodbye : (s : Core) (client : List ℕ) (xs : List Provider) (r : Result SessionState GsFault) → (M → IsTaken r) → (IsTaken r → (x : Provider) → Has x xs → said x.provider) → Ends s xs r → NoTaker s.sessions r → Full s → Full (goodbye_said s client xs r)
   unfolding goodbye_said
   at_goodbye s client xs (Ok t) taken ok ends takes a = at_all_gone (with_sessions s t) xs (ok tt) (at_sessions h said origin P L M Every NoGroup Every s t (slim_free origin.root t s.records free) ends (λ p y q part. a.takers p y (takes p y q part) part) a)
   at_goodbye s client xs (Err f) taken ok ends takes a = refused_at s client f (λ m. taken m) a
 
   -- whom a goodbye ends it is said of
-  ended_own : (s : Core) (t : ClientToken) → ((x : Provider) → Has x (filter (is_client_of t) s.sessions.providers) → said x.p) → Full s → OwnFor h said origin.born (end_session s.sessions t) s
+  ended_own : (s : Core) (t : ClientToken) → ((x : Provider) → Has x (filter (is_client_of t) s.sessions.providers) → said x.provider) → Full s → OwnFor h said origin.born (end_session s.sessions t) s
   unfolding end_session
   ended_own s t ok a p node inc asked = by (a.own p node inc asked)
     where
-      here : (x : Provider) → Has x s.sessions.providers → x.p ≡ p → (b : Bool) → is_client_of t x ≡ b → Lives said (end_session s.sessions t) (reverse s.records ++ records_of h) p
+      here : (x : Provider) → Has x s.sessions.providers → x.provider ≡ p → (b : Bool) → is_client_of t x ≡ b → Lives said (end_session s.sessions t) (reverse s.records ++ records_of h) p
       here x i e true c = inr (inl (subst said e (ok x (filter_has (is_client_of t) x s.sessions.providers i c))))
       here x i e false c = inl (x, filter_has (λ x. not (is_client_of t x)) x s.sessions.providers i (ap not c), e)
 
@@ -144,15 +144,15 @@ module _ (h : History) (said : ProviderId → Type 0) (origin : Origin) (free : 
       by (inl k) = here k.0 k.1 k.2 (is_client_of t k.0) refl
       by (inr k) = inr k
 
-  goodbye_ends : (s : Core) (client : List ℕ) → (Taken s.sessions (call.Goodbye client) → (x : Provider) → Has x (Ended s.sessions (call.Goodbye client)) → said x.p) → Full s → Ends s (Ended s.sessions (call.Goodbye client)) (goodbye_taken s.sessions (client_token s.sessions client))
+  goodbye_ends : (s : Core) (client : List ℕ) → (Taken s.sessions (call.Goodbye client) → (x : Provider) → Has x (Ended s.sessions (call.Goodbye client)) → said x.provider) → Full s → Ends s (Ended s.sessions (call.Goodbye client)) (goodbye_taken s.sessions (client_token s.sessions client))
   unfolding goodbye_taken
   goodbye_ends s client ok a = by (client_fault s.sessions (client_token s.sessions client)) ok
     where
-      by : (o : Option GsFault) → (IsTaken (unless_fault o (end_session s.sessions (client_token s.sessions client))) → (x : Provider) → Has x (Ended s.sessions (call.Goodbye client)) → said x.p) → Ends s (Ended s.sessions (call.Goodbye client)) (unless_fault o (end_session s.sessions (client_token s.sessions client)))
+      by : (o : Option GsFault) → (IsTaken (unless_fault o (end_session s.sessions (client_token s.sessions client))) → (x : Provider) → Has x (Ended s.sessions (call.Goodbye client)) → said x.provider) → Ends s (Ended s.sessions (call.Goodbye client)) (unless_fault o (end_session s.sessions (client_token s.sessions client)))
       by None ok = ended_own s (client_token s.sessions client) (ok tt) a
       by (Some f) ok = tt
 
-  goodbye_taker : (s : Core) (client : List ℕ) → ((a b : Provider) → Has a s.sessions.providers → Has b s.sessions.providers → a.p ≡ b.p → a.client ≡ b.client) → NoTaker s.sessions (goodbye_taken s.sessions (client_token s.sessions client))
+  goodbye_taker : (s : Core) (client : List ℕ) → ((a b : Provider) → Has a s.sessions.providers → Has b s.sessions.providers → a.provider ≡ b.provider → a.client ≡ b.client) → NoTaker s.sessions (goodbye_taken s.sessions (client_token s.sessions client))
   unfolding goodbye_taken
   goodbye_taker s client owner = by (client_fault s.sessions (client_token s.sessions client))
     where
@@ -166,11 +166,11 @@ module _ (h : History) (said : ProviderId → Type 0) (origin : Origin) (free : 
   joined_mine s t g instance attrs mine me = by (join_fault s.sessions t g attrs)
     where
       new : Provider
-      new = record { p = new_provider s.sessions instance; client = t; group = g; takes_part = false; opened = None }
+      new = record { provider = new_provider s.sessions instance; client = t; group = g; takes_part = false; opened = None }
 
-      one : (p : ProviderId) (x : Provider) → Has x s.sessions.providers ⊎ Has x (new ∷ []) → x.p ≡ p → p.node ≡ s.views.me
+      one : (p : ProviderId) (x : Provider) → Has x s.sessions.providers ⊎ Has x (new ∷ []) → x.provider ≡ p → p.node ≡ s.views.me
       one p x (inl i) e = mine p (x, i, e)
-      one p x (inr (inl q)) e = ap (λ (z : ProviderId). z.node) (sym e) ∙ ap (λ (z : Provider). z.p.node) q ∙ me
+      one p x (inr (inl q)) e = ap (λ (z : ProviderId). z.node) (sym e) ∙ ap (λ (z : Provider). z.provider.node) q ∙ me
       one p x (inr (inr z)) e = absurd z
 
       by : (o : Option GsFault) → MineAfter s (unless_fault o (join_asked s.sessions t g instance attrs))
@@ -186,7 +186,7 @@ module _ (h : History) (said : ProviderId → Type 0) (origin : Origin) (free : 
   same_mine s (Ok t) mine e = λ p k. mine p (k.0, subst (Has k.0) e k.1, k.2)
   same_mine s (Err f) mine e = tt
 
-  pub at_call : (s : Core) (c : CallLine) → (M → Taken s.sessions c) → (Taken s.sessions c → (x : Provider) → Has x (Ended s.sessions c) → said x.p) → Mine s → ((a b : Provider) → Has a s.sessions.providers → Has b s.sessions.providers → a.p ≡ b.p → a.client ≡ b.client) → s.sessions.me ≡ s.views.me → Full s → Full (take_call s c)
+  pub at_call : (s : Core) (c : CallLine) → (M → Taken s.sessions c) → (Taken s.sessions c → (x : Provider) → Has x (Ended s.sessions c) → said x.provider) → Mine s → ((a b : Provider) → Has a s.sessions.providers → Has b s.sessions.providers → a.provider ≡ b.provider → a.client ≡ b.client) → s.sessions.me ≡ s.views.me → Full s → Full (take_call s c)
   unfolding take_call
   at_call s (call.Init node name votes) m ok mine owner me a = at_changed s name (inited s.sessions name) m (inited_lives s.sessions name) (same_taker s.sessions (inited s.sessions name) (inited_same s.sessions name)) a
   at_call s (call.Join client g instance attrs) m ok mine owner me a = at_proposed s client (joined s.sessions (client_token s.sessions client) g instance attrs) m (joined_lives s.sessions (client_token s.sessions client) g instance attrs) (joined_taker s.sessions (client_token s.sessions client) g instance attrs) (joined_mine s (client_token s.sessions client) g instance attrs mine me) a

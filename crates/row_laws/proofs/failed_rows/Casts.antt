@@ -54,9 +54,9 @@ casts_are st source out q = by (cast_outs st.members source) q
     by [] q = absurd (reflects_not st source st.members out q)
     by (f ∷ fs) q = cc
 
-pub due_casts : (gone : ProviderId → Type 0) (s : Core) (st : GroupState) (k : List ℕ) (out : List Failure) → st.attrs.source ≡ Some k → target.due st (known_state s k) ≡ Some (due.CastOut out) → (x : Failure) → Has x out → (among st.members x.p ≡ true) × CauseHolds gone (λ k. state_in (found s k).list) st x.p x.cause
+pub due_casts : (gone : ProviderId → Type 0) (s : Core) (st : GroupState) (k : List ℕ) (out : List Failure) → st.attrs.source ≡ Some k → target.due st (known_state s k) ≡ Some (due.CastOut out) → (x : Failure) → Has x out → (among st.members x.provider ≡ true) × CauseHolds gone (λ k. state_in (found s k).list) st x.provider x.cause
 unfolding cast_outs
 due_casts gone s st k out e d x i =
     let j = has_map cast_out x (filter (lacks_source (known_state s k)) st.members) (subst (Has x) (sym (casts_are st (known_state s k) out d)) i) in
     let l = has_filter (lacks_source (known_state s k)) j.0 st.members j.1 in
-    subst (λ (z : Failure). (among st.members z.p ≡ true) × CauseHolds gone (λ k. state_in (found s k).list) st z.p z.cause) (sym j.2) (has_among st.members j.0 l.0, record { group = k; named = e; lacks = known_allows s k (j.0).node ∙ not-true (allowed (known_state s k) (j.0).node) l.1 })
+    subst (λ (z : Failure). (among st.members z.provider ≡ true) × CauseHolds gone (λ k. state_in (found s k).list) st z.provider z.cause) (sym j.2) (has_among st.members j.0 l.0, record { group = k; named = e; lacks = known_allows s k (j.0).node ∙ not-true (allowed (known_state s k) (j.0).node) l.1 })

@@ -77,7 +77,7 @@ unfolding failures_begin
 failures_none zero f s g o few q = none_left (waiting_of s g) few
 failures_none (suc n) f s g o few q =
     let st : GroupState = state_of s g in
-    let out : List Failure = filter (λ (x : Failure). among st.members x.p) (next_failures st.attrs.batch (led_of s g).waiting) in
+    let out : List Failure = filter (λ (x : Failure). among st.members x.provider) (next_failures st.attrs.batch (led_of s g).waiting) in
     let t : Core = with_waiting s g (failures_left st.attrs.batch) in
     let fewer : length (waiting_of t g) ≤ n = subst (λ (z : WaitingView). length z.failures ≤ n) (sym (waits_here s g (failures_left st.attrs.batch) o)) (left_fewer (batches_failures st.attrs.batch) n (waiting_of s g) few) in
     by t out st (is_empty out) (failures_none n f t g (order_here s g (failures_left st.attrs.batch) o) fewer) q
@@ -109,7 +109,7 @@ pub with_has : (d : Decision) (xs : List Decision) (z : Decision) → Has z (dec
 unfolding decisions_with
 with_has d [] z (inl e) = inl e
 with_has d [] z (inr a) = absurd a
-with_has d (x ∷ xs) z h = by (same_provider x.p d.p) h (with_has d xs z)
+with_has d (x ∷ xs) z h = by (same_provider x.provider d.provider) h (with_has d xs z)
   where
     by : (b : Bool) → Has z (elim b as (λ _. List Decision) [ true ↦ d ∷ xs | false ↦ x ∷ decisions_with d xs ]) → (Has z (decisions_with d xs) → (z ≡ d) ⊎ Has z xs) → (z ≡ d) ⊎ Has z (x ∷ xs)
     by true (inl e) rest = inl e
@@ -126,7 +126,7 @@ module _ (h : History) (said : ProviderId → Type 0) (origin : Origin) (P L M :
     at_decision s g p r y fine a = at_led h said origin P L M T G Q s g (λ l. record l { decided = decisions_with it l.decided }) (λ l. refl) (λ l. refl) (λ l. refl) (λ l k d i. ⊎_elim (λ (e : d ≡ it). subst (λ (z : Decision). Fairly z.why) (sym e) fine) (k d) (with_has it l.decided d i)) a
       where
         it : Decision
-        it = record { p = p; r = r; why = y }
+        it = record { provider = p; request = r; why = y }
 
     pub at_refused : (s : Core) (g : List ℕ) (p : ProviderId) (r : ℕ) (y : Why) → is_dissolved y ≡ false → At h said origin P L M T G Q s → At h said origin P L M T G Q (refused s g p r y)
     unfolding refused
@@ -153,11 +153,11 @@ module _ (h : History) (said : ProviderId → Type 0) (origin : Origin) (P L M :
 
     module _ (f : Answering) (g : List ℕ) (t : T g) (led : G g) (q : Q g) where
       -- those who are chosen and are members fail with their cause
-      chosen_fail : (s : Core) (c : Core) → BasesFit s.records → At h said origin P L M T G Q s → c.views.view ≡ s.views.view → state_in (found c g).list ≡ state_in (found s g).list → (b : Bool) → LeavesFail (GoneCause h c.views.view g) (λ k. state_in (found c k).list) (state_in (found c g).list) (Fail (filter (λ (x : Failure). among (state_in (found s g).list).members x.p) (chosen_of b (waiting_of s g))))
+      chosen_fail : (s : Core) (c : Core) → BasesFit s.records → At h said origin P L M T G Q s → c.views.view ≡ s.views.view → state_in (found c g).list ≡ state_in (found s g).list → (b : Bool) → LeavesFail (GoneCause h c.views.view g) (λ k. state_in (found c k).list) (state_in (found c g).list) (Fail (filter (λ (x : Failure). among (state_in (found s g).list).members x.provider) (chosen_of b (waiting_of s g))))
       chosen_fail s c fit a view same b x i =
-          let j = has_filter (λ (x : Failure). among (state_in (found s g).list).members x.p) x (chosen_of b (waiting_of s g)) i in
-          let w : Waits (GoneCause h s.views.view g) (state_in (found s g).list) x.p x.cause = queue_all h said origin P L M T G Q (GoneCause h s.views.view g) (leads_row s (found s g)) (waiting_of s g) (state_in (found s g).list) (a.queues fit g q) x (chosen_has b (waiting_of s g) x j.0) in
-          (ap (λ (z : GroupState). among z.members x.p) same ∙ j.1, cause x.p x.cause j.1 w)
+          let j = has_filter (λ (x : Failure). among (state_in (found s g).list).members x.provider) x (chosen_of b (waiting_of s g)) i in
+          let w : Waits (GoneCause h s.views.view g) (state_in (found s g).list) x.provider x.cause = queue_all h said origin P L M T G Q (GoneCause h s.views.view g) (leads_row s (found s g)) (waiting_of s g) (state_in (found s g).list) (a.queues fit g q) x (chosen_has b (waiting_of s g) x j.0) in
+          (ap (λ (z : GroupState). among z.members x.provider) same ∙ j.1, cause x.provider x.cause j.1 w)
         where
           cause : (p : ProviderId) (y : Cause) → among (state_in (found s g).list).members p ≡ true → Waits (GoneCause h s.views.view g) (state_in (found s g).list) p y → CauseHolds (GoneCause h c.views.view g) (λ k. state_in (found c k).list) (state_in (found c g).list) p y
           cause p Died m w = ap (λ (z : GroupState). among z.failed p) same ∙ stays_failed (state_in (found s g).list) p w m
@@ -169,12 +169,12 @@ module _ (h : History) (said : ProviderId → Type 0) (origin : Origin) (P L M :
       at_failures zero s a = a
       at_failures (suc n) s a =
           let st : GroupState = state_in (found s g).list in
-          let out : List Failure = filter (λ (x : Failure). among st.members x.p) (next_failures st.attrs.batch (found s g).led.waiting) in
+          let out : List Failure = filter (λ (x : Failure). among st.members x.provider) (next_failures st.attrs.batch (found s g).led.waiting) in
           let c : Core = with_waiting s g (failures_left st.attrs.batch) in
           let k : At h said origin P L M T G Q c = at_waiting h said origin P L M T G Q s g (failures_left st.attrs.batch) (λ fit w. inr (a.led g led, λ x i. queue_all h said origin P L M T G Q (GoneCause h s.views.view g) (leads_row s (found s g)) (waiting_of s g) st (a.queues fit g w) x (left_has (batches_failures st.attrs.batch) (waiting_of s g) x i))) a in
           by c out st (is_empty out) (begins_well st) k (at_failures n c k)
         where
-          begins_well : (st : GroupState) → Begins h said origin P L M T G Q (with_waiting s g (failures_left (state_in (found s g).list).attrs.batch)) g (Fail (filter (λ (x : Failure). among (state_in (found s g).list).members x.p) (next_failures (state_in (found s g).list).attrs.batch (found s g).led.waiting)))
+          begins_well : (st : GroupState) → Begins h said origin P L M T G Q (with_waiting s g (failures_left (state_in (found s g).list).attrs.batch)) g (Fail (filter (λ (x : Failure). among (state_in (found s g).list).members x.provider) (next_failures (state_in (found s g).list).attrs.batch (found s g).led.waiting)))
           begins_well st fit = chosen_fail s (with_waiting s g (failures_left (state_in (found s g).list).attrs.batch)) fit a refl (state_here s g (failures_left (state_in (found s g).list).attrs.batch) a.order) (batches_failures (state_in (found s g).list).attrs.batch)
 
           by : (c : Core) (out : List Failure) (st : GroupState) (b : Bool) → Begins h said origin P L M T G Q c g (Fail out) → At h said origin P L M T G Q c → At h said origin P L M T G Q (failures_begin n f c g).core → At h said origin P L M T G Q (elim b as (λ _. Pass) [ true ↦ failures_begin n f c g | false ↦ begun_now (begins f c g (Fail out) st.attrs.phases) ]).core
@@ -205,7 +205,7 @@ module _ (h : History) (said : ProviderId → Type 0) (origin : Origin) (P L M :
       free_refused s p r y fine k =
           record {
             at = at_refused s g p r y fine k.at;
-            none = ap (λ (z : GroupRow). z.led.waiting.failures) (row_here g (λ row. record row { led = record (row.led) { decided = decisions_with (record { p = p; r = r; why = Some y }) row.led.decided } }) (λ x. refl) s (k.at).order) ∙ k.none;
+            none = ap (λ (z : GroupRow). z.led.waiting.failures) (row_here g (λ row. record row { led = record (row.led) { decided = decisions_with (record { provider = p; request = r; why = Some y }) row.led.decided } }) (λ x. refl) s (k.at).order) ∙ k.none;
           }
 
       free_all : (source : Option (List ℕ)) (ps : List ProviderId) (s : Core) → Free s → Free (fold (λ c (p : ProviderId). refused c g p p.join (NoSource (source_len c source))) s ps)

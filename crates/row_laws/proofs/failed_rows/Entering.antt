@@ -370,19 +370,19 @@ module _ (h : History) (said : ProviderId → Type 0) (origin : Origin) (P L M :
     inside_if : (t : Core) (g : List ℕ) (p : ProviderId) (o : Option Provider) → provider_of t.sessions p ≡ o → Has p (present (state_in (found s g).list)) → Inside t → Inside (dissolved_if t g s.views.view (base_named bases g) o)
     unfolding dissolved_if provider_of
     inside_if t g p None e there k = k
-    inside_if t g p (Some x) e there k = by x.takes_part refl (bytes_eq x.group g) refl (is_in_base s.views.view x.p (base_named bases g)) refl
+    inside_if t g p (Some x) e there k = by x.takes_part refl (bytes_eq x.group g) refl (is_in_base s.views.view x.provider (base_named bases g)) refl
       where
-        same : x.p ≡ p
-        same = provider_same x.p p (find_has (is_provider p) t.sessions.providers x e).1
+        same : x.provider ≡ p
+        same = provider_same x.provider p (find_has (is_provider p) t.sessions.providers x e).1
 
-        by : (a : Bool) → x.takes_part ≡ a → (b : Bool) → bytes_eq x.group g ≡ b → (c : Bool) → is_in_base s.views.view x.p (base_named bases g) ≡ c → Inside (elim (a && b && not c) as (λ _. Core) [ true ↦ dissolved t x.p (number_of (outstanding t.sessions x.p)) | false ↦ t ])
+        by : (a : Bool) → x.takes_part ≡ a → (b : Bool) → bytes_eq x.group g ≡ b → (c : Bool) → is_in_base s.views.view x.provider (base_named bases g) ≡ c → Inside (elim (a && b && not c) as (λ _. Core) [ true ↦ dissolved t x.provider (number_of (outstanding t.sessions x.provider)) | false ↦ t ])
         by false part b y c q = k
         by true part false y c q = k
         by true part true y true q = k
         by true part true y false q =
-            inside_dissolved t x.p (number_of (outstanding t.sessions x.p)) (λ node inc. cut_of t g x.p k node inc (subst (λ z. Has z (present (state_in (found s g).list))) (sym same) there) q joined) k
+            inside_dissolved t x.provider (number_of (outstanding t.sessions x.provider)) (λ node inc. cut_of t g x.provider k node inc (subst (λ z. Has z (present (state_in (found s g).list))) (sym same) there) q joined) k
           where
-            joined : JoinedIn s.views.me x.p g (reverse t.records ++ records_of h)
+            joined : JoinedIn s.views.me x.provider g (reverse t.records ++ records_of h)
             joined =
                 subst (λ (z : ℕ × ProviderId × List ℕ). JoinedIn z.0 z.1 z.2 (reverse t.records ++ records_of h)) (λ j. (k.me j, sym same j, text_same x.group g y j)) ((k.at).takers p x e part)
 

@@ -46,7 +46,7 @@ VoterFails gone st p (Some v) = RowFails gone st p v
 -- the default votes of a tally are the state's, and who failed in it has a cause
 pub record TallyRuns (gone : ProviderId → Type 0) (st : GroupState) (t : TallyView) : Type 0 where
   pub default : t.default_vote ≡ st.attrs.default_vote
-  pub voters : (x : Voter) → Has x t.voters → VoterFails gone st x.p x.vote
+  pub voters : (x : Voter) → Has x t.voters → VoterFails gone st x.provider x.vote
 
 abbrev pub TallyWhile : (ProviderId → Type 0) → GroupState → TallyView → Option Running → Type 0
 TallyWhile gone st t None = Unit {0}
@@ -67,7 +67,7 @@ Waits gone st p Gone = gone p
 Waits gone st p Cast = ⊥
 
 abbrev pub AllWait : (ProviderId → Type 0) → GroupState → List Failure → Type 0
-AllWait gone st fs = (f : Failure) → Has f fs → Waits gone st f.p f.cause
+AllWait gone st fs = (f : Failure) → Has f fs → Waits gone st f.provider f.cause
 
 abbrev pub QueueIs : (ProviderId → Type 0) → Bool → List Failure → GroupState → Type 0
 QueueIs gone led fs st = (fs ≡ []) ⊎ ((led ≡ true) × AllWait gone st fs)

@@ -186,7 +186,7 @@ module _ (h : History) (said : ProviderId → Type 0) (origin : Origin) (P L M :
 
   -- a join that is outstanding has the number of its provider's join, and its node did not put it
   abbrev Numbered : Core → Type 0
-  Numbered s = (q : Request) → Has q s.sessions.requests → is_join q.proposal ≡ true → IsRefused (reverse s.records ++ records_of h) q.p q.r
+  Numbered s = (q : Request) → Has q s.sessions.requests → is_join q.proposal ≡ true → IsRefused (reverse s.records ++ records_of h) q.provider q.request
 
   at_told_if : (s : Core) (p : ProviderId) (r : ℕ) (y : Why) (b : Bool) → (b ≡ true → (is_join_request (outstanding s.sessions p) ≡ true) ⊎ (is_dissolved y ≡ true) → IsRefused (reverse s.records ++ records_of h) p r) → Full s → Full (told_if s p r y b)
   unfolding told_if
@@ -201,7 +201,7 @@ module _ (h : History) (said : ProviderId → Type 0) (origin : Origin) (P L M :
       joins None e n j = absurd (cc)
       joins (Some q) e n j =
           let k = find_has (is_asked_by p) s.sessions.requests q e in
-          subst (λ (z : ProviderId × ℕ). IsRefused (reverse s.records ++ records_of h) z.0 z.1) (λ i. (provider_same q.p p k.1 i, eqb-true q.r r n i)) (numbered q k.0 j)
+          subst (λ (z : ProviderId × ℕ). IsRefused (reverse s.records ++ records_of h) z.0 z.1) (λ i. (provider_same q.provider p k.1 i, eqb-true q.request r n i)) (numbered q k.0 j)
 
       ends : is_numbered r (find (is_asked_by p) s.sessions.requests) ≡ true → (is_join_request (find (is_asked_by p) s.sessions.requests) ≡ true) ⊎ (is_dissolved y ≡ true) → IsRefused (reverse s.records ++ records_of h) p r
       ends n (inl j) = joins (find (is_asked_by p) s.sessions.requests) refl n j
@@ -215,28 +215,28 @@ module _ (h : History) (said : ProviderId → Type 0) (origin : Origin) (P L M :
       told : Happened
       told = happened.Told p r y
 
-      later : IsRefused (reverse s.records ++ records_of h) q.p q.r → IsRefused (reverse (s.records ++ told ∷ []) ++ records_of h) q.p q.r
-      later z = subst (λ rs. IsRefused (rs ++ records_of h) q.p q.r) (sym (reverse-append s.records (told ∷ []))) (record { join = z.join; in_view = z.in_view; unput = other z })
+      later : IsRefused (reverse s.records ++ records_of h) q.provider q.request → IsRefused (reverse (s.records ++ told ∷ []) ++ records_of h) q.provider q.request
+      later z = subst (λ rs. IsRefused (rs ++ records_of h) q.provider q.request) (sym (reverse-append s.records (told ∷ []))) (record { join = z.join; in_view = z.in_view; unput = other z })
         where
-          other : IsRefused (reverse s.records ++ records_of h) q.p q.r → (v : ViewId) (g : List ℕ) (i : ℕ) (e : Entry) → Has (happened.Put q.p.node v g i e) (told ∷ (reverse s.records ++ records_of h)) → is_join_of q.p e ≡ true → ⊥
-          other z v g i e (inl w) = let x : happened.Put q.p.node v g i e ≡ happened.Told p r y = w in absurd (cc)
+          other : IsRefused (reverse s.records ++ records_of h) q.provider q.request → (v : ViewId) (g : List ℕ) (i : ℕ) (e : Entry) → Has (happened.Put q.provider.node v g i e) (told ∷ (reverse s.records ++ records_of h)) → is_join_of q.provider e ≡ true → ⊥
+          other z v g i e (inl w) = let x : happened.Put q.provider.node v g i e ≡ happened.Told p r y = w in absurd (cc)
           other z v g i e (inr w) = z.unput v g i e w
 
-      by : (a b c : Bool) → Has q (told_if s p r y a).sessions.requests → IsRefused (reverse (told_if s p r y a).records ++ records_of h) q.p q.r
+      by : (a b c : Bool) → Has q (told_if s p r y a).sessions.requests → IsRefused (reverse (told_if s p r y a).records ++ records_of h) q.provider q.request
       by false b c i = k q i j
       by true b c i = later (k q (fewer i) j)
         where
           fewer : Has q (take_telling s.sessions p r y).requests → Has q s.sessions.requests
           fewer i = at (takes_telling s.sessions p r y) (is_join_request (outstanding s.sessions p) || is_dissolved y) i
             where
-              at : (b c : Bool) → Has q (if b then (if c then without_providers s.sessions (p ∷ []) else record (s.sessions) { requests = filter (λ (q : Request). not (among (p ∷ []) q.p)) s.sessions.requests }) else s.sessions).requests → Has q s.sessions.requests
+              at : (b c : Bool) → Has q (if b then (if c then without_providers s.sessions (p ∷ []) else record (s.sessions) { requests = filter (λ (q : Request). not (among (p ∷ []) q.provider)) s.sessions.requests }) else s.sessions).requests → Has q s.sessions.requests
               at false c i = i
-              at true true i = (has_filter (λ (q : Request). not (among (p ∷ []) q.p)) q s.sessions.requests i).0
-              at true false i = (has_filter (λ (q : Request). not (among (p ∷ []) q.p)) q s.sessions.requests i).0
+              at true true i = (has_filter (λ (q : Request). not (among (p ∷ []) q.provider)) q s.sessions.requests i).0
+              at true false i = (has_filter (λ (q : Request). not (among (p ∷ []) q.provider)) q s.sessions.requests i).0
 
-  all_told : (qs : List Request) (s : Core) → Numbered s → Full s → Full (fold (λ t (q : Request). take_tell t q.p q.r (GroupsFull 64)) s qs)
+  all_told : (qs : List Request) (s : Core) → Numbered s → Full s → Full (fold (λ t (q : Request). take_tell t q.provider q.request (GroupsFull 64)) s qs)
   all_told [] s k a = a
-  all_told (q ∷ qs) s k a = all_told qs (take_tell s q.p q.r (GroupsFull 64)) (told_numbered s q.p q.r (GroupsFull 64) k) (at_tell s q.p q.r (GroupsFull 64) refl k a)
+  all_told (q ∷ qs) s k a = all_told qs (take_tell s q.provider q.request (GroupsFull 64)) (told_numbered s q.provider q.request (GroupsFull 64) k) (at_tell s q.provider q.request (GroupsFull 64) refl k a)
 
   unled : (s : Core) (g : List ℕ) → is_none (leader_in s (found s g)) ≡ true → leads_row s (found s g) ≡ true → ⊥
   unfolding leader_in
@@ -307,7 +307,7 @@ module _ (h : History) (said : ProviderId → Type 0) (origin : Origin) (P L M :
     at_request_at : (p : ProviderId) (r : ℕ) (phases : Phases) (x : Proposal) (o : Option Decision) → ((d : Decision) → o ≡ Some d → Fairly d.why) → NoFailure x → Full s → Full (request_at f s g p r phases x o)
     unfolding request_at
     at_request_at p r phases x None fine asks a = at_request_new p r phases x asks a
-    at_request_at p r phases x (Some d) fine asks a = at_request_after p r phases x d (nat_lt r d.r) (r == d.r) (fine d refl) asks a
+    at_request_at p r phases x (Some d) fine asks a = at_request_after p r phases x d (nat_lt r d.request) (r == d.request) (fine d refl) asks a
 
     pub at_request : (from : ℕ) (p : ProviderId) (r : ℕ) (phases : Phases) (x : Proposal) → NoFailure x → Full s → Full (take_request f s from g p r phases x)
     unfolding take_request decision_of led_of row_of
@@ -315,7 +315,7 @@ module _ (h : History) (said : ProviderId → Type 0) (origin : Origin) (P L M :
       where
         by : (b : Bool) → Full (elim b as (λ _. Core) [ true ↦ sent s from (body.Name s.views.view g 0) | false ↦ request_at f s g p r phases x (decision_of (led_of s g) p) ])
         by true = at_sent h said origin P L M Every NoGroup Every s from (body.Name s.views.view g 0) tt a
-        by false = at_request_at p r phases x (decision_of (led_of s g) p) (λ d e. a.whys g d (find_has (λ (y : Decision). same_provider y.p p) (found s g).led.decided d e).0) asks a
+        by false = at_request_at p r phases x (decision_of (led_of s g) p) (λ d e. a.whys g d (find_has (λ (y : Decision). same_provider y.provider p) (found s g).led.decided d e).0) asks a
 
   -- ---- ENTRY and ACK
 

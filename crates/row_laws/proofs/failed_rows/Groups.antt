@@ -55,7 +55,7 @@ module _ (c : Config) (w : Scene) (n : ℕ) (f : Answering) (s : Core) (e : Node
   after g = rests_in c (ended w n v t) next g
 
   -- its providers are of its incarnation
-  own : (x : Provider) → Has x s.sessions.providers → x.p.inc ≡ s.sessions.inc
+  own : (x : Provider) → Has x s.sessions.providers → x.provider.inc ≡ s.sessions.inc
   own x i =
       let here : NodeIs (rests []).ghost [] n s = (subst (NodeIsIf w.config (rests []).ghost [] n (w.incs n)) up ((rests []).nodes n)).0 in
       (here.owes.providers x i).1 ∙ sym here.owes.inc_of

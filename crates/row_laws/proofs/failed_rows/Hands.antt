@@ -55,7 +55,7 @@ casts_quiet p (Some x) r i = cast_quiet p x.0 x.1 (x.2).filled r i
 heard_quiet : (s : Core) (g : List ℕ) (i : ℕ) (e : Entry) (after : GroupState) (c : Cast) → AllQuiet (heard s g i e after c)
 unfolding heard
 heard_quiet s g i e after c r (inl q) = subst Quiet (sym q) tt
-heard_quiet s g i e after c r (inr j) = casts_quiet c.p c.cast r j
+heard_quiet s g i e after c r (inr j) = casts_quiet c.provider c.cast r j
 
 all_quiet : (s : Core) (g : List ℕ) (i : ℕ) (e : Entry) (after : GroupState) (cs : List Cast) → AllQuiet (flat_map (heard s g i e after) cs)
 all_quiet s g i e after [] r j = absurd j
@@ -63,7 +63,7 @@ all_quiet s g i e after (c ∷ cs) r j =
     ⊎_elim (λ (k : Has r (heard s g i e after c)). heard_quiet s g i e after c r k) (λ (k : Has r (flat_map (heard s g i e after) cs)). all_quiet s g i e after cs r k) (has_append r (heard s g i e after c) (flat_map (heard s g i e after) cs) j)
 
 -- each who hears casts, or casts nothing, and what it hears is recorded
-cast_there : (e : Entry) (after : GroupState) (level : ℕ) (ps : List ProviderId) (bs : List (Option Filled)) (p : ProviderId) → Has p ps → (c : Cast) × Has c (casts_of e after level ps bs) × (c.p ≡ p)
+cast_there : (e : Entry) (after : GroupState) (level : ℕ) (ps : List ProviderId) (bs : List (Option Filled)) (p : ProviderId) → Has p ps → (c : Cast) × Has c (casts_of e after level ps bs) × (c.provider ≡ p)
 unfolding cast_of
 cast_there e after level [] bs p i = absurd i
 cast_there e after level (q ∷ ps) [] p (inl k) = (cast_of e after level q None, inl refl, sym k)
@@ -71,13 +71,13 @@ cast_there e after level (q ∷ ps) [] p (inr i) = let k = cast_there e after le
 cast_there e after level (q ∷ ps) (b ∷ bs) p (inl k) = (cast_of e after level q b, inl refl, sym k)
 cast_there e after level (q ∷ ps) (b ∷ bs) p (inr i) = let k = cast_there e after level ps bs p i in (k.0, inr k.1, k.2)
 
-cast_heard : (s : Core) (g : List ℕ) (i : ℕ) (e : Entry) (after : GroupState) (cs : List Cast) (c : Cast) → Has c cs → Has (happened.Heard c.p s.views.view g i e after.members after.value) (flat_map (heard s g i e after) cs)
+cast_heard : (s : Core) (g : List ℕ) (i : ℕ) (e : Entry) (after : GroupState) (cs : List Cast) (c : Cast) → Has c cs → Has (happened.Heard c.provider s.views.view g i e after.members after.value) (flat_map (heard s g i e after) cs)
 unfolding heard
 cast_heard s g i e after [] c j = absurd j
 cast_heard s g i e after (d ∷ cs) c (inl q) =
-    append_has_left (happened.Heard c.p s.views.view g i e after.members after.value) (heard s g i e after d) (flat_map (heard s g i e after) cs) (inl (ap (λ (z : Cast). happened.Heard z.p s.views.view g i e after.members after.value) q))
+    append_has_left (happened.Heard c.provider s.views.view g i e after.members after.value) (heard s g i e after d) (flat_map (heard s g i e after) cs) (inl (ap (λ (z : Cast). happened.Heard z.provider s.views.view g i e after.members after.value) q))
 cast_heard s g i e after (d ∷ cs) c (inr j) =
-    append_has_right (happened.Heard c.p s.views.view g i e after.members after.value) (heard s g i e after d) (flat_map (heard s g i e after) cs) (cast_heard s g i e after cs c j)
+    append_has_right (happened.Heard c.provider s.views.view g i e after.members after.value) (heard s g i e after d) (flat_map (heard s g i e after) cs) (cast_heard s g i e after cs c j)
 
 heard_there : (s : Core) (g : List ℕ) (i : ℕ) (before : GroupState) (e : Entry) (after : GroupState) (p : ProviderId) (bs : List (Option Filled)) → Has p (hearers s.sessions g before e) → Has (happened.Heard p s.views.view g i e after.members after.value) (flat_map (heard s g i e after) (casts_out s.sessions g before after e bs))
 unfolding casts_out

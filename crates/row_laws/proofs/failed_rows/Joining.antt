@@ -61,7 +61,7 @@ first_asks p rs r b none e = ap (λ z. list_any (asks_join p) (reverse (z ++ r �
 pub record Asks (s u : SessionState) : Type 0 where
   pub request : Request
   pub last : last_or None u.requests ≡ Some request
-  pub number : request.r ≡ s.last_request + 1
+  pub number : request.request ≡ s.last_request + 1
   pub providers : u.providers ≡ s.providers
   pub sessions : u.sessions ≡ s.sessions
   pub clients : u.last_client ≡ s.last_client
@@ -71,7 +71,7 @@ unfolding asked
 asked_asks s x phases make o u e = subst (Asks s) (sym (unless_is o (asked s x phases make) u e)) (record { request = q; last = last_is s.requests q None; number = refl; providers = refl; sessions = refl; clients = refl })
   where
     q : Request
-    q = record { p = x.p; r = s.last_request + 1; group = x.group; phases = phases; proposal = make (s.last_request + 1) }
+    q = record { provider = x.provider; request = s.last_request + 1; group = x.group; phases = phases; proposal = make (s.last_request + 1) }
 
 pub if_asks : (s : SessionState) (b : Bool) (r : Result SessionState GsFault) (u : SessionState) → (r ≡ Ok u → Asks s u) → if_session b r ≡ Ok u → Asks s u
 if_asks s true r u k e = absurd (cc)
@@ -83,7 +83,7 @@ member_made s (Some x) phases f make u e = asked_asks s x phases (make x) (ask_f
 
 pub member_changed : (s : SessionState) (o : Option Provider) (phases : Phases) (attrs : Attrs) (u : SessionState) → member_changes s o phases attrs ≡ Ok u → Asks s u
 member_changed s None phases attrs u e = absurd (cc)
-member_changed s (Some x) phases attrs u e = asked_asks s x phases (λ r. Attributes x.p r attrs) _ u e
+member_changed s (Some x) phases attrs u e = asked_asks s x phases (λ r. Attributes x.provider r attrs) _ u e
 
 pub made_asks : (s : SessionState) (m : MemberToken) (phases : Phases) (f : Option GsFault) (make : Provider → ℕ → Proposal) (u : SessionState) → request_made s m phases f make ≡ Ok u → Asks s u
 unfolding request_made
@@ -99,9 +99,9 @@ module _ (of : ProviderId → Option (List ℕ)) (c : CallLine) where
   abbrev Now : Core → Type 0
   Now t = Owned (client_now of c t.records) t.sessions
 
-  quiet_now : (t : Core) → ((x : Provider) → Has x t.sessions.providers → list_any (asks_join x.p) (reverse t.records) ≡ false) → Owned of t.sessions → Now t
+  quiet_now : (t : Core) → ((x : Provider) → Has x t.sessions.providers → list_any (asks_join x.provider) (reverse t.records) ≡ false) → Owned of t.sessions → Now t
   quiet_now t none k =
-      owned_slim of (client_now of c t.records) t.sessions t.sessions (λ x i. ap (λ b. if b then is_join_call c else of x.p) (none x i)) (slim_same t.sessions t.sessions refl refl refl) k
+      owned_slim of (client_now of c t.records) t.sessions t.sessions (λ x i. ap (λ b. if b then is_join_call c else of x.provider) (none x i)) (slim_same t.sessions t.sessions refl refl refl) k
 
   sends_now : (s t : Core) → Sends s t → Now s → Now t
   sends_now s t e k = subst (λ (z : SessionState × List Happened). Owned (client_now of c z.1) z.0) (λ i. (sym e.sessions i, sym e.records i)) k
@@ -109,11 +109,11 @@ module _ (of : ProviderId → Option (List ℕ)) (c : CallLine) where
   -- nothing is recorded
   silent_now : (s : Core) (u : SessionState) → s.records ≡ [] → Owned of u → Now (with_sessions s u)
   unfolding with_sessions
-  silent_now s u none k = quiet_now (record s { sessions = u }) (λ x i. ap (λ z. list_any (asks_join x.p) (reverse z)) none) k
+  silent_now s u none k = quiet_now (record s { sessions = u }) (λ x i. ap (λ z. list_any (asks_join x.provider) (reverse z)) none) k
 
-  recorded_now : (s : Core) (r : Happened) → s.records ≡ [] → ((x : Provider) → Has x s.sessions.providers → asks_join x.p r ≡ false) → Owned of s.sessions → Now (recorded s r)
+  recorded_now : (s : Core) (r : Happened) → s.records ≡ [] → ((x : Provider) → Has x s.sessions.providers → asks_join x.provider r ≡ false) → Owned of s.sessions → Now (recorded s r)
   unfolding recorded
-  recorded_now s r none quiet k = quiet_now (record s { records = s.records ++ r ∷ [] }) (λ x i. first_asks x.p s.records r false none (quiet x i)) k
+  recorded_now s r none quiet k = quiet_now (record s { records = s.records ++ r ∷ [] }) (λ x i. first_asks x.provider s.records r false none (quiet x i)) k
 
   refused_now : (s : Core) (client : List ℕ) (f : GsFault) → s.records ≡ [] → Owned of s.sessions → Now (refuse_call s client f)
   unfolding refuse_call
@@ -124,12 +124,12 @@ module _ (of : ProviderId → Option (List ℕ)) (c : CallLine) where
   changed_now s client (Ok u) none taken k = silent_now s u none (taken u refl)
   changed_now s client (Err f) none taken k = refused_now s client f none k
 
-  asked_now : (s : Core) (client : List ℕ) (r : Result SessionState GsFault) → s.records ≡ [] → ((x : Provider) → Has x s.sessions.providers → x.p.join ≤ s.sessions.last_request) → ((u : SessionState) → r ≡ Ok u → Asks s.sessions u) → Owned of s.sessions → Now (proposed s client r)
+  asked_now : (s : Core) (client : List ℕ) (r : Result SessionState GsFault) → s.records ≡ [] → ((x : Provider) → Has x s.sessions.providers → x.provider.join ≤ s.sessions.last_request) → ((u : SessionState) → r ≡ Ok u → Asks s.sessions u) → Owned of s.sessions → Now (proposed s client r)
   unfolding proposed ask_last with_sessions
   asked_now s client (Err f) none low asks k = refused_now s client f none k
   asked_now s client (Ok u) none low asks k =
       let d : Core = record s { sessions = u } in
-      let a : Happened = happened.Asked q.p q.r q.group q.proposal in
+      let a : Happened = happened.Asked q.provider q.request q.group q.proposal in
       subst (λ o. Now (ask_last d o)) (sym j.last) (sends_now (recorded d a) (send_request (recorded d a) q) (request_sends (recorded d a) q) (recorded_now d a none (λ x i. late x (subst (Has x) j.providers i)) (owned_slim of of s.sessions u (λ x i. refl) (slim_same s.sessions u j.providers j.sessions j.clients) k)))
     where
       j : Asks s.sessions u
@@ -138,22 +138,22 @@ module _ (of : ProviderId → Option (List ℕ)) (c : CallLine) where
       q : Request
       q = j.request
 
-      late : (x : Provider) → Has x s.sessions.providers → (same_provider q.p x.p && (q.r == x.p.join)) ≡ false
-      late x i = by (same_provider q.p x.p) (q.r == x.p.join) refl
+      late : (x : Provider) → Has x s.sessions.providers → (same_provider q.provider x.provider && (q.request == x.provider.join)) ≡ false
+      late x i = by (same_provider q.provider x.provider) (q.request == x.provider.join) refl
         where
-          by : (a b : Bool) → (q.r == x.p.join) ≡ b → (a && b) ≡ false
+          by : (a b : Bool) → (q.request == x.provider.join) ≡ b → (a && b) ≡ false
           by false b e = refl
           by true false e = refl
-          by true true e = absurd (let l = low x i in let n = j.number in let z = eqb-true q.r x.p.join e in omega (arith, l, n, z))
+          by true true e = absurd (let l = low x i in let n = j.number in let z = eqb-true q.request x.provider.join e in omega (arith, l, n, z))
 
   cast_now : (s : Core) (o : Option KeptBallot) → s.records ≡ [] → Owned of s.sessions → Now (cast_last s o)
   unfolding cast_last record_ballot ballot_sent_if
-  cast_now s None none k = quiet_now s (λ x i. ap (λ z. list_any (asks_join x.p) (reverse z)) none) k
+  cast_now s None none k = quiet_now s (λ x i. ap (λ z. list_any (asks_join x.provider) (reverse z)) none) k
   cast_now s (Some b) none k = sent (record_ballot s b b.ballot.filled) (frozen s) (kept b.ballot.filled)
     where
       kept : (o : Option Filled) → Now (record_ballot s b o)
-      kept None = quiet_now s (λ x i. ap (λ z. list_any (asks_join x.p) (reverse z)) none) k
-      kept (Some f) = recorded_now s (happened.Cast b.p b.proto b.phase f.vote f.value f.message) none (λ x i. refl) k
+      kept None = quiet_now s (λ x i. ap (λ z. list_any (asks_join x.provider) (reverse z)) none) k
+      kept (Some f) = recorded_now s (happened.Cast b.provider b.proto b.phase f.vote f.value f.message) none (λ x i. refl) k
 
       sent : (t : Core) (z : Bool) → Now t → Now (ballot_sent_if t b z)
       sent t true a = a
@@ -173,7 +173,7 @@ module _ (of : ProviderId → Option (List ℕ)) (c : CallLine) where
   said_now s client xs (Err f) none taken k = refused_now s client f none k
 
 -- a join: its provider is of the client that calls
-module _ (of : ProviderId → Option (List ℕ)) (s : Core) (client g : List ℕ) (instance : ℕ) (attrs : Attrs) (none : s.records ≡ []) (low : (x : Provider) → Has x s.sessions.providers → x.p.join ≤ s.sessions.last_request) (k : Owned of s.sessions) where
+module _ (of : ProviderId → Option (List ℕ)) (s : Core) (client g : List ℕ) (instance : ℕ) (attrs : Attrs) (none : s.records ≡ []) (low : (x : Provider) → Has x s.sessions.providers → x.provider.join ≤ s.sessions.last_request) (k : Owned of s.sessions) where
   abbrev joins : CallLine
   joins = call.Join client g instance attrs
 
@@ -181,27 +181,27 @@ module _ (of : ProviderId → Option (List ℕ)) (s : Core) (client g : List ℕ
   new = new_provider s.sessions instance
 
   abbrev next : Provider
-  next = record { p = new; client = client_token s.sessions client; group = g; takes_part = false; opened = None }
+  next = record { provider = new; client = client_token s.sessions client; group = g; takes_part = false; opened = None }
 
   abbrev request : Request
-  request = record { p = new; r = s.sessions.last_request + 1; group = g; phases = One; proposal = Join (new ∷ []) attrs None }
+  request = record { provider = new; request = s.sessions.last_request + 1; group = g; phases = One; proposal = Join (new ∷ []) attrs None }
 
   abbrev asks : Happened
   asks = happened.Asked new (s.sessions.last_request + 1) g (Join (new ∷ []) attrs None)
 
-  its_own : client_fault s.sessions (client_token s.sessions client) ≡ None → (x : Provider) → Has x s.sessions.providers ⊎ Has x (next ∷ []) → (y : Session) × Has y s.sessions.sessions × (y.token.n ≡ x.client.n) × (client_now of joins (s.records ++ asks ∷ []) x.p ≡ Some y.name)
-  its_own ok x (inl i) = let o = k.owner x i in (o.0, o.1, o.2, ap (λ b. if b then Some client else of x.p) (first_asks x.p s.records asks false none (late x i)) ∙ o.3)
+  its_own : client_fault s.sessions (client_token s.sessions client) ≡ None → (x : Provider) → Has x s.sessions.providers ⊎ Has x (next ∷ []) → (y : Session) × Has y s.sessions.sessions × (y.token.number ≡ x.client.number) × (client_now of joins (s.records ++ asks ∷ []) x.provider ≡ Some y.name)
+  its_own ok x (inl i) = let o = k.owner x i in (o.0, o.1, o.2, ap (λ b. if b then Some client else of x.provider) (first_asks x.provider s.records asks false none (late x i)) ∙ o.3)
     where
-      late : (x : Provider) → Has x s.sessions.providers → (same_provider new x.p && ((s.sessions.last_request + 1) == x.p.join)) ≡ false
-      late x i = by (same_provider new x.p) ((s.sessions.last_request + 1) == x.p.join) refl
+      late : (x : Provider) → Has x s.sessions.providers → (same_provider new x.provider && ((s.sessions.last_request + 1) == x.provider.join)) ≡ false
+      late x i = by (same_provider new x.provider) ((s.sessions.last_request + 1) == x.provider.join) refl
         where
-          by : (a b : Bool) → ((s.sessions.last_request + 1) == x.p.join) ≡ b → (a && b) ≡ false
+          by : (a b : Bool) → ((s.sessions.last_request + 1) == x.provider.join) ≡ b → (a && b) ≡ false
           by false b e = refl
           by true false e = refl
-          by true true e = absurd (let l = low x i in let z = eqb-true (s.sessions.last_request + 1) x.p.join e in omega (arith, l, z))
+          by true true e = absurd (let l = low x i in let z = eqb-true (s.sessions.last_request + 1) x.provider.join e in omega (arith, l, z))
   its_own ok x (inr (inl e)) =
       let y = known_session s.sessions client k.low ok in
-      (y.0, y.1, y.2 ∙ ap (λ (z : Provider). z.client.n) (sym e), ap (λ (z : Provider). client_now of joins (s.records ++ asks ∷ []) z.p) e ∙ ap (λ b. if b then Some client else of new) (first_asks new s.records asks true none now) ∙ ap (λ (z : List ℕ). Some z) (sym y.3))
+      (y.0, y.1, y.2 ∙ ap (λ (z : Provider). z.client.number) (sym e), ap (λ (z : Provider). client_now of joins (s.records ++ asks ∷ []) z.provider) e ∙ ap (λ b. if b then Some client else of new) (first_asks new s.records asks true none now) ∙ ap (λ (z : List ℕ). Some z) (sym y.3))
     where
       now : (same_provider new new && ((s.sessions.last_request + 1) == (s.sessions.last_request + 1))) ≡ true
       now = λ i. provider_self new i && eq-eqb (s.sessions.last_request + 1) (s.sessions.last_request + 1) refl i
@@ -215,7 +215,7 @@ module _ (of : ProviderId → Option (List ℕ)) (s : Core) (client g : List ℕ
       let d : Core = record s { sessions = u } in
       subst (λ o. Now of joins (ask_last d o)) (sym (last_is s.sessions.requests request None)) (sends_now of joins (recorded d asks) (send_request (recorded d asks) request) (request_sends (recorded d asks) request) (record { owner = λ x i. its_own (known refl) x (has_append x s.sessions.providers (next ∷ []) i); low = k.low; high = k.high; single = k.single }))
 
-pub call_now : (of : ProviderId → Option (List ℕ)) (c : CallLine) (s : Core) → s.records ≡ [] → ((x : Provider) → Has x s.sessions.providers → x.p.join ≤ s.sessions.last_request) → Owned of s.sessions → Owned (client_now of c (take_call s c).records) (take_call s c).sessions
+pub call_now : (of : ProviderId → Option (List ℕ)) (c : CallLine) (s : Core) → s.records ≡ [] → ((x : Provider) → Has x s.sessions.providers → x.provider.join ≤ s.sessions.last_request) → Owned of s.sessions → Owned (client_now of c (take_call s c).records) (take_call s c).sessions
 unfolding take_call inited joined join_fault left expelled state_changed message_sent subscribe_taken unsubscribe_taken goodbye_taken
 call_now of (call.Init node name votes) s none low k =
     changed_now of (call.Init node name votes) s name _ none (λ u e. subst (Owned of) (sym (unless_is (init_fault s.sessions name) (add_session s.sessions name) u e)) (owned_added of s.sessions name k)) k
@@ -253,7 +253,7 @@ abbrev pub OneAsk : SessionState → List Happened → Type 0
 OneAsk s rs =
     (p : ProviderId) (r : ℕ) (g : List ℕ) (x : Proposal) → Has (happened.Asked p r g x) rs → (rs ≡ happened.Asked p r g x ∷ []) × (r ≡ s.last_request + 1) × (p.inc ≡ s.inc)
 
-module _ (s : Core) (none : s.records ≡ []) (own : (x : Provider) → Has x s.sessions.providers → x.p.inc ≡ s.sessions.inc) where
+module _ (s : Core) (none : s.records ≡ []) (own : (x : Provider) → Has x s.sessions.providers → x.provider.inc ≡ s.sessions.inc) where
   abbrev OneOf : List Happened → Type 0
   OneOf rs = OneAsk s.sessions rs
 
@@ -291,15 +291,15 @@ module _ (s : Core) (none : s.records ≡ []) (own : (x : Provider) → Has x s.
       q = j.request
 
       a : Happened
-      a = happened.Asked q.p q.r q.group q.proposal
+      a = happened.Asked q.provider q.request q.group q.proposal
 
-      inc : q.p.inc ≡ s.sessions.inc
+      inc : q.provider.inc ≡ s.sessions.inc
       inc = let k = new q j.last in sym (ap (λ (z : ProviderId). z.inc) k.2) ∙ own k.0 (subst (Has k.0) j.providers k.1)
 
       at : (p : ProviderId) (r : ℕ) (g : List ℕ) (x : Proposal) → Has (happened.Asked p r g x) (a ∷ []) → (a ∷ [] ≡ happened.Asked p r g x ∷ []) × (r ≡ s.sessions.last_request + 1) × (p.inc ≡ s.sessions.inc)
       at p r g x (inl e) =
-          let who : p ≡ q.p = cc in
-          let number : r ≡ q.r = cc in
+          let who : p ≡ q.provider = cc in
+          let number : r ≡ q.request = cc in
           (ap (λ z. z ∷ []) (sym e), number ∙ j.number, ap (λ (z : ProviderId). z.inc) who ∙ inc)
       at p r g x (inr z) = absurd z
 
@@ -310,7 +310,7 @@ module _ (s : Core) (none : s.records ≡ []) (own : (x : Provider) → Has x s.
     where
       kept : (o : Option Filled) → OneOf (record_ballot c b o).records
       kept None = one_silent c.records e
-      kept (Some f) = one_other c.records (happened.Cast b.p b.proto b.phase f.vote f.value f.message) e (λ p k g x q. cc)
+      kept (Some f) = one_other c.records (happened.Cast b.provider b.proto b.phase f.vote f.value f.message) e (λ p k g x q. cc)
 
       sent : (t : Core) (z : Bool) → OneOf t.records → OneOf (ballot_sent_if t b z).records
       sent t true k = k
@@ -337,7 +337,7 @@ module _ (s : Core) (none : s.records ≡ []) (own : (x : Provider) → Has x s.
       new = new_provider s.sessions instance
 
       request : Request
-      request = record { p = new; r = s.sessions.last_request + 1; group = g; phases = One; proposal = Join (new ∷ []) attrs None }
+      request = record { provider = new; request = s.sessions.last_request + 1; group = g; phases = One; proposal = Join (new ∷ []) attrs None }
 
       d : Core
       d = record s { sessions = join_asked s.sessions (client_token s.sessions client) g instance attrs }
@@ -371,7 +371,7 @@ pub message_asks : (s : SessionState) (m : MemberToken) (phases : Phases) (bytes
 unfolding message_sent
 message_asks s m phases bytes = made_asks s m phases _ _
 
-pub one_call : (c : CallLine) (s : Core) → s.records ≡ [] → ((x : Provider) → Has x s.sessions.providers → x.p.inc ≡ s.sessions.inc) → OneAsk s.sessions (take_call s c).records
+pub one_call : (c : CallLine) (s : Core) → s.records ≡ [] → ((x : Provider) → Has x s.sessions.providers → x.provider.inc ≡ s.sessions.inc) → OneAsk s.sessions (take_call s c).records
 unfolding take_call joined
 one_call (call.Init node name votes) s none own = one_changed s none own name (inited s.sessions name)
 one_call (call.Join client g instance attrs) s none own = one_joined s none own client g instance attrs (join_fault s.sessions (client_token s.sessions client) g attrs)

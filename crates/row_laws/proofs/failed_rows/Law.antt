@@ -134,7 +134,7 @@ module _ (w : Scene) (n : ℕ) (f : Answering) (s : Core) (e : NodeEvent) (v : E
       taken c q m = let z : Calls (call.Goodbye m.0) ≡ Calls c = sym m.1 ∙ q in
           let y : call.Goodbye m.0 ≡ c = cc in subst (Taken s.sessions) y m.2
 
-      goodbye : (c : CallLine) → e ≡ Calls c → Taken s.sessions c → (x : Provider) → Has x (Ended s.sessions c) → Said x.p
+      goodbye : (c : CallLine) → e ≡ Calls c → Taken s.sessions c → (x : Provider) → Has x (Ended s.sessions c) → Said x.provider
       goodbye (call.Goodbye client) q m x i =
           let j = has_filter (is_client_of (client_token s.sessions client)) x s.sessions.providers i in
           inl ((client, q, m), (here.owes.providers x j.0).0, goodbye_named (λ p. client_of p w.before) s.sessions client were.owners x j.0 j.1)
@@ -238,7 +238,7 @@ module _ (w : Scene) (n : ℕ) (f : Answering) (s : Core) (e : NodeEvent) (v : E
             mine = λ x i. (here.owes.providers x i).0 ∙ sym me;
             whys = at.whys;
             takers = at.takers;
-            owners = owned_slim (λ p. if list_any (asks_join p) (reverse root.records) then joining_client (Some v) else client_of p w.before) (λ p. client_of p (over v t ∷ w.before)) root.sessions t.sessions (λ x i. ap (λ b. if b then joining_client (Some v) else client_of x.p w.before) (at.slim.asks x.p)) at.slim.sessions (rooted e says);
+            owners = owned_slim (λ p. if list_any (asks_join p) (reverse root.records) then joining_client (Some v) else client_of p w.before) (λ p. client_of p (over v t ∷ w.before)) root.sessions t.sessions (λ x i. ap (λ b. if b then joining_client (Some v) else client_of x.provider w.before) (at.slim.asks x.provider)) at.slim.sessions (rooted e says);
           }
 
 -- ---- every scene

@@ -110,7 +110,7 @@ Leaves e fs = BringsNone e ⊎ (fs ≡ [])
 queue_on : (gone : ProviderId → Type 0) (led : Bool) (fs : List Failure) (st : GroupState) (v : ViewId) (i : ℕ) (e : Entry) → fits st e ≡ true → Leaves e fs → QueueIs gone led fs st → QueueIs gone led fs (after st v i e)
 queue_on gone led fs st v i e f (inr none) k = inl none
 queue_on gone led fs st v i e f (inl brings) (inl none) = inl none
-queue_on gone led fs st v i e f (inl brings) (inr k) = inr (k.0, λ x j. waits_on gone st v i e f brings x.p x.cause (k.1 x j))
+queue_on gone led fs st v i e f (inl brings) (inr k) = inr (k.0, λ x j. waits_on gone st v i e f brings x.provider x.cause (k.1 x j))
 
 module _ (h : History) (said : ProviderId → Type 0) (origin : Origin) (P L M : Type 0) where
   module _ (T G Q : List ℕ → Type 0) where

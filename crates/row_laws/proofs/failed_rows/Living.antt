@@ -41,39 +41,39 @@ use Rattle.row_laws.proofs.hearing.Handing.{among_is, has_among}
 
 -- the node has the provider
 abbrev pub IsLive : SessionState → ProviderId → Type 0
-IsLive t p = (x : Provider) × Has x t.providers × (x.p ≡ p)
+IsLive t p = (x : Provider) × Has x t.providers × (x.provider ≡ p)
 
 pub live_same : (s t : SessionState) (p : ProviderId) → t.providers ≡ s.providers → IsLive s p → IsLive t p
 live_same s t p e k = (k.0, subst (Has k.0) (sym e) k.1, k.2)
 
 -- ---- edits
 
-pub edited : (q : ProviderId) (f : Provider → Provider) → ((x : Provider) → (f x).p ≡ x.p) → (xs : List Provider) (x : Provider) → Has x xs → (y : Provider) × Has y (edit_where (is_provider q) f xs) × (y.p ≡ x.p)
+pub edited : (q : ProviderId) (f : Provider → Provider) → ((x : Provider) → (f x).provider ≡ x.provider) → (xs : List Provider) (x : Provider) → Has x xs → (y : Provider) × Has y (edit_where (is_provider q) f xs) × (y.provider ≡ x.provider)
 edited q f keeps [] x i = absurd i
 edited q f keeps (z ∷ zs) x i = by (is_provider q z) i (edited q f keeps zs x)
   where
-    by : (b : Bool) → Has x (z ∷ zs) → (Has x zs → (y : Provider) × Has y (edit_where (is_provider q) f zs) × (y.p ≡ x.p)) → (y : Provider) × Has y (if b then f z ∷ zs else z ∷ edit_where (is_provider q) f zs) × (y.p ≡ x.p)
-    by true (inl e) rest = (f z, inl refl, keeps z ∙ ap (λ (a : Provider). a.p) (sym e))
+    by : (b : Bool) → Has x (z ∷ zs) → (Has x zs → (y : Provider) × Has y (edit_where (is_provider q) f zs) × (y.provider ≡ x.provider)) → (y : Provider) × Has y (if b then f z ∷ zs else z ∷ edit_where (is_provider q) f zs) × (y.provider ≡ x.provider)
+    by true (inl e) rest = (f z, inl refl, keeps z ∙ ap (λ (a : Provider). a.provider) (sym e))
     by true (inr j) rest = (x, inr j, refl)
     by false (inl e) rest = (x, inl e, refl)
     by false (inr j) rest = let k = rest j in (k.0, inr k.1, k.2)
 
-pub live_edit : (s : SessionState) (q : ProviderId) (f : Provider → Provider) → ((x : Provider) → (f x).p ≡ x.p) → (p : ProviderId) → IsLive s p → IsLive (with_provider s q f) p
+pub live_edit : (s : SessionState) (q : ProviderId) (f : Provider → Provider) → ((x : Provider) → (f x).provider ≡ x.provider) → (p : ProviderId) → IsLive s p → IsLive (with_provider s q f) p
 unfolding with_provider
 live_edit s q f keeps p k = let z = edited q f keeps s.providers k.0 k.1 in (z.0, z.1, z.2 ∙ k.2)
 
-pub live_edits : (f : Provider → Provider) → ((x : Provider) → (f x).p ≡ x.p) → (p : ProviderId) (qs : List ProviderId) (s : SessionState) → IsLive s p → IsLive (fold (λ t q. with_provider t q f) s qs) p
+pub live_edits : (f : Provider → Provider) → ((x : Provider) → (f x).provider ≡ x.provider) → (p : ProviderId) (qs : List ProviderId) (s : SessionState) → IsLive s p → IsLive (fold (λ t q. with_provider t q f) s qs) p
 live_edits f keeps p [] s k = k
 live_edits f keeps p (q ∷ qs) s k = live_edits f keeps p qs (with_provider s q f) (live_edit s q f keeps p k)
 
 pub live_without : (s : SessionState) (out : List ProviderId) (p : ProviderId) → among out p ≡ false → IsLive s p → IsLive (without_providers s out) p
 unfolding without_providers
 live_without s out p off k =
-    (k.0, filter_has (λ (x : Provider). not (among out x.p)) k.0 s.providers k.1 (ap (λ z. not (among out z)) k.2 ∙ ap not off), k.2)
+    (k.0, filter_has (λ (x : Provider). not (among out x.provider)) k.0 s.providers k.1 (ap (λ z. not (among out z)) k.2 ∙ ap not off), k.2)
 
 -- ---- an entry is handed on
 
-pub opened_p : (e : Entry) (after : GroupState) (x : Provider) → (opened_after e after x).p ≡ x.p
+pub opened_p : (e : Entry) (after : GroupState) (x : Provider) → (opened_after e after x).provider ≡ x.provider
 unfolding opened_after
 opened_p (Once x) after y = refl
 opened_p _ after y = refl
@@ -130,7 +130,7 @@ told_lives s p r y q k = by (takes_telling s p r y) (is_join_request (outstandin
     gone b c why true e = inr (sym (provider_same p q e), why)
     gone b c why false e = inl (live_without s (p ∷ []) q (ap (λ z. z || false) e) k)
 
-    by : (a b c : Bool) → is_join_request (outstanding s p) ≡ b → is_dissolved y ≡ c → IsLive (if a then (if b || c then without_providers s (p ∷ []) else record s { requests = filter (λ (q : Request). not (among (p ∷ []) q.p)) s.requests }) else s) q ⊎ ((q ≡ p) × ((b ≡ true) ⊎ (c ≡ true)))
+    by : (a b c : Bool) → is_join_request (outstanding s p) ≡ b → is_dissolved y ≡ c → IsLive (if a then (if b || c then without_providers s (p ∷ []) else record s { requests = filter (λ (q : Request). not (among (p ∷ []) q.provider)) s.requests }) else s) q ⊎ ((q ≡ p) × ((b ≡ true) ⊎ (c ≡ true)))
     by false b c e f = inl k
     by true true c e f = gone true c (inl refl) (same_provider p q) refl
     by true false true e f = gone false true (inr refl) (same_provider p q) refl
@@ -145,7 +145,7 @@ NoLoss s (Err f) = Unit {0}
 
 -- and who asks last is there
 abbrev pub NewAsks : Result SessionState GsFault → Type 0
-NewAsks (Ok t) = (q : Request) → last_or None t.requests ≡ Some q → IsLive t q.p
+NewAsks (Ok t) = (q : Request) → last_or None t.requests ≡ Some q → IsLive t q.provider
 NewAsks (Err f) = Unit {0}
 
 pub last_is : {A : Type 0} (xs : List A) (x : A) (o : Option A) → last_or o (xs ++ x ∷ []) ≡ Some x
@@ -156,7 +156,7 @@ pub unless_loses : (s t : SessionState) (o : Option GsFault) → ((p : ProviderI
 unless_loses s t None k = k
 unless_loses s t (Some f) k = tt
 
-unless_asks : (t : SessionState) (o : Option GsFault) → ((q : Request) → last_or None t.requests ≡ Some q → IsLive t q.p) → NewAsks (unless_fault o t)
+unless_asks : (t : SessionState) (o : Option GsFault) → ((q : Request) → last_or None t.requests ≡ Some q → IsLive t q.provider) → NewAsks (unless_fault o t)
 unless_asks t None k = k
 unless_asks t (Some f) k = tt
 
@@ -174,14 +174,14 @@ unfolding joined join_asked
 joined_lives s t g instance attrs = (
   unless_loses s (join_asked s t g instance attrs) (join_fault s t g attrs) (λ p k. (k.0, append_has_left k.0 s.providers (new ∷ []) k.1, k.2)),
   unless_asks (join_asked s t g instance attrs) (join_fault s t g attrs) (λ q e. let z : Some asks ≡ Some q = sym (last_is s.requests asks None) ∙ e in
-      let y : asks ≡ q = cc in (new, append_has_right new s.providers (new ∷ []) (inl refl), ap (λ (a : Request). a.p) y)),
+      let y : asks ≡ q = cc in (new, append_has_right new s.providers (new ∷ []) (inl refl), ap (λ (a : Request). a.provider) y)),
 )
   where
     new : Provider
-    new = record { p = new_provider s instance; client = t; group = g; takes_part = false; opened = None }
+    new = record { provider = new_provider s instance; client = t; group = g; takes_part = false; opened = None }
 
     asks : Request
-    asks = record { p = new_provider s instance; r = s.last_request + 1; group = g; phases = One; proposal = Join (new_provider s instance ∷ []) attrs None }
+    asks = record { provider = new_provider s instance; request = s.last_request + 1; group = g; phases = One; proposal = Join (new_provider s instance ∷ []) attrs None }
 
 -- another request
 asked_lives : (s : SessionState) (x : Provider) (phases : Phases) (make : ℕ → Proposal) (o : Option GsFault) → Has x s.providers → NoLoss s (unless_fault o (asked s x phases make)) × NewAsks (unless_fault o (asked s x phases make))
@@ -189,11 +189,11 @@ unfolding asked
 asked_lives s x phases make o i = (
   unless_loses s (asked s x phases make) o (λ p k. k),
   unless_asks (asked s x phases make) o (λ q e. let z : Some asks ≡ Some q = sym (last_is s.requests asks None) ∙ e in
-      let y : asks ≡ q = cc in (x, i, ap (λ (a : Request). a.p) y)),
+      let y : asks ≡ q = cc in (x, i, ap (λ (a : Request). a.provider) y)),
 )
   where
     asks : Request
-    asks = record { p = x.p; r = s.last_request + 1; group = x.group; phases = phases; proposal = make (s.last_request + 1) }
+    asks = record { provider = x.provider; request = s.last_request + 1; group = x.group; phases = phases; proposal = make (s.last_request + 1) }
 
 made_lives : (s : SessionState) (m : MemberToken) (phases : Phases) (parameter : Option GsFault) (make : Provider → ℕ → Proposal) → NoLoss s (request_made s m phases parameter make) × NewAsks (request_made s m phases parameter make)
 unfolding request_made
@@ -207,19 +207,19 @@ made_lives s m phases parameter make =
 
 pub left_lives : (s : SessionState) (m : MemberToken) (phases : Phases) → NoLoss s (left s m phases) × NewAsks (left s m phases)
 unfolding left
-left_lives s m phases = made_lives s m phases None (λ x r. Leave x.p r)
+left_lives s m phases = made_lives s m phases None (λ x r. Leave x.provider r)
 
 pub expelled_lives : (s : SessionState) (m : MemberToken) (phases : Phases) (out : List ProviderId) → NoLoss s (expelled s m phases out) × NewAsks (expelled s m phases out)
 unfolding expelled
-expelled_lives s m phases out = made_lives s m phases (targets_fault out) (λ x r. Expel x.p r out)
+expelled_lives s m phases out = made_lives s m phases (targets_fault out) (λ x r. Expel x.provider r out)
 
 pub state_lives : (s : SessionState) (m : MemberToken) (phases : Phases) (value : List ℕ) → NoLoss s (state_changed s m phases value) × NewAsks (state_changed s m phases value)
 unfolding state_changed
-state_lives s m phases value = made_lives s m phases (value_fault s (Some value)) (λ x r. State x.p r value)
+state_lives s m phases value = made_lives s m phases (value_fault s (Some value)) (λ x r. State x.provider r value)
 
 pub message_lives : (s : SessionState) (m : MemberToken) (phases : Phases) (bytes : List ℕ) → NoLoss s (message_sent s m phases bytes) × NewAsks (message_sent s m phases bytes)
 unfolding message_sent
-message_lives s m phases bytes = made_lives s m phases (message_fault bytes) (λ x r. Message x.p r bytes)
+message_lives s m phases bytes = made_lives s m phases (message_fault bytes) (λ x r. Message x.provider r bytes)
 
 pub attributes_lives : (s : SessionState) (m : MemberToken) (phases : Phases) (attrs : Attrs) → NoLoss s (attributes_changed s m phases attrs) × NewAsks (attributes_changed s m phases attrs)
 unfolding attributes_changed
@@ -229,7 +229,7 @@ attributes_lives s m phases attrs =
   where
     by : (o : Option Provider) → find (is_member_of m) s.providers ≡ o → NoLoss s (member_changes s o phases attrs) × NewAsks (member_changes s o phases attrs)
     by None e = (tt, tt)
-    by (Some x) e = asked_lives s x phases (λ r. Attributes x.p r attrs) (ask_fault s x (attributes_fault (first_fault attrs x.group))) (find_has (is_member_of m) s.providers x e).0
+    by (Some x) e = asked_lives s x phases (λ r. Attributes x.provider r attrs) (ask_fault s x (attributes_fault (first_fault attrs x.group))) (find_has (is_member_of m) s.providers x e).0
 
 pub inited_lives : (s : SessionState) (name : List ℕ) → NoLoss s (inited s name)
 unfolding inited add_session
@@ -249,7 +249,7 @@ voted_lives s m v value = if_loses s (is_empty s.sessions) (member_votes s (find
   where
     opened : (x : Provider) (o : Option OpenPhase) → NoLoss s (vote_in s x v value o)
     opened x None = tt
-    opened x (Some o) = unless_loses s (keeps s x o (record { vote = v; value = value; message = None })) (fault_if (list_any (is_kept_for x.p o.proto o.phase) s.kept) fault.VoteNotExpected) (λ p k. k)
+    opened x (Some o) = unless_loses s (keeps s x o (record { vote = v; value = value; message = None })) (fault_if (list_any (is_kept_for x.provider o.proto o.phase) s.kept) fault.VoteNotExpected) (λ p k. k)
 
     within : (x : Provider) (b : Bool) → NoLoss s (if b then vote_in s x v value x.opened else Err (fault.BadParameter field.Value))
     within x true = opened x x.opened
@@ -283,19 +283,19 @@ made_same s m phases parameter make =
 
 pub left_same : (s : SessionState) (m : MemberToken) (phases : Phases) → SameProviders s (left s m phases)
 unfolding left
-left_same s m phases = made_same s m phases None (λ x r. Leave x.p r)
+left_same s m phases = made_same s m phases None (λ x r. Leave x.provider r)
 
 pub expelled_same : (s : SessionState) (m : MemberToken) (phases : Phases) (out : List ProviderId) → SameProviders s (expelled s m phases out)
 unfolding expelled
-expelled_same s m phases out = made_same s m phases (targets_fault out) (λ x r. Expel x.p r out)
+expelled_same s m phases out = made_same s m phases (targets_fault out) (λ x r. Expel x.provider r out)
 
 pub state_same : (s : SessionState) (m : MemberToken) (phases : Phases) (value : List ℕ) → SameProviders s (state_changed s m phases value)
 unfolding state_changed
-state_same s m phases value = made_same s m phases (value_fault s (Some value)) (λ x r. State x.p r value)
+state_same s m phases value = made_same s m phases (value_fault s (Some value)) (λ x r. State x.provider r value)
 
 pub message_same : (s : SessionState) (m : MemberToken) (phases : Phases) (bytes : List ℕ) → SameProviders s (message_sent s m phases bytes)
 unfolding message_sent
-message_same s m phases bytes = made_same s m phases (message_fault bytes) (λ x r. Message x.p r bytes)
+message_same s m phases bytes = made_same s m phases (message_fault bytes) (λ x r. Message x.provider r bytes)
 
 pub attributes_same : (s : SessionState) (m : MemberToken) (phases : Phases) (attrs : Attrs) → SameProviders s (attributes_changed s m phases attrs)
 unfolding attributes_changed asked
@@ -304,7 +304,7 @@ attributes_same s m phases attrs =
   where
     by : (o : Option Provider) → SameProviders s (member_changes s o phases attrs)
     by None = tt
-    by (Some x) = unless_same s (asked s x phases (λ r. Attributes x.p r attrs)) (ask_fault s x (attributes_fault (first_fault attrs x.group))) refl
+    by (Some x) = unless_same s (asked s x phases (λ r. Attributes x.provider r attrs)) (ask_fault s x (attributes_fault (first_fault attrs x.group))) refl
 
 pub inited_same : (s : SessionState) (name : List ℕ) → SameProviders s (inited s name)
 unfolding inited add_session
@@ -324,7 +324,7 @@ voted_same s m v value = if_same s (is_empty s.sessions) (member_votes s (find (
   where
     opened : (x : Provider) (o : Option OpenPhase) → SameProviders s (vote_in s x v value o)
     opened x None = tt
-    opened x (Some o) = unless_same s (keeps s x o (record { vote = v; value = value; message = None })) (fault_if (list_any (is_kept_for x.p o.proto o.phase) s.kept) fault.VoteNotExpected) refl
+    opened x (Some o) = unless_same s (keeps s x o (record { vote = v; value = value; message = None })) (fault_if (list_any (is_kept_for x.provider o.proto o.phase) s.kept) fault.VoteNotExpected) refl
 
     within : (x : Provider) (b : Bool) → SameProviders s (if b then vote_in s x v value x.opened else Err (fault.BadParameter field.Value))
     within x true = opened x x.opened
@@ -349,7 +349,7 @@ unfolding joined join_asked provider_of
 joined_taker s t g instance attrs = by (join_fault s t g attrs)
   where
     new : Provider
-    new = record { p = new_provider s instance; client = t; group = g; takes_part = false; opened = None }
+    new = record { provider = new_provider s instance; client = t; group = g; takes_part = false; opened = None }
 
     old : (xs : List Provider) (p : ProviderId) (y : Provider) → find (is_provider p) (xs ++ new ∷ []) ≡ Some y → y.takes_part ≡ true → find (is_provider p) xs ≡ Some y
     old [] p y q part = at (is_provider p new) q
@@ -371,7 +371,7 @@ joined_taker s t g instance attrs = by (join_fault s t g attrs)
 
 -- who is there was there, for the same client, and clients are the same
 pub record Slimmer (t u : SessionState) : Type 0 where
-  pub provs : (x : Provider) → Has x u.providers → (y : Provider) × Has y t.providers × (y.p ≡ x.p) × (y.client ≡ x.client)
+  pub provs : (x : Provider) → Has x u.providers → (y : Provider) × Has y t.providers × (y.provider ≡ x.provider) × (y.client ≡ x.client)
   pub names : u.sessions ≡ t.sessions
   pub last : u.last_client ≡ t.last_client
 
@@ -386,27 +386,27 @@ slim_then t u v a b =
       last = b.last ∙ a.last;
     }
 
-edited_back : (q : ProviderId) (f : Provider → Provider) → ((x : Provider) → (f x).p ≡ x.p) → ((x : Provider) → (f x).client ≡ x.client) → (xs : List Provider) (y : Provider) → Has y (edit_where (is_provider q) f xs) → (x : Provider) × Has x xs × (x.p ≡ y.p) × (x.client ≡ y.client)
+edited_back : (q : ProviderId) (f : Provider → Provider) → ((x : Provider) → (f x).provider ≡ x.provider) → ((x : Provider) → (f x).client ≡ x.client) → (xs : List Provider) (y : Provider) → Has y (edit_where (is_provider q) f xs) → (x : Provider) × Has x xs × (x.provider ≡ y.provider) × (x.client ≡ y.client)
 edited_back q f keeps clients [] y i = absurd i
 edited_back q f keeps clients (z ∷ zs) y i = by (is_provider q z) i (edited_back q f keeps clients zs y)
   where
-    by : (b : Bool) → Has y (if b then f z ∷ zs else z ∷ edit_where (is_provider q) f zs) → (Has y (edit_where (is_provider q) f zs) → (x : Provider) × Has x zs × (x.p ≡ y.p) × (x.client ≡ y.client)) → (x : Provider) × Has x (z ∷ zs) × (x.p ≡ y.p) × (x.client ≡ y.client)
-    by true (inl e) rest = (z, inl refl, sym (keeps z) ∙ ap (λ (a : Provider). a.p) (sym e), sym (clients z) ∙ ap (λ (a : Provider). a.client) (sym e))
+    by : (b : Bool) → Has y (if b then f z ∷ zs else z ∷ edit_where (is_provider q) f zs) → (Has y (edit_where (is_provider q) f zs) → (x : Provider) × Has x zs × (x.provider ≡ y.provider) × (x.client ≡ y.client)) → (x : Provider) × Has x (z ∷ zs) × (x.provider ≡ y.provider) × (x.client ≡ y.client)
+    by true (inl e) rest = (z, inl refl, sym (keeps z) ∙ ap (λ (a : Provider). a.provider) (sym e), sym (clients z) ∙ ap (λ (a : Provider). a.client) (sym e))
     by true (inr j) rest = (y, inr j, refl, refl)
     by false (inl e) rest = (y, inl e, refl, refl)
     by false (inr j) rest = let k = rest j in (k.0, inr k.1, k.2, k.3)
 
-slim_edit : (s : SessionState) (q : ProviderId) (f : Provider → Provider) → ((x : Provider) → (f x).p ≡ x.p) → ((x : Provider) → (f x).client ≡ x.client) → Slimmer s (with_provider s q f)
+slim_edit : (s : SessionState) (q : ProviderId) (f : Provider → Provider) → ((x : Provider) → (f x).provider ≡ x.provider) → ((x : Provider) → (f x).client ≡ x.client) → Slimmer s (with_provider s q f)
 unfolding with_provider
 slim_edit s q f keeps clients = record { provs = λ y i. edited_back q f keeps clients s.providers y i; names = refl; last = refl }
 
-slim_edits : (f : Provider → Provider) → ((x : Provider) → (f x).p ≡ x.p) → ((x : Provider) → (f x).client ≡ x.client) → (qs : List ProviderId) (s : SessionState) → Slimmer s (fold (λ t q. with_provider t q f) s qs)
+slim_edits : (f : Provider → Provider) → ((x : Provider) → (f x).provider ≡ x.provider) → ((x : Provider) → (f x).client ≡ x.client) → (qs : List ProviderId) (s : SessionState) → Slimmer s (fold (λ t q. with_provider t q f) s qs)
 slim_edits f keeps clients [] s = slim_same s s refl refl refl
 slim_edits f keeps clients (q ∷ qs) s = slim_then s (with_provider s q f) (fold (λ t q. with_provider t q f) (with_provider s q f) qs) (slim_edit s q f keeps clients) (slim_edits f keeps clients qs (with_provider s q f))
 
 slim_without : (s : SessionState) (out : List ProviderId) → Slimmer s (without_providers s out)
 unfolding without_providers
-slim_without s out = record { provs = λ x i. (x, (has_filter (λ (x : Provider). not (among out x.p)) x s.providers i).0, refl, refl); names = refl; last = refl }
+slim_without s out = record { provs = λ x i. (x, (has_filter (λ (x : Provider). not (among out x.provider)) x s.providers i).0, refl, refl); names = refl; last = refl }
 
 opened_client : (e : Entry) (after : GroupState) (x : Provider) → (opened_after e after x).client ≡ x.client
 unfolding opened_after
@@ -465,7 +465,7 @@ pub told_slim : (s : SessionState) (p : ProviderId) (r : ℕ) (y : Why) → Slim
 unfolding take_telling told_of
 told_slim s p r y = by (takes_telling s p r y) (is_join_request (outstanding s p) || is_dissolved y)
   where
-    by : (a b : Bool) → Slimmer s (if a then (if b then without_providers s (p ∷ []) else record s { requests = filter (λ (q : Request). not (among (p ∷ []) q.p)) s.requests }) else s)
+    by : (a b : Bool) → Slimmer s (if a then (if b then without_providers s (p ∷ []) else record s { requests = filter (λ (q : Request). not (among (p ∷ []) q.provider)) s.requests }) else s)
     by false b = slim_same s s refl refl refl
     by true true = slim_without s (p ∷ [])
     by true false = slim_same s _ refl refl refl

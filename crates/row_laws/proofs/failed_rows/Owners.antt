@@ -21,38 +21,38 @@ use Rattle.row_laws.proofs.failed_rows.Living.{Slimmer}
 
 -- each provider has a session of its client; and tokens tell sessions apart
 pub record Owned (of : ProviderId → Option (List ℕ)) (t : SessionState) : Type 0 where
-  pub owner : (x : Provider) → Has x t.providers → (y : Session) × Has y t.sessions × (y.token.n ≡ x.client.n) × (of x.p ≡ Some y.name)
-  pub low : (y : Session) → Has y t.sessions → 1 ≤ y.token.n
-  pub high : (y : Session) → Has y t.sessions → y.token.n ≤ t.last_client
-  pub single : (y z : Session) → Has y t.sessions → Has z t.sessions → y.token.n ≡ z.token.n → y.name ≡ z.name
+  pub owner : (x : Provider) → Has x t.providers → (y : Session) × Has y t.sessions × (y.token.number ≡ x.client.number) × (of x.provider ≡ Some y.name)
+  pub low : (y : Session) → Has y t.sessions → 1 ≤ y.token.number
+  pub high : (y : Session) → Has y t.sessions → y.token.number ≤ t.last_client
+  pub single : (y z : Session) → Has y t.sessions → Has z t.sessions → y.token.number ≡ z.token.number → y.name ≡ z.name
 
 -- where nobody comes in
-pub owned_slim : (of now : ProviderId → Option (List ℕ)) (t u : SessionState) → ((x : Provider) → Has x u.providers → now x.p ≡ of x.p) → Slimmer t u → Owned of t → Owned now u
+pub owned_slim : (of now : ProviderId → Option (List ℕ)) (t u : SessionState) → ((x : Provider) → Has x u.providers → now x.provider ≡ of x.provider) → Slimmer t u → Owned of t → Owned now u
 owned_slim of now t u same s k =
     record {
       owner = owner;
       low = λ y i. k.low y (subst (Has y) s.names i);
-      high = λ y i. subst (λ z. y.token.n ≤ z) (sym s.last) (k.high y (subst (Has y) s.names i));
+      high = λ y i. subst (λ z. y.token.number ≤ z) (sym s.last) (k.high y (subst (Has y) s.names i));
       single = λ y z i j e. k.single y z (subst (Has y) s.names i) (subst (Has z) s.names j) e;
     }
   where
-    owner : (x : Provider) → Has x u.providers → (y : Session) × Has y u.sessions × (y.token.n ≡ x.client.n) × (now x.p ≡ Some y.name)
+    owner : (x : Provider) → Has x u.providers → (y : Session) × Has y u.sessions × (y.token.number ≡ x.client.number) × (now x.provider ≡ Some y.name)
     owner x i =
         let a = s.provs x i in
         let b = k.owner a.0 a.1 in
-        (b.0, subst (Has b.0) (sym s.names) b.1, b.2 ∙ ap (λ (c : ClientToken). c.n) a.3, same x i ∙ ap of (sym a.2) ∙ b.3)
+        (b.0, subst (Has b.0) (sym s.names) b.1, b.2 ∙ ap (λ (c : ClientToken). c.number) a.3, same x i ∙ ap of (sym a.2) ∙ b.3)
 
 -- ---- a goodbye is of the client of each provider that it ends
 
-pub goodbye_named : (of : ProviderId → Option (List ℕ)) (s : SessionState) (client : List ℕ) → Owned of s → (x : Provider) → Has x s.providers → is_client_of (client_token s client) x ≡ true → stays.is_named client (of x.p) ≡ true
+pub goodbye_named : (of : ProviderId → Option (List ℕ)) (s : SessionState) (client : List ℕ) → Owned of s → (x : Provider) → Has x s.providers → is_client_of (client_token s client) x ≡ true → stays.is_named client (of x.provider) ≡ true
 unfolding client_token
-goodbye_named of s client k x i mine = by (find (is_named client) s.sessions) refl (eqb-true x.client.n (client_token s client).n mine)
+goodbye_named of s client k x i mine = by (find (is_named client) s.sessions) refl (eqb-true x.client.number (client_token s client).number mine)
   where
-    o : (y : Session) × Has y s.sessions × (y.token.n ≡ x.client.n) × (of x.p ≡ Some y.name)
+    o : (y : Session) × Has y s.sessions × (y.token.number ≡ x.client.number) × (of x.provider ≡ Some y.name)
     o = k.owner x i
 
-    by : (f : Option Session) → find (is_named client) s.sessions ≡ f → x.client.n ≡ (token_in f).n → stays.is_named client (of x.p) ≡ true
-    by None e token = absurd (let l = k.low o.0 o.1 in let z : (o.0).token.n ≡ 0 = o.2 ∙ token in omega (arith, l, z))
+    by : (f : Option Session) → find (is_named client) s.sessions ≡ f → x.client.number ≡ (token_in f).number → stays.is_named client (of x.provider) ≡ true
+    by None e token = absurd (let l = k.low o.0 o.1 in let z : (o.0).token.number ≡ 0 = o.2 ∙ token in omega (arith, l, z))
     by (Some y) e token =
         let h = find_has (is_named client) s.sessions y e in
         let same : (o.0).name ≡ client = k.single o.0 y o.1 h.0 (o.2 ∙ token) ∙ text_same y.name client h.1 in
@@ -69,7 +69,7 @@ any_has {A = A} test (x ∷ xs) e = by (test x) refl e (any_has test xs)
     by false q e rest = let k = rest e in (k.0, inr k.1, k.2)
 
 -- a client that is known has a session of its name
-pub known_session : (s : SessionState) (client : List ℕ) → ((y : Session) → Has y s.sessions → 1 ≤ y.token.n) → client_fault s (client_token s client) ≡ None → (y : Session) × Has y s.sessions × (y.token.n ≡ (client_token s client).n) × (y.name ≡ client)
+pub known_session : (s : SessionState) (client : List ℕ) → ((y : Session) → Has y s.sessions → 1 ≤ y.token.number) → client_fault s (client_token s client) ≡ None → (y : Session) × Has y s.sessions × (y.token.number ≡ (client_token s client).number) × (y.name ≡ client)
 unfolding client_fault no_session_fault client_token
 known_session s client low ok = by (find (is_named client) s.sessions) refl (known ok)
   where
@@ -84,10 +84,10 @@ known_session s client low ok = by (find (is_named client) s.sessions) refl (kno
     known : client_fault s (client_token s client) ≡ None → list_any (is_session (token_in (find (is_named client) s.sessions))) s.sessions ≡ true
     known e = tested (list_any (is_session (token_in (find (is_named client) s.sessions))) s.sessions) fault.BadClientToken (second (no_session_fault s) _ e)
 
-    by : (o : Option Session) → find (is_named client) s.sessions ≡ o → list_any (is_session (token_in o)) s.sessions ≡ true → (y : Session) × Has y s.sessions × (y.token.n ≡ (token_in o).n) × (y.name ≡ client)
+    by : (o : Option Session) → find (is_named client) s.sessions ≡ o → list_any (is_session (token_in o)) s.sessions ≡ true → (y : Session) × Has y s.sessions × (y.token.number ≡ (token_in o).number) × (y.name ≡ client)
     by None e any =
-        let k = any_has (is_session (record { n = 0 })) s.sessions any in
-        absurd (let l = low k.0 k.1 in let z : (k.0).token.n ≡ 0 = eqb-true (k.0).token.n 0 k.2 in omega (arith, l, z))
+        let k = any_has (is_session (record { number = 0 })) s.sessions any in
+        absurd (let l = low k.0 k.1 in let z : (k.0).token.number ≡ 0 = eqb-true (k.0).token.number 0 k.2 in omega (arith, l, z))
     by (Some y) e any = let k = find_has (is_named client) s.sessions y e in (y, k.0, refl, text_same y.name client k.1)
 
 -- a session begins
@@ -102,22 +102,22 @@ owned_added of s name k =
     }
   where
     new : Session
-    new = record { token = record { n = s.last_client + 1 }; name = name }
+    new = record { token = record { number = s.last_client + 1 }; name = name }
 
-    newest : (y : Session) → y ≡ new → y.token.n ≡ s.last_client + 1
-    newest y e = ap (λ (z : Session). z.token.n) e
+    newest : (y : Session) → y ≡ new → y.token.number ≡ s.last_client + 1
+    newest y e = ap (λ (z : Session). z.token.number) e
 
-    low : (y : Session) → Has y s.sessions ⊎ Has y (new ∷ []) → 1 ≤ y.token.n
+    low : (y : Session) → Has y s.sessions ⊎ Has y (new ∷ []) → 1 ≤ y.token.number
     low y (inl i) = k.low y i
     low y (inr (inl e)) = let z = newest y e in omega (arith, z)
     low y (inr (inr z)) = absurd z
 
-    high : (y : Session) → Has y s.sessions ⊎ Has y (new ∷ []) → y.token.n ≤ s.last_client + 1
+    high : (y : Session) → Has y s.sessions ⊎ Has y (new ∷ []) → y.token.number ≤ s.last_client + 1
     high y (inl i) = let z = k.high y i in omega (arith, z)
     high y (inr (inl e)) = let z = newest y e in omega (arith, z)
     high y (inr (inr z)) = absurd z
 
-    single : (y z : Session) → Has y s.sessions ⊎ Has y (new ∷ []) → Has z s.sessions ⊎ Has z (new ∷ []) → y.token.n ≡ z.token.n → y.name ≡ z.name
+    single : (y z : Session) → Has y s.sessions ⊎ Has y (new ∷ []) → Has z s.sessions ⊎ Has z (new ∷ []) → y.token.number ≡ z.token.number → y.name ≡ z.name
     single y z (inl i) (inl j) e = k.single y z i j e
     single y z (inl i) (inr (inl q)) e = absurd (let a = k.high y i in let b = newest z q in omega (arith, a, b, e))
     single y z (inl i) (inr (inr q)) e = absurd q
@@ -166,7 +166,7 @@ owned_ended of s t k =
       single = λ y z i j e. k.single y z (removed_was (is_session t) y s.sessions i) (removed_was (is_session t) z s.sessions j) e;
     }
   where
-    owner : (x : Provider) → Has x s.providers × (not (is_client_of t x) ≡ true) → (y : Session) × Has y (removed_at (client_place s t) s.sessions) × (y.token.n ≡ x.client.n) × (of x.p ≡ Some y.name)
+    owner : (x : Provider) → Has x s.providers × (not (is_client_of t x) ≡ true) → (y : Session) × Has y (removed_at (client_place s t) s.sessions) × (y.token.number ≡ x.client.number) × (of x.provider ≡ Some y.name)
     owner x i =
         let o = k.owner x i.0 in
-        (o.0, others_stay (is_session t) o.0 s.sessions (ap (λ z. z == t.n) o.2 ∙ not-true (is_client_of t x) i.1) o.1, o.2, o.3)
+        (o.0, others_stay (is_session t) o.0 s.sessions (ap (λ z. z == t.number) o.2 ∙ not-true (is_client_of t x) i.1) o.1, o.2, o.3)

@@ -34,7 +34,7 @@ module _ (h : History) (said : ProviderId → Type 0) (origin : Origin) (P L M :
   at_request_to : (s : Core) (q : Request) (to : Option ℕ) → At h said origin P L M T G Q s → At h said origin P L M T G Q (send_request_to s q to)
   unfolding send_request_to
   at_request_to s q None a = at_sent h said origin P L M T G Q s s.views.view.coord (body.Lookup s.views.view q.group) tt a
-  at_request_to s q (Some n) a = at_sent h said origin P L M T G Q s n (body.Request s.views.view q.group q.p q.r q.phases q.proposal) tt a
+  at_request_to s q (Some n) a = at_sent h said origin P L M T G Q s n (body.Request s.views.view q.group q.provider q.request q.phases q.proposal) tt a
 
   pub at_request_sent : (s : Core) (q : Request) → At h said origin P L M T G Q s → At h said origin P L M T G Q (send_request s q)
   unfolding send_request
@@ -51,7 +51,7 @@ module _ (h : History) (said : ProviderId → Type 0) (origin : Origin) (P L M :
   at_kept_to : (s : Core) (k : KeptBallot) (to : Option ℕ) (b : Option Filled) → At h said origin P L M T G Q s → At h said origin P L M T G Q (send_kept_to s k to b)
   unfolding send_kept_to vote_of
   at_kept_to s k to None a = a
-  at_kept_to s k to (Some b) a = at_sent_if_known s to (vote_of s k.group k.proto k.phase k.p b) tt a
+  at_kept_to s k to (Some b) a = at_sent_if_known s to (vote_of s k.group k.proto k.phase k.provider b) tt a
 
   pub at_kept_sent : (s : Core) (k : KeptBallot) → At h said origin P L M T G Q s → At h said origin P L M T G Q (send_kept s k)
   unfolding send_kept
@@ -83,6 +83,6 @@ module _ (h : History) (said : ProviderId → Type 0) (origin : Origin) (P L M :
   unfolding casts_sent
   at_casts_sent s g to cs a = by (frozen s)
     where
-      by : (b : Bool) → At h said origin P L M T G Q (elim b as (λ _. Core) [ true ↦ s | false ↦ fold (λ t (c : Cast). cast_sent_of t g to c.p c.cast) s cs ])
+      by : (b : Bool) → At h said origin P L M T G Q (elim b as (λ _. Core) [ true ↦ s | false ↦ fold (λ t (c : Cast). cast_sent_of t g to c.provider c.cast) s cs ])
       by true = a
-      by false = at_fold h said origin P L M T G Q (λ t (c : Cast). cast_sent_of t g to c.p c.cast) cs (λ t c i k. at_cast_sent t g to c.p c.cast k) s a
+      by false = at_fold h said origin P L M T G Q (λ t (c : Cast). cast_sent_of t g to c.provider c.cast) cs (λ t c i k. at_cast_sent t g to c.provider c.cast k) s a

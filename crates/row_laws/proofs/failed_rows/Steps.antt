@@ -102,7 +102,7 @@ entry_put v g place stable e w n s p is delivered t used at =
 -- ---- a join that is outstanding was put in no group
 
 module _ (w : Scene) (n : ℕ) (s : Core) (none : s.records ≡ []) (all : (h : List ℕ) → Tied h w n s) where
-  unput : (q : Request) → Has q s.sessions.requests → q.r ≡ q.p.join → (v : ViewId) (g : List ℕ) (i : ℕ) (e : Entry) → Has (happened.Put q.p.node v g i e) (records_of w.before) → is_join_of q.p e ≡ true → ⊥
+  unput : (q : Request) → Has q s.sessions.requests → q.request ≡ q.provider.join → (v : ViewId) (g : List ℕ) (i : ℕ) (e : Entry) → Has (happened.Put q.provider.node v g i e) (records_of w.before) → is_join_of q.provider e ≡ true → ⊥
   unput q there join v g i e put names = owed.unput v i e (subst (λ m. Has (group.Put m v i e) (group.kept t.ghost.all)) own.0 line) carries
     where
       t : Tied g w n s
@@ -111,53 +111,53 @@ module _ (w : Scene) (n : ℕ) (s : Core) (none : s.records ≡ []) (all : (h : 
       o : Whole (opening_of w.config) t.ghost.nodes t.ghost.ps t.ghost.all t.ghost.leads t.ghost.bases
       o = whole t.life
 
-      own : (q.p.node ≡ n) × (q.p.inc ≡ s.views.inc) × Has (asking q.p q.r q.group) t.ghost.asked × Has (q.p, q.r) (requests_of q.proposal)
+      own : (q.provider.node ≡ n) × (q.provider.inc ≡ s.views.inc) × Has (asking q.provider q.request q.group) t.ghost.asked × Has (q.provider, q.request) (requests_of q.proposal)
       own = t.own.0.owes.own q there
 
-      line : Has (group.Put q.p.node v i e) (group.kept t.ghost.all)
-      line = seen w n s none all g q.p.node v i e put
+      line : Has (group.Put q.provider.node v i e) (group.kept t.ghost.all)
+      line = seen w n s none all g q.provider.node v i e put
 
-      asked : Has (asking q.p q.p.join g) t.ghost.asked
+      asked : Has (asking q.provider q.provider.join g) t.ghost.asked
       asked =
-          let get : slice_get (o.log v) i ≡ Some e = o.good.inv.records (group.Put q.p.node v i e) line in
-          let a = o.once.asked v i q.p q.p.join e get (join_carried q.p e names) in
-          let b = o.once.sent v q.p q.p.join a.0 a.1 in
-          t.sound.asked q.p q.p.join a.0 b.1
+          let get : slice_get (o.log v) i ≡ Some e = o.good.inv.records (group.Put q.provider.node v i e) line in
+          let a = o.once.asked v i q.provider q.provider.join e get (join_carried q.provider e names) in
+          let b = o.once.sent v q.provider q.provider.join a.0 a.1 in
+          t.sound.asked q.provider q.provider.join a.0 b.1
 
       same : q.group ≡ g
-      same = t.sound.one q.p q.p.join q.group g (subst (λ r. Has (asking q.p r q.group) t.ghost.asked) join own.2) asked
+      same = t.sound.one q.provider q.provider.join q.group g (subst (λ r. Has (asking q.provider r q.group) t.ghost.asked) join own.2) asked
 
       owed : Owed t.ghost n s.views.inc q
       owed = t.own.0.owes.requests q there same
 
-      carries : Has {A = ProviderId × ℕ} (q.p, q.r) (carried e)
-      carries = subst (λ r. Has {A = ProviderId × ℕ} (q.p, r) (carried e)) (sym join) (join_carried q.p e names)
+      carries : Has {A = ProviderId × ℕ} (q.provider, q.request) (carried e)
+      carries = subst (λ r. Has {A = ProviderId × ℕ} (q.provider, r) (carried e)) (sym join) (join_carried q.provider e names)
 
   -- so it is one that may be refused
-  pub may_refuse : (q : Request) → Has q s.sessions.requests → is_join q.proposal ≡ true → IsRefused (reverse s.records ++ records_of w.before) q.p q.r
+  pub may_refuse : (q : Request) → Has q s.sessions.requests → is_join q.proposal ≡ true → IsRefused (reverse s.records ++ records_of w.before) q.provider q.request
   may_refuse q i j =
       record {
         join = join;
         in_view = (s.views.view, ap (λ m. view_now m (reverse s.records ++ records_of w.before)) ((all []).own.0.owes.own q i).0 ∙ (all []).placed.0);
-        unput = λ v g k e put. unput q i join v g k e (subst (λ z. Has (happened.Put q.p.node v g k e) (reverse z ++ records_of w.before)) none put);
+        unput = λ v g k e put. unput q i join v g k e (subst (λ z. Has (happened.Put q.provider.node v g k e) (reverse z ++ records_of w.before)) none put);
       }
     where
-      join : q.r ≡ q.p.join
-      join = join_number q.p q.r q.proposal j ((all []).own.0.owes.own q i).3
+      join : q.request ≡ q.provider.join
+      join = join_number q.provider q.request q.proposal j ((all []).own.0.owes.own q i).3
 
 -- what is asked of a call: that it is taken, and what a goodbye says
 pub record Calling (s : Core) (said : ProviderId → Type 0) (M : Type 0) (e : NodeEvent) : Type 0 where
   pub mine : (p : ProviderId) → IsLive s.sessions p → p.node ≡ s.views.me
   pub me : s.sessions.me ≡ s.views.me
   pub taken : (c : CallLine) → e ≡ Calls c → M → Taken s.sessions c
-  pub says : (c : CallLine) → e ≡ Calls c → Taken s.sessions c → (x : Provider) → Has x (Ended s.sessions c) → said x.p
-  pub owner : (a b : Provider) → Has a s.sessions.providers → Has b s.sessions.providers → a.p ≡ b.p → a.client ≡ b.client
+  pub says : (c : CallLine) → e ≡ Calls c → Taken s.sessions c → (x : Provider) → Has x (Ended s.sessions c) → said x.provider
+  pub owner : (a b : Provider) → Has a s.sessions.providers → Has b s.sessions.providers → a.provider ≡ b.provider → a.client ≡ b.client
 
 module _ (w : Scene) (n : ℕ) (f : Answering) (s : Core) (root : Option Core) (said : ProviderId → Type 0) (M : Type 0) (were : (p : Packet) → Has p w.sent → BodyGone w.before p.body) (nothing : s.records ≡ []) (all : (h : List ℕ) → Tied h w n s) (a : At w.before said (origin_of s root) (Unit {0}) (Unit {0}) M Every NoGroup Every s) where
   abbrev Full : Core → Type 0
   Full c = At w.before said (origin_of s root) (Unit {0}) (Unit {0}) M Every NoGroup Every c
 
-  numbered : (q : Request) → Has q s.sessions.requests → is_join q.proposal ≡ true → IsRefused (reverse s.records ++ records_of w.before) q.p q.r
+  numbered : (q : Request) → Has q s.sessions.requests → is_join q.proposal ≡ true → IsRefused (reverse s.records ++ records_of w.before) q.provider q.request
   numbered = may_refuse w n s nothing all
 
   used : (t : Core) (b : Bool) → (b ≡ true → Full t) → Full (used_if s t b)

@@ -23,13 +23,13 @@ use Rattle.row_laws.specs.failed_rows.Failures.{RowFails, EntryFails}
 use Rattle.row_laws.proofs.failed_rows.Facts.{VoterFails, TallyRuns, TallyWhile, TallyFails}
 
 module _ (gone : ProviderId → Type 0) (st : GroupState) where
-  rows_fail : (xs : List Voter) → ((x : Voter) → Has x xs → VoterFails gone st x.p x.vote) → (r : Row) → Has r (rows_of xs) → RowFails gone st r.p r.vote
+  rows_fail : (xs : List Voter) → ((x : Voter) → Has x xs → VoterFails gone st x.provider x.vote) → (r : Row) → Has r (rows_of xs) → RowFails gone st r.provider r.vote
   rows_fail [] all r i = absurd i
   rows_fail (x ∷ xs) all r i = by x.vote (all x (inl refl)) i (rows_fail xs (λ y j. all y (inr j)) r)
     where
-      by : (v : Option RowVote) → VoterFails gone st x.p v → Has {A = Row} r (row_or (elim v as (λ _. Option Row) [ None ↦ None | Some v ↦ Some (record { p = x.p; vote = v }) ]) (rows_of xs)) → (Has r (rows_of xs) → RowFails gone st r.p r.vote) → RowFails gone st r.p r.vote
+      by : (v : Option RowVote) → VoterFails gone st x.provider v → Has {A = Row} r (row_or (elim v as (λ _. Option Row) [ None ↦ None | Some v ↦ Some (record { provider = x.provider; vote = v }) ]) (rows_of xs)) → (Has r (rows_of xs) → RowFails gone st r.provider r.vote) → RowFails gone st r.provider r.vote
       by None k j rest = rest j
-      by (Some v) k (inl e) rest = subst (λ (z : Row). RowFails gone st z.p z.vote) (sym e) k
+      by (Some v) k (inl e) rest = subst (λ (z : Row). RowFails gone st z.provider z.vote) (sym e) k
       by (Some v) k (inr j) rest = rest j
 
   -- the entry that closes a phase
@@ -58,17 +58,17 @@ module _ (gone : ProviderId → Type 0) (st : GroupState) where
   or_vote_fails p v None k old = k
   or_vote_fails p v (Some w) k old = old
 
-  each_given : (f : Voter → Voter) (xs : List Voter) → ((x : Voter) → VoterFails gone st x.p x.vote → VoterFails gone st (f x).p (f x).vote) → ((x : Voter) → Has x xs → VoterFails gone st x.p x.vote) → (y : Voter) → Has y (map f xs) → VoterFails gone st y.p y.vote
+  each_given : (f : Voter → Voter) (xs : List Voter) → ((x : Voter) → VoterFails gone st x.provider x.vote → VoterFails gone st (f x).provider (f x).vote) → ((x : Voter) → Has x xs → VoterFails gone st x.provider x.vote) → (y : Voter) → Has y (map f xs) → VoterFails gone st y.provider y.vote
   each_given f xs step all y i =
       let k = has_map f y xs i in
-      subst (λ (z : Voter). VoterFails gone st z.p z.vote) (sym k.2) (step k.0 (all k.0 k.1))
+      subst (λ (z : Voter). VoterFails gone st z.provider z.vote) (sym k.2) (step k.0 (all k.0 k.1))
 
-  given_fails : (p : ProviderId) (v : RowVote) → ((q : ProviderId) → q ≡ p → RowFails gone st q v) → (x : Voter) → VoterFails gone st x.p x.vote → VoterFails gone st (given_to p v x).p (given_to p v x).vote
+  given_fails : (p : ProviderId) (v : RowVote) → ((q : ProviderId) → q ≡ p → RowFails gone st q v) → (x : Voter) → VoterFails gone st x.provider x.vote → VoterFails gone st (given_to p v x).provider (given_to p v x).vote
   given_fails p v ok x k = by (is_voter p x) refl
     where
-      by : (b : Bool) → is_voter p x ≡ b → VoterFails gone st (if b then given v x else x).p (if b then given v x else x).vote
+      by : (b : Bool) → is_voter p x ≡ b → VoterFails gone st (if b then given v x else x).provider (if b then given v x else x).vote
       by false e = k
-      by true e = or_vote_fails x.p v x.vote (ok x.p (provider_same x.p p e)) k
+      by true e = or_vote_fails x.provider v x.vote (ok x.provider (provider_same x.provider p e)) k
 
   -- one who failed, or is gone, has the default vote
   failed_runs : (p : ProviderId) (t : TallyView) → (among st.failed p ≡ true) ⊎ gone p → TallyRuns gone st t → TallyRuns gone st (tally_fail p t)
@@ -88,8 +88,8 @@ module _ (gone : ProviderId → Type 0) (st : GroupState) where
   pub ticked_fails : (t : TallyView) → TallyFails gone st (Some t) → TallyFails gone st (Some (tally_tick t))
   ticked_fails t k = by st.running k
     where
-      late : (b : Bool) → TallyRuns gone st t → (x : Voter) → Has x (late_if b t.default_vote t.voters) → VoterFails gone st x.p x.vote
-      late true k = each_given (given (row_vote.Late t.default_vote)) t.voters (λ x a. or_vote_fails x.p (row_vote.Late t.default_vote) x.vote tt a) k.voters
+      late : (b : Bool) → TallyRuns gone st t → (x : Voter) → Has x (late_if b t.default_vote t.voters) → VoterFails gone st x.provider x.vote
+      late true k = each_given (given (row_vote.Late t.default_vote)) t.voters (λ x a. or_vote_fails x.provider (row_vote.Late t.default_vote) x.vote tt a) k.voters
       late false k = k.voters
 
       by : (run : Option Running) → TallyWhile gone st t run → TallyWhile gone st (tally_tick t) run
@@ -125,7 +125,7 @@ module _ (gone : ProviderId → Type 0) (st : GroupState) where
 
       runs : TallyRuns gone st (fold (fails_if st.failed marks) t (voters st))
       runs =
-          fails_run marks all (voters st) t (record { default = refl; voters = λ x i. let k = has_map no_vote x (voters st) i in subst (λ (z : Voter). VoterFails gone st z.p z.vote) (sym k.2) tt })
+          fails_run marks all (voters st) t (record { default = refl; voters = λ x i. let k = has_map no_vote x (voters st) i in subst (λ (z : Voter). VoterFails gone st z.provider z.vote) (sym k.2) tt })
 
       by : (run : Option Running) → TallyWhile gone st (fold (fails_if st.failed marks) t (voters st)) run
       by None = tt

@@ -34,11 +34,11 @@ module _ (gone : ProviderId → Type 0) (st : GroupState) where
   pub one_waits : (p : ProviderId) (c : Cause) (w : WaitingView) → Waits gone st p c → AllWait gone st w.failures → AllWait gone st (add_failure p c w).failures
   one_waits p c w new old = by (takes_failure p w)
     where
-      by : (b : Bool) → AllWait gone st (if b then record w { failures = w.failures ++ record { p = p; cause = c } ∷ [] } else w).failures
+      by : (b : Bool) → AllWait gone st (if b then record w { failures = w.failures ++ record { provider = p; cause = c } ∷ [] } else w).failures
       by false f i = old f i
-      by true f i = at (has_append f w.failures (record { p = p; cause = c } ∷ []) i)
+      by true f i = at (has_append f w.failures (record { provider = p; cause = c } ∷ []) i)
         where
-          at : Has f w.failures ⊎ Has f (record { p = p; cause = c } ∷ []) → Waits gone st f.p f.cause
+          at : Has f w.failures ⊎ Has f (record { provider = p; cause = c } ∷ []) → Waits gone st f.provider f.cause
           at (inl j) = old f j
-          at (inr (inl e)) = subst (λ (z : Failure). Waits gone st z.p z.cause) (sym e) new
+          at (inr (inl e)) = subst (λ (z : Failure). Waits gone st z.provider z.cause) (sym e) new
           at (inr (inr z)) = absurd z

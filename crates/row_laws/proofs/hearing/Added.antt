@@ -90,16 +90,16 @@ module _ (P : Happened → Type 0) where
 dissolved_adds : (c : Core) (h : List ℕ) (old : ViewId) (b : Option Base) (o : Option Provider) → Adds Inner c (dissolved_if c h old b o)
 unfolding dissolved_if dissolved recorded with_sessions
 dissolved_adds c h old b None = adds_same Inner c c refl
-dissolved_adds c h old b (Some x) = by (x.takes_part && bytes_eq x.group h && not (is_in_base old x.p b))
+dissolved_adds c h old b (Some x) = by (x.takes_part && bytes_eq x.group h && not (is_in_base old x.provider b))
   where
     told : Happened
-    told = happened.Told x.p (number_of (outstanding c.sessions x.p)) Dissolved
+    told = happened.Told x.provider (number_of (outstanding c.sessions x.provider)) Dissolved
 
     one : (r : Happened) → Has r (told ∷ []) → Inner r
     one r (inl e) = subst Inner (sym e) tt
     one r (inr z) = absurd z
 
-    by : (t : Bool) → Adds Inner c (elim t as (λ _. Core) [ true ↦ dissolved c x.p (number_of (outstanding c.sessions x.p)) | false ↦ c ])
+    by : (t : Bool) → Adds Inner c (elim t as (λ _. Core) [ true ↦ dissolved c x.provider (number_of (outstanding c.sessions x.provider)) | false ↦ c ])
     by true = record { more = told ∷ []; is = refl; all = one }
     by false = adds_same Inner c c refl
 
@@ -161,12 +161,12 @@ unfolding heard cast_records cast_record
 heards_still c h i e after [] r k = absurd k
 heards_still c h i e after (x ∷ cs) r k = by (has_append r (heard c h i e after x) (flat_map (heard c h i e after) cs) k) (heards_still c h i e after cs r)
   where
-    filled : (y : ProtoId × ℕ × BallotView) (b : Option Filled) → Has r (cast_record x.p y.0 y.1 b) → Still r
+    filled : (y : ProtoId × ℕ × BallotView) (b : Option Filled) → Has r (cast_record x.provider y.0 y.1 b) → Still r
     filled y None j = absurd j
     filled y (Some b) (inl q) = subst Still (sym q) tt
     filled y (Some b) (inr z) = absurd z
 
-    casts : (o : Option (ProtoId × ℕ × BallotView)) → Has r (cast_records x.p o) → Still r
+    casts : (o : Option (ProtoId × ℕ × BallotView)) → Has r (cast_records x.provider o) → Still r
     casts None j = absurd j
     casts (Some y) j = filled y (y.2).filled j
 
@@ -205,7 +205,7 @@ record_added s r a = record { more = r ∷ []; is = refl; all = λ q h. ⊎_elim
 pub vote_added : (s : Core) (x : Provider) (o : OpenPhase) (b : Filled) → Adds Still s (voting s x o b)
 unfolding recorded with_sessions
 vote_added s x o b =
-    record { more = happened.Cast x.p o.proto o.phase b.vote b.value b.message ∷ []; is = refl; all = λ q h. ⊎_elim (λ (e : q ≡ happened.Cast x.p o.proto o.phase b.vote b.value b.message). subst Still (sym e) tt) (λ (z : ⊥). absurd z) h }
+    record { more = happened.Cast x.provider o.proto o.phase b.vote b.value b.message ∷ []; is = refl; all = λ q h. ⊎_elim (λ (e : q ≡ happened.Cast x.provider o.proto o.phase b.vote b.value b.message). subst Still (sym e) tt) (λ (z : ⊥). absurd z) h }
 
 -- ---- records are only added
 

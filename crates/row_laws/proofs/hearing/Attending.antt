@@ -170,24 +170,24 @@ module _ (n inc : ℕ) (before : History) (v : ViewId) (t : SessionState) (now :
         law = k.law;
         others = k.others;
         began = k.began;
-        own = λ p x q. ⊎_elim (λ (a : find (is_provider p) t.providers ≡ Some x). let b = k.own p x a in (b.0, b.1, let z = b.2 in omega arith)) (λ (a : (x ≡ y) × (p ≡ y.p)). (ap (λ (z : ProviderId). z.node) a.1 ∙ k.me, ap (λ (z : ProviderId). z.inc) a.1 ∙ k.inc_is, let z : p.join ≡ t.last_request + 1 = ap (λ (z : ProviderId). z.join) a.1 in omega arith)) (found p t.providers x q);
-        here = λ p x q part. ⊎_elim (λ (a : find (is_provider p) t.providers ≡ Some x). k.here p x a part) (λ (a : (x ≡ y) × (p ≡ y.p)). absurd (let z : false ≡ true = ap (λ (z : Provider). z.takes_part) (sym a.0) ∙ part in cc)) (found p t.providers x q);
+        own = λ p x q. ⊎_elim (λ (a : find (is_provider p) t.providers ≡ Some x). let b = k.own p x a in (b.0, b.1, let z = b.2 in omega arith)) (λ (a : (x ≡ y) × (p ≡ y.provider)). (ap (λ (z : ProviderId). z.node) a.1 ∙ k.me, ap (λ (z : ProviderId). z.inc) a.1 ∙ k.inc_is, let z : p.join ≡ t.last_request + 1 = ap (λ (z : ProviderId). z.join) a.1 in omega arith)) (found p t.providers x q);
+        here = λ p x q part. ⊎_elim (λ (a : find (is_provider p) t.providers ≡ Some x). k.here p x a part) (λ (a : (x ≡ y) × (p ≡ y.provider)). absurd (let z : false ≡ true = ap (λ (z : Provider). z.takes_part) (sym a.0) ∙ part in cc)) (found p t.providers x q);
         heard = λ p u g j m q. stance p u g j (k.heard p u g j m q);
-        upto = λ p x q part. ⊎_elim (λ (a : find (is_provider p) t.providers ≡ Some x). k.upto p x a part) (λ (a : (x ≡ y) × (p ≡ y.p)). absurd (let z : false ≡ true = ap (λ (z : Provider). z.takes_part) (sym a.0) ∙ part in cc)) (found p t.providers x q);
+        upto = λ p x q part. ⊎_elim (λ (a : find (is_provider p) t.providers ≡ Some x). k.upto p x a part) (λ (a : (x ≡ y) × (p ≡ y.provider)). absurd (let z : false ≡ true = ap (λ (z : Provider). z.takes_part) (sym a.0) ∙ part in cc)) (found p t.providers x q);
       }
     where
       y : Provider
-      y = record { p = new_provider t instance; client = c; group = h; takes_part = false; opened = None }
+      y = record { provider = new_provider t instance; client = c; group = h; takes_part = false; opened = None }
 
-      found : (p : ProviderId) (xs : List Provider) (x : Provider) → find (is_provider p) (xs ++ y ∷ []) ≡ Some x → (find (is_provider p) xs ≡ Some x) ⊎ ((x ≡ y) × (p ≡ y.p))
+      found : (p : ProviderId) (xs : List Provider) (x : Provider) → find (is_provider p) (xs ++ y ∷ []) ≡ Some x → (find (is_provider p) xs ≡ Some x) ⊎ ((x ≡ y) × (p ≡ y.provider))
       found p [] x e = last (is_provider p y) refl e
         where
-          last : (b : Bool) → is_provider p y ≡ b → (if b then Some y else None) ≡ Some x → (find (is_provider p) [] ≡ Some x) ⊎ ((x ≡ y) × (p ≡ y.p))
-          last true q e = let z : x ≡ y = cc in inr (z, sym (provider_same y.p p q))
+          last : (b : Bool) → is_provider p y ≡ b → (if b then Some y else None) ≡ Some x → (find (is_provider p) [] ≡ Some x) ⊎ ((x ≡ y) × (p ≡ y.provider))
+          last true q e = let z : x ≡ y = cc in inr (z, sym (provider_same y.provider p q))
           last false q e = absurd (cc)
       found p (z ∷ xs) x e = by (is_provider p z) e (found p xs x)
         where
-          by : (b : Bool) → (if b then Some z else find (is_provider p) (xs ++ y ∷ [])) ≡ Some x → (find (is_provider p) (xs ++ y ∷ []) ≡ Some x → (find (is_provider p) xs ≡ Some x) ⊎ ((x ≡ y) × (p ≡ y.p))) → ((if b then Some z else find (is_provider p) xs) ≡ Some x) ⊎ ((x ≡ y) × (p ≡ y.p))
+          by : (b : Bool) → (if b then Some z else find (is_provider p) (xs ++ y ∷ [])) ≡ Some x → (find (is_provider p) (xs ++ y ∷ []) ≡ Some x → (find (is_provider p) xs ≡ Some x) ⊎ ((x ≡ y) × (p ≡ y.provider))) → ((if b then Some z else find (is_provider p) xs) ≡ Some x) ⊎ ((x ≡ y) × (p ≡ y.provider))
           by true e rest = inl e
           by false e rest = rest e
 
@@ -202,7 +202,7 @@ module _ (n inc : ℕ) (before : History) (v : ViewId) (t : SessionState) (now :
       none : (p : ProviderId) → find (is_provider p) t.providers ≡ None → p.join ≤ t.last_request → (o : Option Provider) → find (is_provider p) (t.providers ++ y ∷ []) ≡ o → o ≡ None
       none p e le None q = refl
       none p e le (Some x) q =
-          ⊎_elim (λ (a : find (is_provider p) t.providers ≡ Some x). absurd (let z : Some x ≡ None = sym a ∙ e in cc)) (λ (a : (x ≡ y) × (p ≡ y.p)). absurd (let z : p.join ≡ t.last_request + 1 = ap (λ (z : ProviderId). z.join) a.1 in omega (arith, le))) (found p t.providers x q)
+          ⊎_elim (λ (a : find (is_provider p) t.providers ≡ Some x). absurd (let z : Some x ≡ None = sym a ∙ e in cc)) (λ (a : (x ≡ y) × (p ≡ y.provider)). absurd (let z : p.join ≡ t.last_request + 1 = ap (λ (z : ProviderId). z.join) a.1 in omega (arith, le))) (found p t.providers x q)
 
       stance : (p : ProviderId) (u : ViewId) (g : List ℕ) (j : ℕ) → Stance inc v t lens p u g j → Stance inc v (join_asked t c h instance attrs) lens p u g j
       stance p u g j (Before a) = Before a
@@ -228,10 +228,10 @@ pushed_append (x ∷ xs) ys now = pushed_append xs ys (x ∷ now)
 
 -- a provider hears, and its ballot is recorded
 abbrev pub heard_at : ViewId → List ℕ → ℕ → Entry → GroupState → Cast → List Happened
-heard_at v g i e after c = happened.Heard c.p v g i e after.members after.value ∷ cast_records c.p c.cast
+heard_at v g i e after c = happened.Heard c.provider v g i e after.members after.value ∷ cast_records c.provider c.cast
 
 -- each who hears casts
-pub has_cast : (e : Entry) (after : GroupState) (level : ℕ) (ps : List ProviderId) (bs : List (Option Filled)) (p : ProviderId) → Has p ps → (c : Cast) × Has c (casts_of e after level ps bs) × (c.p ≡ p)
+pub has_cast : (e : Entry) (after : GroupState) (level : ℕ) (ps : List ProviderId) (bs : List (Option Filled)) (p : ProviderId) → Has p ps → (c : Cast) × Has c (casts_of e after level ps bs) × (c.provider ≡ p)
 unfolding cast_of
 has_cast e after level [] bs p h = absurd h
 has_cast e after level (q ∷ ps) [] p (inl k) = (cast_of e after level q None, inl refl, sym k)
@@ -340,22 +340,22 @@ module _ (n inc : ℕ) (before : History) (v : ViewId) (t : SessionState) (now0 
     all : List ProviderId
     midway : Midway all now
     first : (p : ProviderId) → Has p done → Has p all
-    each : (c : Cast) → Has c cs → Has c.p all
+    each : (c : Cast) → Has c cs → Has c.provider all
 
-  all_midway : (cs : List Cast) (done : List ProviderId) (now : List Happened) → ((c : Cast) → Has c cs → Has c.p ps) → Midway done now → AllHeard done cs (pushed (flat_map (heard_at v h i e st) cs) now)
+  all_midway : (cs : List Cast) (done : List ProviderId) (now : List Happened) → ((c : Cast) → Has c cs → Has c.provider ps) → Midway done now → AllHeard done cs (pushed (flat_map (heard_at v h i e st) cs) now)
   all_midway [] done now hears m = record { all = done; midway = m; first = λ p z. z; each = λ c z. absurd z }
   all_midway (c ∷ cs) done now hears m =
-      let one : Midway (c.p ∷ done) (pushed (heard_at v h i e st c) now) = cast_midway (c.p ∷ done) (happened.Heard c.p v h i e st.members st.value ∷ now) c.p c.cast (hear_midway done now c.p (hears c (inl refl)) m) in
-      let rest : AllHeard (c.p ∷ done) cs (pushed (flat_map (heard_at v h i e st) cs) (pushed (heard_at v h i e st c) now)) = all_midway cs (c.p ∷ done) (pushed (heard_at v h i e st c) now) (λ d z. hears d (inr z)) one in
+      let one : Midway (c.provider ∷ done) (pushed (heard_at v h i e st c) now) = cast_midway (c.provider ∷ done) (happened.Heard c.provider v h i e st.members st.value ∷ now) c.provider c.cast (hear_midway done now c.provider (hears c (inl refl)) m) in
+      let rest : AllHeard (c.provider ∷ done) cs (pushed (flat_map (heard_at v h i e st) cs) (pushed (heard_at v h i e st c) now)) = all_midway cs (c.provider ∷ done) (pushed (heard_at v h i e st c) now) (λ d z. hears d (inr z)) one in
       record {
         all = rest.all;
         midway = subst (Midway rest.all) (sym (pushed_append (heard_at v h i e st c) (flat_map (heard_at v h i e st) cs) now)) rest.midway;
         first = λ p z. rest.first p (inr z);
-        each = λ d z. each rest.all d z (rest.first c.p (inl refl)) rest.each;
+        each = λ d z. each rest.all d z (rest.first c.provider (inl refl)) rest.each;
       }
     where
-      each : (all : List ProviderId) (d : Cast) → Has d (c ∷ cs) → Has c.p all → ((d : Cast) → Has d cs → Has d.p all) → Has d.p all
-      each all d (inl z) a b = subst (λ (x : Cast). Has x.p all) (sym z) a
+      each : (all : List ProviderId) (d : Cast) → Has d (c ∷ cs) → Has c.provider all → ((d : Cast) → Has d cs → Has d.provider all) → Has d.provider all
+      each all d (inl z) a b = subst (λ (x : Cast). Has x.provider all) (sym z) a
       each all d (inr z) a b = b d z
 
 -- an entry is put, and handed on

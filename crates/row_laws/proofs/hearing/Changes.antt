@@ -67,12 +67,12 @@ unfolding heard cast_records cast_record
 heards_calm c h i e after [] r k = absurd k
 heards_calm c h i e after (x ∷ cs) r k = by (has_append r (heard c h i e after x) (flat_map (heard c h i e after) cs) k) (heards_calm c h i e after cs r)
   where
-    filled : (y : ProtoId × ℕ × BallotView) (b : Option Filled) → Has r (cast_record x.p y.0 y.1 b) → Unentered r
+    filled : (y : ProtoId × ℕ × BallotView) (b : Option Filled) → Has r (cast_record x.provider y.0 y.1 b) → Unentered r
     filled y None j = absurd j
     filled y (Some b) (inl q) = subst Unentered (sym q) tt
     filled y (Some b) (inr z) = absurd z
 
-    casts : (o : Option (ProtoId × ℕ × BallotView)) → Has r (cast_records x.p o) → Unentered r
+    casts : (o : Option (ProtoId × ℕ × BallotView)) → Has r (cast_records x.provider o) → Unentered r
     casts None j = absurd j
     casts (Some y) j = filled y (y.2).filled j
 
@@ -163,7 +163,7 @@ unfolding send_if_known
 sends_known c None b = sends_nothing c
 sends_known c (Some n) b = sends_one c n b
 
-sends_cast : (c : Core) (k : List ℕ) (to : Option ℕ) (x : Cast) → Sends c (cast_sent_of c k to x.p x.cast)
+sends_cast : (c : Core) (k : List ℕ) (to : Option ℕ) (x : Cast) → Sends c (cast_sent_of c k to x.provider x.cast)
 unfolding cast_sent_of ballot_sent
 sends_cast c k to x = by x.cast
   where
@@ -171,17 +171,17 @@ sends_cast c k to x = by x.cast
     ballot p y None = sends_nothing c
     ballot p y (Some b) = sends_known c to _
 
-    by : (o : Option (ProtoId × ℕ × BallotView)) → Sends c (cast_sent_of c k to x.p o)
+    by : (o : Option (ProtoId × ℕ × BallotView)) → Sends c (cast_sent_of c k to x.provider o)
     by None = sends_nothing c
-    by (Some y) = ballot x.p y (y.2).filled
+    by (Some y) = ballot x.provider y (y.2).filled
 
 sends_casts : (c : Core) (k : List ℕ) (to : Option ℕ) (cs : List Cast) → Sends c (casts_sent c k to cs)
 unfolding casts_sent
 sends_casts c k to cs = by (frozen c)
   where
-    by : (b : Bool) → Sends c (elim b as (λ _. Core) [ true ↦ c | false ↦ fold (λ t x. cast_sent_of t k to x.p x.cast) c cs ])
+    by : (b : Bool) → Sends c (elim b as (λ _. Core) [ true ↦ c | false ↦ fold (λ t x. cast_sent_of t k to x.provider x.cast) c cs ])
     by true = sends_nothing c
-    by false = sends_fold (λ t (x : Cast). cast_sent_of t k to x.p x.cast) (λ t x. sends_cast t k to x) cs c
+    by false = sends_fold (λ t (x : Cast). cast_sent_of t k to x.provider x.cast) (λ t x. sends_cast t k to x) cs c
 
 -- ---- rows
 

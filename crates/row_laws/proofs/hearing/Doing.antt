@@ -74,17 +74,17 @@ module _ (n inc : ℕ) (before : History) (v : ViewId) (lens : List ℕ → ℕ)
   held_dissolved : (c : Core) (h : List ℕ) (old : ViewId) (b : Option Base) (o : Option Provider) → Held c → Held (dissolved_if c h old b o)
   unfolding dissolved_if dissolved with_sessions
   held_dissolved c h old b None k = k
-  held_dissolved c h old b (Some x) k = by (x.takes_part && bytes_eq x.group h && not (is_in_base old x.p b))
+  held_dissolved c h old b (Some x) k = by (x.takes_part && bytes_eq x.group h && not (is_in_base old x.provider b))
     where
       r : ℕ
-      r = number_of (outstanding c.sessions x.p)
+      r = number_of (outstanding c.sessions x.provider)
 
       d : Core
-      d = with_sessions c (take_telling c.sessions x.p r Dissolved)
+      d = with_sessions c (take_telling c.sessions x.provider r Dissolved)
 
-      by : (t : Bool) → Held (elim t as (λ _. Core) [ true ↦ recorded d (happened.Told x.p r Dissolved) | false ↦ c ])
+      by : (t : Bool) → Held (elim t as (λ _. Core) [ true ↦ recorded d (happened.Told x.provider r Dissolved) | false ↦ c ])
       by false = k
-      by true = held_record d (happened.Told x.p r Dissolved) tt (attends_fewer n inc before v c.sessions (reverse c.records) lens states (take_telling c.sessions x.p r Dissolved) (fewer_told c.sessions x.p r Dissolved) k)
+      by true = held_record d (happened.Told x.provider r Dissolved) tt (attends_fewer n inc before v c.sessions (reverse c.records) lens states (take_telling c.sessions x.provider r Dissolved) (fewer_told c.sessions x.provider r Dissolved) k)
 
   held_fold : {A : Type 0} (f : Core → A → Core) → ((c : Core) (x : A) → Held c → Held (f c x)) → (xs : List A) (c : Core) → Held c → Held (fold f c xs)
   held_fold f one [] c k = k
@@ -106,13 +106,13 @@ back_fold f one (y ∷ ys) c p x q = one c y p x (back_fold f one ys (f c y) p x
 pub dissolved_back : (c : Core) (h : List ℕ) (old : ViewId) (b : Option Base) (o : Option Provider) → Back c (dissolved_if c h old b o)
 unfolding dissolved_if dissolved recorded with_sessions
 dissolved_back c h old b None p x q = q
-dissolved_back c h old b (Some y) p x q = by (y.takes_part && bytes_eq y.group h && not (is_in_base old y.p b)) q
+dissolved_back c h old b (Some y) p x q = by (y.takes_part && bytes_eq y.group h && not (is_in_base old y.provider b)) q
   where
     r : ℕ
-    r = number_of (outstanding c.sessions y.p)
+    r = number_of (outstanding c.sessions y.provider)
 
-    by : (t : Bool) → provider_of (elim t as (λ _. Core) [ true ↦ dissolved c y.p r | false ↦ c ]).sessions p ≡ Some x → provider_of c.sessions p ≡ Some x
-    by true q = (fewer_told c.sessions y.p r Dissolved).providers p x q
+    by : (t : Bool) → provider_of (elim t as (λ _. Core) [ true ↦ dissolved c y.provider r | false ↦ c ]).sessions p ≡ Some x → provider_of c.sessions p ≡ Some x
+    by true q = (fewer_told c.sessions y.provider r Dissolved).providers p x q
     by false q = q
 
 -- who is told DISSOLVED is dropped
@@ -120,13 +120,13 @@ dropped : (s : SessionState) (p : ProviderId) (r : ℕ) (y x : Provider) → pro
 unfolding take_telling told_of takes_telling
 dropped s p r y x found q = by (is_numbered r (outstanding s p)) (is_join_request (outstanding s p)) there
   where
-    there : provider_of (if is_some (Some y) && (is_numbered r (outstanding s p) || true) then (if is_join_request (outstanding s p) || true then without_providers s (p ∷ []) else record s { requests = filter (λ q. not (among (p ∷ []) q.p)) s.requests }) else s) p ≡ Some x
-    there = subst (λ o. provider_of (if is_some o && (is_numbered r (outstanding s p) || true) then (if is_join_request (outstanding s p) || true then without_providers s (p ∷ []) else record s { requests = filter (λ q. not (among (p ∷ []) q.p)) s.requests }) else s) p ≡ Some x) found q
+    there : provider_of (if is_some (Some y) && (is_numbered r (outstanding s p) || true) then (if is_join_request (outstanding s p) || true then without_providers s (p ∷ []) else record s { requests = filter (λ q. not (among (p ∷ []) q.provider)) s.requests }) else s) p ≡ Some x
+    there = subst (λ o. provider_of (if is_some o && (is_numbered r (outstanding s p) || true) then (if is_join_request (outstanding s p) || true then without_providers s (p ∷ []) else record s { requests = filter (λ q. not (among (p ∷ []) q.provider)) s.requests }) else s) p ≡ Some x) found q
 
     out : provider_of (without_providers s (p ∷ [])) p ≡ Some x → ⊥
     out q = let a = left_stays s (p ∷ []) p x q in let b = ap not (has_among (p ∷ []) p (inl refl)) in let z : true ≡ false = sym a ∙ b in cc
 
-    by : (a b : Bool) → provider_of (if true && (a || true) then (if b || true then without_providers s (p ∷ []) else record s { requests = filter (λ q. not (among (p ∷ []) q.p)) s.requests }) else s) p ≡ Some x → ⊥
+    by : (a b : Bool) → provider_of (if true && (a || true) then (if b || true then without_providers s (p ∷ []) else record s { requests = filter (λ q. not (among (p ∷ []) q.provider)) s.requests }) else s) p ≡ Some x → ⊥
     by true true q = out q
     by true false q = out q
     by false true q = out q
@@ -137,9 +137,9 @@ turn_stays : (c : Core) (h : List ℕ) (old : ViewId) (b : Option Base) (p : Pro
 unfolding dissolved_if dissolved recorded with_sessions
 turn_stays c h old b p x q part group = by (provider_of c.sessions p) refl q
   where
-    at : (y : Provider) → provider_of c.sessions p ≡ Some y → (t : Bool) → (y.takes_part && bytes_eq y.group h && not (is_in_base old y.p b)) ≡ t → provider_of (elim t as (λ _. Core) [ true ↦ dissolved c y.p (number_of (outstanding c.sessions y.p)) | false ↦ c ]).sessions p ≡ Some x → is_in_base old p b ≡ true
+    at : (y : Provider) → provider_of c.sessions p ≡ Some y → (t : Bool) → (y.takes_part && bytes_eq y.group h && not (is_in_base old y.provider b)) ≡ t → provider_of (elim t as (λ _. Core) [ true ↦ dissolved c y.provider (number_of (outstanding c.sessions y.provider)) | false ↦ c ]).sessions p ≡ Some x → is_in_base old p b ≡ true
     at y e true k q =
-        absurd (dropped c.sessions p (number_of (outstanding c.sessions y.p)) y x e (subst (λ z. provider_of (take_telling c.sessions z (number_of (outstanding c.sessions y.p)) Dissolved) p ≡ Some x) (found_is c.sessions p y e) q))
+        absurd (dropped c.sessions p (number_of (outstanding c.sessions y.provider)) y x e (subst (λ z. provider_of (take_telling c.sessions z (number_of (outstanding c.sessions y.provider)) Dissolved) p ≡ Some x) (found_is c.sessions p y e) q))
     at y e false k q =
         let same : y ≡ x = some_is (sym e ∙ q) in
         let test : (true && true && not (is_in_base old p b)) ≡ false = sym (λ i. (ap (λ (z : Provider). z.takes_part) same ∙ part) i && (ap (λ (z : Provider). bytes_eq z.group h) same ∙ ap (λ z. bytes_eq z h) group ∙ text_self h) i && not (is_in_base old (found_is c.sessions p y e i) b)) ∙ k in
@@ -151,7 +151,7 @@ turn_stays c h old b p x q part group = by (provider_of c.sessions p) refl q
 
     by : (o : Option Provider) → provider_of c.sessions p ≡ o → provider_of (dissolved_if c h old b o).sessions p ≡ Some x → is_in_base old p b ≡ true
     by None e q = absurd (let z : Some x ≡ None = sym q ∙ e in cc)
-    by (Some y) e q = at y e (y.takes_part && bytes_eq y.group h && not (is_in_base old y.p b)) refl q
+    by (Some y) e q = at y e (y.takes_part && bytes_eq y.group h && not (is_in_base old y.provider b)) refl q
 
 -- so all who are left do
 module _ (old : ViewId) (bs : List Base) (p : ProviderId) (x : Provider) (part : x.takes_part ≡ true) where
@@ -385,5 +385,5 @@ module _ (n inc : ℕ) (before : History) where
   hearing_does _ _ (Votes s x o b found opened unkept) k =
       let t : Core = with_sessions s (keeps s.sessions x o b) in
       let a : Attending n inc before s.views.view (keeps s.sessions x o b) (reverse s.records) (len_of s) (state_of s) = attends_less n inc before s.views.view s.sessions (reverse s.records) (len_of s) (state_of s) (keeps s.sessions x o b) refl refl (omega arith) (λ p y q. q) k.at in
-      record { me = k.me; inc_of = k.inc_of; at = held_record n inc before s.views.view (len_of s) (state_of s) t (happened.Cast x.p o.proto o.phase b.vote b.value b.message) tt a }
+      record { me = k.me; inc_of = k.inc_of; at = held_record n inc before s.views.view (len_of s) (state_of s) t (happened.Cast x.provider o.proto o.phase b.vote b.value b.message) tt a }
   hearing_does _ _ (Enters s i lt none) k = hearing_enters s i lt k

@@ -64,7 +64,7 @@ pub some_is : {A : Type 0} {a b : A} → Some a ≡ Some b → a ≡ b
 some_is e = cc
 
 -- who is found after an edit
-pub edit_back : (q : ProviderId) (f : Provider → Provider) → ((x : Provider) → (f x).p ≡ x.p) → (p : ProviderId) (xs : List Provider) (y : Provider) → find (is_provider p) (edit_where (is_provider q) f xs) ≡ Some y → (x : Provider) × (find (is_provider p) xs ≡ Some x) × ((y ≡ x) ⊎ ((y ≡ f x) × (p ≡ q)))
+pub edit_back : (q : ProviderId) (f : Provider → Provider) → ((x : Provider) → (f x).provider ≡ x.provider) → (p : ProviderId) (xs : List Provider) (y : Provider) → find (is_provider p) (edit_where (is_provider q) f xs) ≡ Some y → (x : Provider) × (find (is_provider p) xs ≡ Some x) × ((y ≡ x) ⊎ ((y ≡ f x) × (p ≡ q)))
 edit_back q f keeps p [] y e = absurd (cc)
 edit_back q f keeps p (x ∷ xs) y e = by (is_provider q x) (is_provider p x) refl refl e (edit_back q f keeps p xs y)
   where
@@ -72,7 +72,7 @@ edit_back q f keeps p (x ∷ xs) y e = by (is_provider q x) (is_provider p x) re
     by true true k m e rest =
         let g : is_provider p (f x) ≡ true = ap (λ z. same_provider z p) (keeps x) ∙ m in
         let z : f x ≡ y = some_is (subst (λ c. (if c then Some (f x) else find (is_provider p) xs) ≡ Some y) g e) in
-        (x, refl, inr (sym z, sym (provider_same x.p p m) ∙ provider_same x.p q k))
+        (x, refl, inr (sym z, sym (provider_same x.provider p m) ∙ provider_same x.provider q k))
     by true false k m e rest =
         let g : is_provider p (f x) ≡ false = ap (λ z. same_provider z p) (keeps x) ∙ m in
         (y, subst (λ c. (if c then Some (f x) else find (is_provider p) xs) ≡ Some y) g e, inl refl)
@@ -80,7 +80,7 @@ edit_back q f keeps p (x ∷ xs) y e = by (is_provider q x) (is_provider p x) re
     by false false k m e rest = rest (subst (λ c. (if c then Some x else find (is_provider p) (edit_where (is_provider q) f xs)) ≡ Some y) m e)
 
 -- the provider itself is found as the edit makes it
-pub edit_own : (p : ProviderId) (f : Provider → Provider) → ((x : Provider) → (f x).p ≡ x.p) → (xs : List Provider) (y : Provider) → find (is_provider p) (edit_where (is_provider p) f xs) ≡ Some y → (x : Provider) × (y ≡ f x)
+pub edit_own : (p : ProviderId) (f : Provider → Provider) → ((x : Provider) → (f x).provider ≡ x.provider) → (xs : List Provider) (y : Provider) → find (is_provider p) (edit_where (is_provider p) f xs) ≡ Some y → (x : Provider) × (y ≡ f x)
 edit_own p f keeps [] y e = absurd (cc)
 edit_own p f keeps (x ∷ xs) y e = by (is_provider p x) refl e (edit_own p f keeps xs y)
   where
@@ -91,7 +91,7 @@ edit_own p f keeps (x ∷ xs) y e = by (is_provider p x) refl e (edit_own p f ke
     by false k e rest = rest (subst (λ c. (if c then Some x else find (is_provider p) (edit_where (is_provider p) f xs)) ≡ Some y) k e)
 
 -- an edit that lets nobody end, and only these begin
-kept_edit : (bs : List ProviderId) (t : SessionState) (q : ProviderId) (f : Provider → Provider) → ((x : Provider) → (f x).p ≡ x.p) → ((x : Provider) → (f x).group ≡ x.group) → ((x : Provider) → x.takes_part ≡ true → (f x).takes_part ≡ true) → ((x : Provider) → (f x).takes_part ≡ true → (x.takes_part ≡ true) ⊎ Has q bs) → Kept bs t (with_provider t q f)
+kept_edit : (bs : List ProviderId) (t : SessionState) (q : ProviderId) (f : Provider → Provider) → ((x : Provider) → (f x).provider ≡ x.provider) → ((x : Provider) → (f x).group ≡ x.group) → ((x : Provider) → x.takes_part ≡ true → (f x).takes_part ≡ true) → ((x : Provider) → (f x).takes_part ≡ true → (x.takes_part ≡ true) ⊎ Has q bs) → Kept bs t (with_provider t q f)
 unfolding provider_of with_provider
 kept_edit bs t q f keeps group on begins = record { back = back }
   where
@@ -127,7 +127,7 @@ parts_begun bs (q ∷ ps) all t p (inl h) y e =
 
 -- ---- the rest of handing on
 
-opened_p : (e : Entry) (after : GroupState) (x : Provider) → ((opened_after e after x).p ≡ x.p) × ((opened_after e after x).group ≡ x.group) × ((opened_after e after x).takes_part ≡ x.takes_part)
+opened_p : (e : Entry) (after : GroupState) (x : Provider) → ((opened_after e after x).provider ≡ x.provider) × ((opened_after e after x).group ≡ x.group) × ((opened_after e after x).takes_part ≡ x.takes_part)
 unfolding opened_after
 opened_p (Once x) after y = (refl, refl, refl)
 opened_p _ after y = (refl, refl, refl)
@@ -166,16 +166,16 @@ kept_requests bs t (Begin x) = kept_begun bs t x
 kept_requests bs t _ = kept_same bs t t refl
 
 -- who is left was not to go
-find_left : (out : List ProviderId) (p : ProviderId) (xs : List Provider) (y : Provider) → find (is_provider p) (filter (λ (x : Provider). not (among out x.p)) xs) ≡ Some y → (find (is_provider p) xs ≡ Some y) × (not (among out p) ≡ true)
+find_left : (out : List ProviderId) (p : ProviderId) (xs : List Provider) (y : Provider) → find (is_provider p) (filter (λ (x : Provider). not (among out x.provider)) xs) ≡ Some y → (find (is_provider p) xs ≡ Some y) × (not (among out p) ≡ true)
 find_left out p [] y e = absurd (cc)
-find_left out p (x ∷ xs) y e = by (not (among out x.p)) (is_provider p x) refl refl e (find_left out p xs y)
+find_left out p (x ∷ xs) y e = by (not (among out x.provider)) (is_provider p x) refl refl e (find_left out p xs y)
   where
-    by : (b c : Bool) → not (among out x.p) ≡ b → is_provider p x ≡ c → find (is_provider p) (if b then x ∷ filter (λ (x : Provider). not (among out x.p)) xs else filter (λ (x : Provider). not (among out x.p)) xs) ≡ Some y → (find (is_provider p) (filter (λ (x : Provider). not (among out x.p)) xs) ≡ Some y → (find (is_provider p) xs ≡ Some y) × (not (among out p) ≡ true)) → ((if c then Some x else find (is_provider p) xs) ≡ Some y) × (not (among out p) ≡ true)
-    by true true k m e rest = (subst (λ c. (if c then Some x else find (is_provider p) (filter (λ (x : Provider). not (among out x.p)) xs)) ≡ Some y) m e, subst (λ z. not (among out z) ≡ true) (provider_same x.p p m) k)
-    by true false k m e rest = rest (subst (λ c. (if c then Some x else find (is_provider p) (filter (λ (x : Provider). not (among out x.p)) xs)) ≡ Some y) m e)
+    by : (b c : Bool) → not (among out x.provider) ≡ b → is_provider p x ≡ c → find (is_provider p) (if b then x ∷ filter (λ (x : Provider). not (among out x.provider)) xs else filter (λ (x : Provider). not (among out x.provider)) xs) ≡ Some y → (find (is_provider p) (filter (λ (x : Provider). not (among out x.provider)) xs) ≡ Some y → (find (is_provider p) xs ≡ Some y) × (not (among out p) ≡ true)) → ((if c then Some x else find (is_provider p) xs) ≡ Some y) × (not (among out p) ≡ true)
+    by true true k m e rest = (subst (λ c. (if c then Some x else find (is_provider p) (filter (λ (x : Provider). not (among out x.provider)) xs)) ≡ Some y) m e, subst (λ z. not (among out z) ≡ true) (provider_same x.provider p m) k)
+    by true false k m e rest = rest (subst (λ c. (if c then Some x else find (is_provider p) (filter (λ (x : Provider). not (among out x.provider)) xs)) ≡ Some y) m e)
     by false true k m e rest =
         let r = rest e in
-        let z : not (among out p) ≡ false = subst (λ z. not (among out z) ≡ false) (provider_same x.p p m) k in
+        let z : not (among out p) ≡ false = subst (λ z. not (among out z) ≡ false) (provider_same x.provider p m) k in
         absurd (let u : true ≡ false = sym r.1 ∙ z in cc)
     by false false k m e rest = rest e
 

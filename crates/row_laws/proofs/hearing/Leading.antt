@@ -122,7 +122,7 @@ failures_onward zero f c h = onward_same c
 failures_onward (suc k) f c h = by (is_empty out) (failures_onward k)
   where
     out : List Failure
-    out = filter (λ (x : Failure). among (state_of c h).members x.p) (next_failures (state_of c h).attrs.batch (led_of c h).waiting)
+    out = filter (λ (x : Failure). among (state_of c h).members x.provider) (next_failures (state_of c h).attrs.batch (led_of c h).waiting)
 
     t : Core
     t = with_led c h (λ l. record l { waiting = failures_left (state_of c h).attrs.batch l.waiting })
@@ -130,10 +130,10 @@ failures_onward (suc k) f c h = by (is_empty out) (failures_onward k)
     first : Onward c t
     first = onward_led c h (λ l. record l { waiting = failures_left (state_of c h).attrs.batch l.waiting })
 
-    by : (b : Bool) → ((f : Answering) (d : Core) (j : List ℕ) → Onward d (failures_begin k f d j).core) → Onward c (elim b as (λ _. Pass) [ true ↦ failures_begin k f t h | false ↦ begun_now (begins f t h (Fail (filter (λ (x : Failure). among (state_of c h).members x.p) (next_failures (state_of c h).attrs.batch (led_of c h).waiting))) (state_of c h).attrs.phases) ]).core
+    by : (b : Bool) → ((f : Answering) (d : Core) (j : List ℕ) → Onward d (failures_begin k f d j).core) → Onward c (elim b as (λ _. Pass) [ true ↦ failures_begin k f t h | false ↦ begun_now (begins f t h (Fail (filter (λ (x : Failure). among (state_of c h).members x.provider) (next_failures (state_of c h).attrs.batch (led_of c h).waiting))) (state_of c h).attrs.phases) ]).core
     by true rest = onward_then c t (failures_begin k f t h).core first (rest f t h)
     by false rest =
-        onward_then c t (begins f t h (Fail (filter (λ (x : Failure). among (state_of c h).members x.p) (next_failures (state_of c h).attrs.batch (led_of c h).waiting))) (state_of c h).attrs.phases) first (begins_onward f t h (Fail (filter (λ (x : Failure). among (state_of c h).members x.p) (next_failures (state_of c h).attrs.batch (led_of c h).waiting))) (state_of c h).attrs.phases)
+        onward_then c t (begins f t h (Fail (filter (λ (x : Failure). among (state_of c h).members x.provider) (next_failures (state_of c h).attrs.batch (led_of c h).waiting))) (state_of c h).attrs.phases) first (begins_onward f t h (Fail (filter (λ (x : Failure). among (state_of c h).members x.provider) (next_failures (state_of c h).attrs.batch (led_of c h).waiting))) (state_of c h).attrs.phases)
 
 source_onward : (f : Answering) (c : Core) (h : List ℕ) (st : GroupState) (o : Option (List ℕ)) → Onward c (source_begins f c h st o).core
 unfolding source_begins due_begins
@@ -149,7 +149,7 @@ pub refused_onward : (c : Core) (h : List ℕ) (p : ProviderId) (r : ℕ) (why :
 unfolding refused keep_decision
 refused_onward c h p r why =
     let d : Core = keep_decision c h p r (Some why) in
-    onward_then c d (refused c h p r why) (onward_led c h (λ l. record l { decided = decisions_with (record { p = p; r = r; why = Some why }) l.decided })) (onward_sends d (refused c h p r why) (sends_one d _ _))
+    onward_then c d (refused c h p r why) (onward_led c h (λ l. record l { decided = decisions_with (record { provider = p; request = r; why = Some why }) l.decided })) (onward_sends d (refused c h p r why) (sends_one d _ _))
 
 all_refused_onward : (h : List ℕ) (src : Option (List ℕ)) (ps : List ProviderId) (c : Core) → Onward c (source_refused c h src ps)
 unfolding source_refused

@@ -162,7 +162,7 @@ led_by_onward c h n = onward_row c h (λ row. record row { leader = Some n }) (�
 
 kept_onward : (c : Core) (h : List ℕ) (p : ProviderId) (r : ℕ) (y : Option Why) → Onward c (keep_decision c h p r y)
 unfolding keep_decision
-kept_onward c h p r y = onward_led c h (λ l. record l { decided = decisions_with (record { p = p; r = r; why = y }) l.decided })
+kept_onward c h p r y = onward_led c h (λ l. record l { decided = decisions_with (record { provider = p; request = r; why = y }) l.decided })
 
 decided_join_onward : (c : Core) (h : List ℕ) (p : ProviderId) (r : ℕ) (a : Attrs) (o : Option Why) → Onward c (decide_join c h p r a o)
 unfolding decide_join wait_join
@@ -215,7 +215,7 @@ unfolding take_name named
 name_onward c h n = by (is_name_used c h n)
   where
     of_number : (b : Bool) → Onward c (named c h n b)
-    of_number true = onward_fold (λ t (q : Request). take_tell t q.p q.r (why.GroupsFull 64)) (λ t q. tell_onward t q.p q.r (why.GroupsFull 64)) (requests_of c h) c
+    of_number true = onward_fold (λ t (q : Request). take_tell t q.provider q.request (why.GroupsFull 64)) (λ t q. tell_onward t q.provider q.request (why.GroupsFull 64)) (requests_of c h) c
     of_number false =
         let d : Core = set_leader c h n in onward_then c d (fold send_request d (requests_of c h)) (led_by_onward c h n) (onward_sends d _ (sends_fold send_request request_sends (requests_of c h) d))
 
@@ -231,7 +231,7 @@ request_new_onward f c h p r phases x =
 request_at_onward : (f : Answering) (c : Core) (h : List ℕ) (p : ProviderId) (r : ℕ) (phases : Phases) (x : Proposal) (o : Option Decision) → Onward c (request_at f c h p r phases x o)
 unfolding request_at request_after tell_again
 request_at_onward f c h p r phases x None = request_new_onward f c h p r phases x
-request_at_onward f c h p r phases x (Some d) = by (nat_lt r d.r) (r == d.r)
+request_at_onward f c h p r phases x (Some d) = by (nat_lt r d.request) (r == d.request)
   where
     told : (o : Option Why) → Onward c (tell_again c h p r o)
     told None = onward_same c
@@ -443,8 +443,8 @@ last_asked_onward : (c : Core) (o : Option Request) → Onward c (ask_last c o)
 unfolding ask_last
 last_asked_onward c None = onward_same c
 last_asked_onward c (Some q) =
-    let d : Core = recorded c (happened.Asked q.p q.r q.group q.proposal) in
-    onward_then c d (send_request d q) (onward_record c (happened.Asked q.p q.r q.group q.proposal) tt) (onward_sends d _ (request_sends d q))
+    let d : Core = recorded c (happened.Asked q.provider q.request q.group q.proposal) in
+    onward_then c d (send_request d q) (onward_record c (happened.Asked q.provider q.request q.group q.proposal) tt) (onward_sends d _ (request_sends d q))
 
 proposed_onward : (c : Core) (client : List ℕ) (r : Result SessionState GsFault) → ((u : SessionState) → r ≡ Ok u → Onward c (with_sessions c u)) → Onward c (proposed c client r)
 unfolding proposed refuse_call
@@ -458,12 +458,12 @@ unfolding give_ballot refuse_call cast_last record_ballot ballot_sent_if with_se
 given_onward c client (Err fault) k = onward_record c (happened.Refused c.views.me client fault) tt
 given_onward c client (Ok u) k =
     let v : Casts c.sessions u = k u refl in
-    let one : KeptBallot = record { p = (v.by).p; group = (v.by).group; proto = (v.phase).proto; phase = (v.phase).phase; ballot = ballot_of c.sessions.level v.ballot } in
+    let one : KeptBallot = record { provider = (v.by).provider; group = (v.by).group; proto = (v.phase).proto; phase = (v.phase).phase; ballot = ballot_of c.sessions.level v.ballot } in
     let t : Core = voting c v.by v.phase v.ballot in
     subst (λ (z : SessionState). Onward c (cast_last (with_sessions c z) (last_or None z.kept))) (sym v.is) (subst (λ o. Onward c (cast_last (with_sessions c (keeps c.sessions v.by v.phase v.ballot)) o)) (sym (last_is c.sessions.kept one None)) (onward_then c t (ballot_sent_if t one (frozen (with_sessions c (keeps c.sessions v.by v.phase v.ballot)))) (voted_onward v) (sends t one (frozen (with_sessions c (keeps c.sessions v.by v.phase v.ballot))))))
   where
     told : {u : SessionState} → Casts c.sessions u → Happened
-    told v = happened.Cast (v.by).p (v.phase).proto (v.phase).phase (v.ballot).vote (v.ballot).value (v.ballot).message
+    told v = happened.Cast (v.by).provider (v.phase).proto (v.phase).phase (v.ballot).vote (v.ballot).value (v.ballot).message
 
     one : {u : SessionState} (v : Casts c.sessions u) (q : Happened) → Has q (told v ∷ []) → Unentered q
     one v q (inl e) = subst Unentered (sym e) tt
@@ -484,7 +484,7 @@ said_onward c client ended (Err fault) k = onward_record c (happened.Refused c.v
 
 -- a provider has one client
 abbrev pub OneOwner : SessionState → Type 0
-OneOwner s = (a b : Provider) → Has a s.providers → Has b s.providers → a.p ≡ b.p → a.client ≡ b.client
+OneOwner s = (a b : Provider) → Has a s.providers → Has b s.providers → a.provider ≡ b.provider → a.client ≡ b.client
 
 pub call_onward : (c : Core) (x : CallLine) → OneOwner c.sessions → c.records ≡ [] → Onward c (take_call c x)
 unfolding take_call inited add_session joined left expelled state_changed message_sent request_made attributes_changed voted subscribe_taken unsubscribe_taken goodbye_taken with_sessions

@@ -30,12 +30,12 @@ use Rattle.step_refinement.proofs.SessionLaws.{provider_same, provider_self}
 use Rattle.row_laws.specs.hearing.Changes.{Fewer}
 
 -- who is found is the provider
-pub found_is : (s : SessionState) (p : ProviderId) (x : Provider) → provider_of s p ≡ Some x → x.p ≡ p
+pub found_is : (s : SessionState) (p : ProviderId) (x : Provider) → provider_of s p ≡ Some x → x.provider ≡ p
 unfolding provider_of
-found_is s p x e = provider_same x.p p (find_has (is_provider p) s.providers x e).1
+found_is s p x e = provider_same x.provider p (find_has (is_provider p) s.providers x e).1
 
 -- who is found among those that were kept was found before
-find_kept : (keep : Provider → Bool) (p : ProviderId) (xs : List Provider) → ((a b : Provider) → Has a xs → Has b xs → a.p ≡ b.p → keep a ≡ keep b) → (x : Provider) → find (is_provider p) (filter keep xs) ≡ Some x → find (is_provider p) xs ≡ Some x
+find_kept : (keep : Provider → Bool) (p : ProviderId) (xs : List Provider) → ((a b : Provider) → Has a xs → Has b xs → a.provider ≡ b.provider → keep a ≡ keep b) → (x : Provider) → find (is_provider p) (filter keep xs) ≡ Some x → find (is_provider p) xs ≡ Some x
 find_kept keep p [] same x e = e
 find_kept keep p (y ∷ ys) same x e = by (keep y) (is_provider p y) refl refl e (find_kept keep p ys (λ a b h k. same a b (inr h) (inr k)) x)
   where
@@ -45,7 +45,7 @@ find_kept keep p (y ∷ ys) same x e = by (keep y) (is_provider p y) refl refl e
     by false true k q e rest =
         let f = find_has (is_provider p) (filter keep ys) x e in
         let g = has_filter keep x ys f.0 in
-        let z : keep x ≡ keep y = same x y (inr g.0) (inl refl) (provider_same x.p p f.1 ∙ sym (provider_same y.p p q)) in
+        let z : keep x ≡ keep y = same x y (inr g.0) (inl refl) (provider_same x.provider p f.1 ∙ sym (provider_same y.provider p q)) in
         absurd (let u : true ≡ false = sym g.1 ∙ z ∙ k in cc)
     by false false k q e rest = rest e
 
@@ -72,7 +72,7 @@ fewer_same s t me inc last e ballots =
     }
 
 -- the providers that go take their ballots with them
-pub fewer_kept : (s t : SessionState) (keep : Provider → Bool) (stays : KeptBallot → Bool) → t.me ≡ s.me → t.inc ≡ s.inc → s.last_request ≤ t.last_request → ((a b : Provider) → Has a s.providers → Has b s.providers → a.p ≡ b.p → keep a ≡ keep b) → t.providers ≡ filter keep s.providers → t.kept ≡ filter stays s.kept → ((x : Provider) (k : KeptBallot) → Has x s.providers → x.p ≡ k.p → keep x ≡ true → stays k ≡ true) → Fewer s t
+pub fewer_kept : (s t : SessionState) (keep : Provider → Bool) (stays : KeptBallot → Bool) → t.me ≡ s.me → t.inc ≡ s.inc → s.last_request ≤ t.last_request → ((a b : Provider) → Has a s.providers → Has b s.providers → a.provider ≡ b.provider → keep a ≡ keep b) → t.providers ≡ filter keep s.providers → t.kept ≡ filter stays s.kept → ((x : Provider) (k : KeptBallot) → Has x s.providers → x.provider ≡ k.provider → keep x ≡ true → stays k ≡ true) → Fewer s t
 unfolding provider_of
 fewer_kept s t keep stays me inc last same e ballots on =
     record {
@@ -81,44 +81,44 @@ fewer_kept s t keep stays me inc last same e ballots on =
       last = last;
       providers = λ p x q. find_kept keep p s.providers same x (ap (λ (z : List Provider). find (is_provider p) z) (sym e) ∙ q);
       rest = (stays, ballots);
-      still = λ x k q h. subst (Has k) (sym ballots) (filter_has stays k s.kept h (left x k (ap (λ (z : List Provider). find (is_provider k.p) z) (sym e) ∙ q)));
+      still = λ x k q h. subst (Has k) (sym ballots) (filter_has stays k s.kept h (left x k (ap (λ (z : List Provider). find (is_provider k.provider) z) (sym e) ∙ q)));
     }
   where
-    left : (x : Provider) (k : KeptBallot) → find (is_provider k.p) (filter keep s.providers) ≡ Some x → stays k ≡ true
+    left : (x : Provider) (k : KeptBallot) → find (is_provider k.provider) (filter keep s.providers) ≡ Some x → stays k ≡ true
     left x k q =
-        let f = find_has (is_provider k.p) (filter keep s.providers) x q in
+        let f = find_has (is_provider k.provider) (filter keep s.providers) x q in
         let g = has_filter keep x s.providers f.0 in
-        on x k g.0 (provider_same x.p k.p f.1) g.1
+        on x k g.0 (provider_same x.provider k.provider f.1) g.1
 
 pub fewer_without : (s : SessionState) (ps : List ProviderId) → Fewer s (without_providers s ps)
 unfolding without_providers
 fewer_without s ps =
-    fewer_kept s (without_providers s ps) (λ x. not (among ps x.p)) (λ k. not (among ps k.p)) refl refl (omega arith) (λ a b h k e. ap (λ z. not (among ps z)) e) refl refl (λ x k h e t. ap (λ z. not (among ps z)) (sym e) ∙ t)
+    fewer_kept s (without_providers s ps) (λ x. not (among ps x.provider)) (λ k. not (among ps k.provider)) refl refl (omega arith) (λ a b h k e. ap (λ z. not (among ps z)) e) refl refl (λ x k h e t. ap (λ z. not (among ps z)) (sym e) ∙ t)
 
 pub fewer_told : (s : SessionState) (p : ProviderId) (r : ℕ) (y : Why) → Fewer s (take_telling s p r y)
 unfolding take_telling told_of
 fewer_told s p r y = by (takes_telling s p r y) (is_join_request (outstanding s p) || is_dissolved y)
   where
-    by : (a b : Bool) → Fewer s (if a then (if b then without_providers s (p ∷ []) else record s { requests = filter (λ q. not (among (p ∷ []) q.p)) s.requests }) else s)
+    by : (a b : Bool) → Fewer s (if a then (if b then without_providers s (p ∷ []) else record s { requests = filter (λ q. not (among (p ∷ []) q.provider)) s.requests }) else s)
     by false b = fewer_same s s refl refl (omega arith) refl refl
     by true true = fewer_without s (p ∷ [])
-    by true false = fewer_same s (record s { requests = filter (λ q. not (among (p ∷ []) q.p)) s.requests }) refl refl (omega arith) refl refl
+    by true false = fewer_same s (record s { requests = filter (λ q. not (among (p ∷ []) q.provider)) s.requests }) refl refl (omega arith) refl refl
 
 -- a client's providers go with it
-pub fewer_ended : (s : SessionState) (t : ClientToken) → ((a b : Provider) → Has a s.providers → Has b s.providers → a.p ≡ b.p → a.client ≡ b.client) → Fewer s (end_session s t)
+pub fewer_ended : (s : SessionState) (t : ClientToken) → ((a b : Provider) → Has a s.providers → Has b s.providers → a.provider ≡ b.provider → a.client ≡ b.client) → Fewer s (end_session s t)
 unfolding end_session
 fewer_ended s t owner =
-    fewer_kept s (end_session s t) (λ x. not (is_client_of t x)) (λ k. not (is_owned s.providers t k.p)) refl refl (omega arith) (λ a b h k e. ap (λ (c : ClientToken). not (c.n == t.n)) (owner a b h k e)) refl refl (λ x k h e stays. ap not (unowned x k.p h e stays s.providers (λ y i. i)))
+    fewer_kept s (end_session s t) (λ x. not (is_client_of t x)) (λ k. not (is_owned s.providers t k.provider)) refl refl (omega arith) (λ a b h k e. ap (λ (c : ClientToken). not (c.n == t.number)) (owner a b h k e)) refl refl (λ x k h e stays. ap not (unowned x k.provider h e stays s.providers (λ y i. i)))
   where
     -- whose provider stays has no other that goes
-    unowned : (x : Provider) (p : ProviderId) → Has x s.providers → x.p ≡ p → not (is_client_of t x) ≡ true → (ys : List Provider) → ((y : Provider) → Has y ys → Has y s.providers) → is_owned ys t p ≡ false
+    unowned : (x : Provider) (p : ProviderId) → Has x s.providers → x.provider ≡ p → not (is_client_of t x) ≡ true → (ys : List Provider) → ((y : Provider) → Has y ys → Has y s.providers) → is_owned ys t p ≡ false
     unowned x p h e stays [] all = refl
-    unowned x p h e stays (y ∷ ys) all = by (is_client_of t y) (same_provider y.p p) refl refl (unowned x p h e stays ys (λ z i. all z (inr i)))
+    unowned x p h e stays (y ∷ ys) all = by (is_client_of t y) (same_provider y.provider p) refl refl (unowned x p h e stays ys (λ z i. all z (inr i)))
       where
-        by : (a b : Bool) → is_client_of t y ≡ a → same_provider y.p p ≡ b → is_owned ys t p ≡ false → ((a && b) || is_owned ys t p) ≡ false
+        by : (a b : Bool) → is_client_of t y ≡ a → same_provider y.provider p ≡ b → is_owned ys t p ≡ false → ((a && b) || is_owned ys t p) ≡ false
         by true true c d rest =
-            let f : y.client ≡ x.client = owner y x (all y (inl refl)) h (provider_same y.p p d ∙ sym e) in
-            let g : is_client_of t x ≡ true = ap (λ (z : ClientToken). z.n == t.n) (sym f) ∙ c in
+            let f : y.client ≡ x.client = owner y x (all y (inl refl)) h (provider_same y.provider p d ∙ sym e) in
+            let g : is_client_of t x ≡ true = ap (λ (z : ClientToken). z.number == t.number) (sym f) ∙ c in
             absurd (let z : true ≡ false = sym stays ∙ ap not g in cc)
         by true false c d rest = rest
         by false b c d rest = rest
@@ -146,25 +146,25 @@ fewer_asks s (Some x) phases f make u e = fewer_unless s (ask_fault s x f) (aske
 
 pub fewer_changes : (s : SessionState) (o : Option Provider) (phases : Phases) (attrs : Attrs) (u : SessionState) → member_changes s o phases attrs ≡ Ok u → Fewer s u
 fewer_changes s None phases attrs u e = absurd (cc)
-fewer_changes s (Some x) phases attrs u e = fewer_unless s _ (asked s x phases (λ r. Attributes x.p r attrs)) u (fewer_asked s x phases (λ r. Attributes x.p r attrs)) e
+fewer_changes s (Some x) phases attrs u e = fewer_unless s _ (asked s x phases (λ r. Attributes x.provider r attrs)) u (fewer_asked s x phases (λ r. Attributes x.provider r attrs)) e
 
 -- a provider that a token names is the one that its id names: who has the id has the token's number
-pub named_found : (s : SessionState) (m : MemberToken) (x : Provider) → find (is_member_of m) s.providers ≡ Some x → provider_of s x.p ≡ Some x
+pub named_found : (s : SessionState) (m : MemberToken) (x : Provider) → find (is_member_of m) s.providers ≡ Some x → provider_of s x.provider ≡ Some x
 unfolding provider_of
 named_found s m x = by s.providers
   where
-    by : (ys : List Provider) → find (is_member_of m) ys ≡ Some x → find (is_provider x.p) ys ≡ Some x
+    by : (ys : List Provider) → find (is_member_of m) ys ≡ Some x → find (is_provider x.provider) ys ≡ Some x
     by [] e = absurd (cc)
-    by (y ∷ ys) e = at (is_member_of m y) (is_provider x.p y) refl refl e (by ys)
+    by (y ∷ ys) e = at (is_member_of m y) (is_provider x.provider y) refl refl e (by ys)
       where
-        at : (a b : Bool) → is_member_of m y ≡ a → is_provider x.p y ≡ b → (if a then Some y else find (is_member_of m) ys) ≡ Some x → (find (is_member_of m) ys ≡ Some x → find (is_provider x.p) ys ≡ Some x) → (if b then Some y else find (is_provider x.p) ys) ≡ Some x
+        at : (a b : Bool) → is_member_of m y ≡ a → is_provider x.provider y ≡ b → (if a then Some y else find (is_member_of m) ys) ≡ Some x → (find (is_member_of m) ys ≡ Some x → find (is_provider x.provider) ys ≡ Some x) → (if b then Some y else find (is_provider x.provider) ys) ≡ Some x
         at true true a b e rest = e
         at true false a b e rest =
             let z : y ≡ x = cc in
-            absurd (let u : true ≡ false = sym (provider_self x.p) ∙ ap (λ (w : Provider). same_provider w.p x.p) (sym z) ∙ b in cc)
+            absurd (let u : true ≡ false = sym (provider_self x.provider) ∙ ap (λ (w : Provider). same_provider w.provider x.provider) (sym z) ∙ b in cc)
         at false true a b e rest =
             let f = (find_has (is_member_of m) ys x e).1 in
-            absurd (let u : true ≡ false = sym f ∙ ap (λ (w : ProviderId). w.join == m.n) (sym (provider_same y.p x.p b)) ∙ a in cc)
+            absurd (let u : true ≡ false = sym f ∙ ap (λ (w : ProviderId). w.join == m.number) (sym (provider_same y.provider x.provider b)) ∙ a in cc)
         at false false a b e rest = rest e
 
 -- what a call of a provider's vote keeps
@@ -172,19 +172,19 @@ pub record Casts (s u : SessionState) : Type 0 where
   pub by : Provider
   pub phase : OpenPhase
   pub ballot : Filled
-  pub found : provider_of s by.p ≡ Some by
+  pub found : provider_of s by.provider ≡ Some by
   pub opened : by.opened ≡ Some phase
-  pub unkept : list_any (is_kept_for by.p phase.proto phase.phase) s.kept ≡ false
+  pub unkept : list_any (is_kept_for by.provider phase.proto phase.phase) s.kept ≡ false
   pub is : u ≡ keeps s by phase ballot
 
-casts_in : (s : SessionState) (x : Provider) (v : Vote) (value : Option (List ℕ)) (o : Option OpenPhase) (u : SessionState) → provider_of s x.p ≡ Some x → x.opened ≡ o → vote_in s x v value o ≡ Ok u → Casts s u
+casts_in : (s : SessionState) (x : Provider) (v : Vote) (value : Option (List ℕ)) (o : Option OpenPhase) (u : SessionState) → provider_of s x.provider ≡ Some x → x.opened ≡ o → vote_in s x v value o ≡ Ok u → Casts s u
 casts_in s x v value None u found is e = absurd (cc)
-casts_in s x v value (Some o) u found is e = at (list_any (is_kept_for x.p o.proto o.phase) s.kept) refl e
+casts_in s x v value (Some o) u found is e = at (list_any (is_kept_for x.provider o.proto o.phase) s.kept) refl e
   where
     f : Filled
     f = record { vote = v; value = value; message = None }
 
-    at : (b : Bool) → list_any (is_kept_for x.p o.proto o.phase) s.kept ≡ b → unless_fault (fault_if b fault.VoteNotExpected) (keeps s x o f) ≡ Ok u → Casts s u
+    at : (b : Bool) → list_any (is_kept_for x.provider o.proto o.phase) s.kept ≡ b → unless_fault (fault_if b fault.VoteNotExpected) (keeps s x o f) ≡ Ok u → Casts s u
     at true b e = absurd (cc)
     at false b e = record { by = x; phase = o; ballot = f; found = found; opened = is; unkept = b; is = unless_is None (keeps s x o f) u e }
 
@@ -192,7 +192,7 @@ pub casts_voted : (s : SessionState) (m : MemberToken) (v : Vote) (value : Optio
 unfolding voted
 casts_voted s m v value u = first (is_empty s.sessions)
   where
-    limit : (x : Provider) → provider_of s x.p ≡ Some x → (b : Bool) → (if b then vote_in s x v value x.opened else Err (fault.BadParameter field.Value)) ≡ Ok u → Casts s u
+    limit : (x : Provider) → provider_of s x.provider ≡ Some x → (b : Bool) → (if b then vote_in s x v value x.opened else Err (fault.BadParameter field.Value)) ≡ Ok u → Casts s u
     limit x found true e = casts_in s x v value x.opened u found refl e
     limit x found false e = absurd (cc)
 

@@ -143,9 +143,9 @@ stands_fold f one (x ∷ xs) c =
 pub dissolved_stands : (c : Core) (h : List ℕ) (old : ViewId) (b : Option Base) (o : Option Provider) → Stands c (dissolved_if c h old b o)
 unfolding dissolved_if dissolved recorded with_sessions
 dissolved_stands c h old b None = record { groups = refl; views = refl }
-dissolved_stands c h old b (Some x) = by (x.takes_part && bytes_eq x.group h && not (is_in_base old x.p b))
+dissolved_stands c h old b (Some x) = by (x.takes_part && bytes_eq x.group h && not (is_in_base old x.provider b))
   where
-    by : (t : Bool) → Stands c (elim t as (λ _. Core) [ true ↦ dissolved c x.p (number_of (outstanding c.sessions x.p)) | false ↦ c ])
+    by : (t : Bool) → Stands c (elim t as (λ _. Core) [ true ↦ dissolved c x.provider (number_of (outstanding c.sessions x.provider)) | false ↦ c ])
     by true = record { groups = refl; views = refl }
     by false = record { groups = refl; views = refl }
 

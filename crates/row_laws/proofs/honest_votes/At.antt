@@ -107,7 +107,7 @@ module _ (h : History) where
         let ts : List Happened = (s.records ++ r ∷ []) ++ records_of h in
         record {
           sends = λ p i. body_on rs ts more p.body (a.sends p i);
-          kept = λ k i. ballot_on rs ts more k.p k.proto k.phase k.ballot.filled (a.kept k i);
+          kept = λ k i. ballot_on rs ts more k.provider k.proto k.phase k.ballot.filled (a.kept k i);
           lists = λ row i e j. entries_on rs ts more _ (a.lists row i) e j;
           views = views_on rs ts more s.views a.views;
           puts = subst (λ l. Within RecordCast l h) (sym (reverse-append s.records (r ∷ []))) (ok, a.puts);

@@ -317,9 +317,9 @@ module _ (h : History) where
   delivery E lasts T g e cast =
       record {
         sends = λ s network to v place stable a. (at_sent_on h T s network to (body.Entry v g place stable e) (cast (all_of s) a.1) a.0, a.1);
-        hears = λ s before after bs c i j a. pushed E lasts T s (happened.Heard c.p s.views.view g i e after.members after.value) tt a;
+        hears = λ s before after bs c i j a. pushed E lasts T s (happened.Heard c.provider s.views.view g i e after.members after.value) tt a;
         casts = λ s p proto phase vote value message a. pushed E lasts T s (happened.Cast p proto phase vote value message) tt a;
-        handed = λ s before after bs kept a. (at_sessions h T s (session.handed_on s.sessions g before after e bs) (λ k i. ⊎_elim (λ (j : Has k s.sessions.kept). (a.0).kept k j) (λ (j : KeptIs s.records k). cast_so s.records (records_of h) k.p k.proto k.phase k.ballot.filled j) (kept k i)) a.0, a.1);
+        handed = λ s before after bs kept a. (at_sessions h T s (session.handed_on s.sessions g before after e bs) (λ k i. ⊎_elim (λ (j : Has k s.sessions.kept). (a.0).kept k j) (λ (j : KeptIs s.records k). cast_so s.records (records_of h) k.provider k.proto k.phase k.ballot.filled j) (kept k i)) a.0, a.1);
       }
 
   abbrev pub put_row : Core → GroupRow → Entry → GroupRow
@@ -444,7 +444,7 @@ module _ (h : History) where
   unfolding wait_join keep_decision with_led led_of row_of
   waits s g p r attrs e a =
       let d : Core = keep_decision s g p r None in
-      led_row d g (λ l. record l { waiting = waits_join p l.waiting; join_attrs = keep_attrs l.join_attrs p attrs (is_idle_empty (state_of s g)) }) (λ l. refl) (λ z. differ_push (found d g).led.waiting.joins p z (ap (λ (row : GroupRow). among row.led.waiting.joins p) (row_here g (λ row. record row { led = record (row.led) { decided = decisions_with (record { p = p; r = r; why = None }) row.led.decided } }) (λ x. refl) s a.order) ∙ join_new s g p attrs e)) (led_row s g _ (λ l. refl) (λ z. z) a)
+      led_row d g (λ l. record l { waiting = waits_join p l.waiting; join_attrs = keep_attrs l.join_attrs p attrs (is_idle_empty (state_of s g)) }) (λ l. refl) (λ z. differ_push (found d g).led.waiting.joins p z (ap (λ (row : GroupRow). among row.led.waiting.joins p) (row_here g (λ row. record row { led = record (row.led) { decided = decisions_with (record { provider = p; request = r; why = None }) row.led.decided } }) (λ x. refl) s a.order) ∙ join_new s g p attrs e)) (led_row s g _ (λ l. refl) (λ z. z) a)
 
   pub telling : (s : Core) (p : ProviderId) (r : ℕ) (y : Why) → Full s → Full (recorded (with_sessions s (take_telling s.sessions p r y)) (happened.Told p r y))
   telling s p r y a =
@@ -571,12 +571,12 @@ module _ (h : History) where
           }
 
   -- a vote is recorded and kept
-  votes : (s : Core) (t : SessionState) (m : OneMore s.sessions t) → Full s → Full (recorded (with_sessions s t) (happened.Cast m.ballot.p m.ballot.proto m.ballot.phase m.filled.vote m.filled.value m.filled.message))
+  votes : (s : Core) (t : SessionState) (m : OneMore s.sessions t) → Full s → Full (recorded (with_sessions s t) (happened.Cast m.ballot.provider m.ballot.proto m.ballot.phase m.filled.vote m.filled.value m.filled.message))
   unfolding recorded with_sessions
   votes s t m a = at_sessions h Every (recorded s r) t all (at_recorded h Every s r tt a)
     where
       r : Happened
-      r = happened.Cast m.ballot.p m.ballot.proto m.ballot.phase m.filled.vote m.filled.value m.filled.message
+      r = happened.Cast m.ballot.provider m.ballot.proto m.ballot.phase m.filled.vote m.filled.value m.filled.message
 
       now : List Happened
       now = (s.records ++ r ∷ []) ++ records_of h
@@ -585,10 +585,10 @@ module _ (h : History) where
       all x i = by (has_append x s.sessions.kept (m.ballot ∷ []) (subst (Has x) m.more i))
         where
           own : KeptCast now m.ballot
-          own = subst (λ b. BallotCast now m.ballot.p m.ballot.proto m.ballot.phase b) (sym m.full) (record { value = m.filled.value; message = m.filled.message; recorded = has_last r s.records (records_of h) })
+          own = subst (λ b. BallotCast now m.ballot.provider m.ballot.proto m.ballot.phase b) (sym m.full) (record { value = m.filled.value; message = m.filled.message; recorded = has_last r s.records (records_of h) })
 
           by : Has x s.sessions.kept ⊎ Has x (m.ballot ∷ []) → KeptCast now x
-          by (inl j) = ballot_on (all_of s) now (λ y z. has_pushed_on r y s.records (records_of h) z) x.p x.proto x.phase x.ballot.filled (a.kept x j)
+          by (inl j) = ballot_on (all_of s) now (λ y z. has_pushed_on r y s.records (records_of h) z) x.provider x.proto x.phase x.ballot.filled (a.kept x j)
           by (inr (inl e)) = subst (KeptCast now) (sym e) own
           by (inr (inr z)) = absurd z
 
@@ -616,7 +616,7 @@ module _ (h : History) where
         beside = λ i xs. beside_with (Lacks i xs) (lacks_on i xs) NoGroup;
         fills = λ s i xs x e bs here there a. at_put (Lacks i xs) (lacks_on i xs) NoGroup NoGroup s x.name e [] 0 bs (λ rs k. k.1 x here e there) (λ k z ne. z) (λ z. absurd z) a;
         enters = λ s i xs a. at_view_entered s i (a.1).0 a.0;
-        dissolves = λ s q x e a. telling s x.p (number_of (outstanding s.sessions x.p)) Dissolved a;
+        dissolves = λ s q x e a. telling s x.provider (number_of (outstanding s.sessions x.provider)) Dissolved a;
       }
 
   pub ring : KeepsRing Full

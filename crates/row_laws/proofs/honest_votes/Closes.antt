@@ -29,13 +29,13 @@ use Rattle.row_laws.specs.honest_votes.Casts.{IsCast, RowCast, EntryCast, VoterC
 module _ (rs : List Happened) where
   -- ---- the rows of voters
 
-  rows_cast : (run : Running) (xs : List Voter) → ((x : Voter) → Has x xs → VoterCast rs run x.p x.vote) → (r : Row) → Has r (rows_of xs) → RowCast rs run.proto run.phase r.p r.vote
+  rows_cast : (run : Running) (xs : List Voter) → ((x : Voter) → Has x xs → VoterCast rs run x.provider x.vote) → (r : Row) → Has r (rows_of xs) → RowCast rs run.proto run.phase r.provider r.vote
   rows_cast run [] all r i = absurd i
   rows_cast run (x ∷ xs) all r i = by x.vote (all x (inl refl)) i (rows_cast run xs (λ y j. all y (inr j)) r)
     where
-      by : (v : Option RowVote) → VoterCast rs run x.p v → Has {A = Row} r (row_or (elim v as (λ _. Option Row) [ None ↦ None | Some v ↦ Some (record { p = x.p; vote = v }) ]) (rows_of xs)) → (Has r (rows_of xs) → RowCast rs run.proto run.phase r.p r.vote) → RowCast rs run.proto run.phase r.p r.vote
+      by : (v : Option RowVote) → VoterCast rs run x.provider v → Has {A = Row} r (row_or (elim v as (λ _. Option Row) [ None ↦ None | Some v ↦ Some (record { provider = x.provider; vote = v }) ]) (rows_of xs)) → (Has r (rows_of xs) → RowCast rs run.proto run.phase r.provider r.vote) → RowCast rs run.proto run.phase r.provider r.vote
       by None k j rest = rest j
-      by (Some v) k (inl e) rest = subst (λ (z : Row). RowCast rs run.proto run.phase z.p z.vote) (sym e) k
+      by (Some v) k (inl e) rest = subst (λ (z : Row). RowCast rs run.proto run.phase z.provider z.vote) (sym e) k
       by (Some v) k (inr j) rest = rest j
 
   -- the entry that closes a phase
@@ -62,17 +62,17 @@ module _ (rs : List Happened) where
   or_vote_cast run p v None k old = k
   or_vote_cast run p v (Some w) k old = old
 
-  each_given : (run : Running) (f : Voter → Voter) (xs : List Voter) → ((x : Voter) → VoterCast rs run x.p x.vote → VoterCast rs run (f x).p (f x).vote) → ((x : Voter) → Has x xs → VoterCast rs run x.p x.vote) → (y : Voter) → Has y (map f xs) → VoterCast rs run y.p y.vote
+  each_given : (run : Running) (f : Voter → Voter) (xs : List Voter) → ((x : Voter) → VoterCast rs run x.provider x.vote → VoterCast rs run (f x).provider (f x).vote) → ((x : Voter) → Has x xs → VoterCast rs run x.provider x.vote) → (y : Voter) → Has y (map f xs) → VoterCast rs run y.provider y.vote
   each_given run f xs step all y i =
       let k = has_map f y xs i in
-      subst (λ (z : Voter). VoterCast rs run z.p z.vote) (sym k.2) (step k.0 (all k.0 k.1))
+      subst (λ (z : Voter). VoterCast rs run z.provider z.vote) (sym k.2) (step k.0 (all k.0 k.1))
 
-  given_cast : (run : Running) (p : ProviderId) (v : RowVote) → ((q : ProviderId) → q ≡ p → RowCast rs run.proto run.phase q v) → (x : Voter) → VoterCast rs run x.p x.vote → VoterCast rs run (given_to p v x).p (given_to p v x).vote
+  given_cast : (run : Running) (p : ProviderId) (v : RowVote) → ((q : ProviderId) → q ≡ p → RowCast rs run.proto run.phase q v) → (x : Voter) → VoterCast rs run x.provider x.vote → VoterCast rs run (given_to p v x).provider (given_to p v x).vote
   given_cast run p v ok x k = by (is_voter p x) refl
     where
-      by : (b : Bool) → is_voter p x ≡ b → VoterCast rs run (if b then given v x else x).p (if b then given v x else x).vote
+      by : (b : Bool) → is_voter p x ≡ b → VoterCast rs run (if b then given v x else x).provider (if b then given v x else x).vote
       by false e = k
-      by true e = or_vote_cast run x.p v x.vote (ok x.p (provider_same x.p p e)) k
+      by true e = or_vote_cast run x.provider v x.vote (ok x.provider (provider_same x.provider p e)) k
 
   pub failed_cast : (p : ProviderId) (t : TallyView) (run : Option Running) → TallyCast rs (Some t) run → TallyCast rs (Some (tally_fail p t)) run
   failed_cast p t None k = tt
@@ -82,8 +82,8 @@ module _ (rs : List Happened) where
   ticked_cast t None k = tt
   ticked_cast t (Some run) k = by (passes t.limit t.count)
     where
-      by : (b : Bool) → (x : Voter) → Has x (late_if b t.default_vote t.voters) → VoterCast rs run x.p x.vote
-      by true = each_given run (given (row_vote.Late t.default_vote)) t.voters (λ x a. or_vote_cast run x.p (row_vote.Late t.default_vote) x.vote tt a) k
+      by : (b : Bool) → (x : Voter) → Has x (late_if b t.default_vote t.voters) → VoterCast rs run x.provider x.vote
+      by true = each_given run (given (row_vote.Late t.default_vote)) t.voters (λ x a. or_vote_cast run x.provider (row_vote.Late t.default_vote) x.vote tt a) k
       by false = k
 
   pub voted_cast : (p : ProviderId) (v : Vote) (t : TallyView) (run : Option Running) → ((r : Running) → run ≡ Some r → IsCast rs p r.proto r.phase v) → TallyCast rs (Some t) run → TallyCast rs (Some (tally_cast p v t)) run
@@ -106,7 +106,7 @@ module _ (rs : List Happened) where
   opened_cast st gone None = tt
   opened_cast st gone (Some run) =
       let t : TallyView = tally_new (voters st) st.attrs.default_vote (limit_of st.attrs st.running) in
-      fails_cast st.failed gone run (voters st) t (λ x i. let k = has_map no_vote x (voters st) i in subst (λ (z : Voter). VoterCast rs run z.p z.vote) (sym k.2) tt)
+      fails_cast st.failed gone run (voters st) t (λ x i. let k = has_map no_vote x (voters st) i in subst (λ (z : Voter). VoterCast rs run z.provider z.vote) (sym k.2) tt)
 
 -- the phase that runs
 pub runs_is : (proto : ProtoId) (phase : ℕ) (run : Running) → runs proto phase (Some run) ≡ true → (proto ≡ run.proto) × (phase ≡ run.phase)

@@ -42,7 +42,7 @@ module _ (rs ts : List Happened) (more : (r : Happened) → Has r rs → Has r t
   core_on : (s : Core) → CoreCast rs s → CoreCast ts s
   core_on s k =
       record {
-        kept = λ x i. ballot_on rs ts more x.p x.proto x.phase x.ballot.filled (k.kept x i);
+        kept = λ x i. ballot_on rs ts more x.provider x.proto x.phase x.ballot.filled (k.kept x i);
         lists = λ row i e j. entries_on rs ts more _ (k.lists row i) e j;
         views = views_on rs ts more s.views k.views;
         order = k.order;

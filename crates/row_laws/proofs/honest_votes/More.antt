@@ -34,9 +34,9 @@ module _ (rs ts : List Happened) (more : (r : Happened) → Has r rs → Has r t
   pub entry_on : (e : Entry) → EntryCast rs e → EntryCast ts e
   entry_on (Once x) k = k
   entry_on (Begin x) k = k
-  entry_on (Phase c) k = λ r i. row_on c.proto c.phase r.p r.vote (k r i)
-  entry_on (Approve c) k = λ r i. row_on c.proto c.phase r.p r.vote (k r i)
-  entry_on (Reject c) k = λ r i. row_on c.proto c.phase r.p r.vote (k r i)
+  entry_on (Phase c) k = λ r i. row_on c.proto c.phase r.provider r.vote (k r i)
+  entry_on (Approve c) k = λ r i. row_on c.proto c.phase r.provider r.vote (k r i)
+  entry_on (Reject c) k = λ r i. row_on c.proto c.phase r.provider r.vote (k r i)
   entry_on (Late proto phase ps) k = tt
 
   pub entries_on : (es : List Entry) → EntriesCast rs es → EntriesCast ts es
@@ -86,4 +86,4 @@ module _ (rs ts : List Happened) (more : (r : Happened) → Has r rs → Has r t
   pub tally_on : (t : Option TallyView) (run : Option Running) → TallyCast rs t run → TallyCast ts t run
   tally_on None run k = tt
   tally_on (Some t) None k = tt
-  tally_on (Some t) (Some run) k = λ x i. voter_on run x.p x.vote (k x i)
+  tally_on (Some t) (Some run) k = λ x i. voter_on run x.provider x.vote (k x i)

@@ -144,7 +144,7 @@ RowFails gone s p (row_vote.Late d) = Unit {0}
 RowFails gone s p (row_vote.Failed d) = (d ≡ s.attrs.default_vote) × ((among s.failed p ≡ true) ⊎ gone p)
 
 abbrev pub RowsFail : (ProviderId → Type 0) → GroupState → Closed → Type 0
-RowsFail gone s c = (r : Row) → Has r c.rows → RowFails gone s r.p r.vote
+RowsFail gone s c = (r : Row) → Has r c.rows → RowFails gone s r.provider r.vote
 
 -- a node without a member of the source, where the node that puts the entry has the source in these states
 pub record CastOut (source : List ℕ → GroupState) (s : GroupState) (p : ProviderId) : Type 0 where
@@ -160,7 +160,7 @@ CauseHolds gone source s p Cast = CastOut source s p
 -- a failure leave names members alone, each with a cause that holds
 abbrev pub LeavesFail : (ProviderId → Type 0) → (List ℕ → GroupState) → GroupState → Proposal → Type 0
 LeavesFail gone source s (Fail out) =
-    (f : Failure) → Has f out → (among s.members f.p ≡ true) × CauseHolds gone source s f.p f.cause
+    (f : Failure) → Has f out → (among s.members f.provider ≡ true) × CauseHolds gone source s f.provider f.cause
 LeavesFail gone source s (Join ps attrs n) = Unit {0}
 LeavesFail gone source s (Leave p r) = Unit {0}
 LeavesFail gone source s (Expel p r out) = Unit {0}

@@ -66,7 +66,7 @@ pub record Fewer (s t : SessionState) : Type 0 where
   pub last : s.last_request ≤ t.last_request
   pub providers : (p : ProviderId) (x : Provider) → provider_of t p ≡ Some x → provider_of s p ≡ Some x
   pub rest : (keep : KeptBallot → Bool) × (t.kept ≡ filter keep s.kept)
-  pub still : (x : Provider) (k : KeptBallot) → provider_of t k.p ≡ Some x → Has k s.kept → Has k t.kept
+  pub still : (x : Provider) (k : KeptBallot) → provider_of t k.provider ≡ Some x → Has k s.kept → Has k t.kept
 
 -- no view is entered
 abbrev pub Unentered : Happened → Type 0
@@ -84,7 +84,7 @@ entering s i = sides_dissolved (view_entered s i (bases_of i)) (held_rows s) s.v
 
 -- a provider votes by a call: its ballot is kept, and recorded
 abbrev pub voting : Core → Provider → OpenPhase → Filled → Core
-voting c x o b = recorded (with_sessions c (keeps c.sessions x o b)) (happened.Cast x.p o.proto o.phase b.vote b.value b.message)
+voting c x o b = recorded (with_sessions c (keeps c.sessions x o b)) (happened.Cast x.provider o.proto o.phase b.vote b.value b.message)
 
 -- what a step makes of a node, change by change
 pub data Does : Core → Core → Type 0 where
@@ -94,7 +94,7 @@ pub data Does : Core → Core → Type 0 where
   Hands : (s c : Core) (h : List ℕ) (e : Entry) (bs : List (Option Filled)) → InNameOrder s.groups → Same (put s h e) c → Does s (handing c h (len_of s h) (state_of s h) (state_of (put s h e) h) e bs)
   Loses : (s : Core) (t : SessionState) → Fewer s.sessions t → Does s (with_sessions s t)
   Joins : (s : Core) (t : ClientToken) (g : List ℕ) (instance : ℕ) (attrs : Attrs) → s.records ≡ [] → Does s (with_sessions s (join_asked s.sessions t g instance attrs))
-  Votes : (s : Core) (x : Provider) (o : OpenPhase) (b : Filled) → provider_of s.sessions x.p ≡ Some x → x.opened ≡ Some o → list_any (is_kept_for x.p o.proto o.phase) s.sessions.kept ≡ false → Does s (voting s x o b)
+  Votes : (s : Core) (x : Provider) (o : OpenPhase) (b : Filled) → provider_of s.sessions x.provider ≡ Some x → x.opened ≡ Some o → list_any (is_kept_for x.provider o.proto o.phase) s.sessions.kept ≡ false → Does s (voting s x o b)
   Enters : (s : Core) (i : Install) → Lt s.views.view i.view → ((r : Happened) → Has r s.records → Unentered r) → Does s (entering s i)
 
 -- so is each step of a node in each scene that events lead to: at each put of it just those hear, each in its turn and directly

@@ -48,7 +48,7 @@ RowCast rs proto phase p (row_vote.Late d) = Unit {0}
 RowCast rs proto phase p (row_vote.Failed d) = Unit {0}
 
 abbrev pub RowsCast : List Happened → Closed → Type 0
-RowsCast rs c = (r : Row) → Has r c.rows → RowCast rs c.proto c.phase r.p r.vote
+RowsCast rs c = (r : Row) → Has r c.rows → RowCast rs c.proto c.phase r.provider r.vote
 
 -- the providers of a join differ
 abbrev pub NamesOnce : Proposal → Type 0
@@ -113,7 +113,7 @@ BallotCast rs p proto phase (Some b) = IsCast rs p proto phase b.vote
 
 -- a kept ballot
 abbrev pub KeptCast : List Happened → KeptBallot → Type 0
-KeptCast rs k = BallotCast rs k.p k.proto k.phase k.ballot.filled
+KeptCast rs k = BallotCast rs k.provider k.proto k.phase k.ballot.filled
 
 abbrev pub GatheringCast : List Happened → Option Exchange → Type 0
 GatheringCast rs None = Unit {0}
@@ -135,4 +135,4 @@ VoterCast rs run p (Some v) = RowCast rs run.proto run.phase p v
 abbrev pub TallyCast : List Happened → Option TallyView → Option Running → Type 0
 TallyCast rs None run = Unit {0}
 TallyCast rs (Some t) None = Unit {0}
-TallyCast rs (Some t) (Some run) = (x : Voter) → Has x t.voters → VoterCast rs run x.p x.vote
+TallyCast rs (Some t) (Some run) = (x : Voter) → Has x t.voters → VoterCast rs run x.provider x.vote

@@ -74,7 +74,7 @@ does_first before _ _ (Records s r a) k = turned_none First none_first before s.
 does_first before _ _ (Hands s c h e bs o same) k = hands_none First none_first before s c h e bs same k
 does_first before _ _ (Loses s t f) k = k
 does_first before _ _ (Joins s t g instance attrs none) k = k
-does_first before _ _ (Votes s x o b found opened unkept) k = turned_none First none_first before s.records (happened.Cast x.p o.proto o.phase b.vote b.value b.message) tt k
+does_first before _ _ (Votes s x o b found opened unkept) k = turned_none First none_first before s.records (happened.Cast x.provider o.proto o.phase b.vote b.value b.message) tt k
 does_first before _ _ (Enters s i lt none) k =
     enters_none First none_first before s i (based_first s.views.me i.view before (bases_of i) (happened.In s.views.me i.view i.members ∷ reverse s.records) (entered_none s.views.me i.view before i.members (reverse s.records)) (λ j. eq-eqb s.views.me s.views.me refl j && view_self i.view i.view refl j) ((tt, tt), k))
 

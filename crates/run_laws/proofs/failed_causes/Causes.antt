@@ -50,7 +50,7 @@ module _ (gone now : ProviderId → Type 0) (on : (p : ProviderId) → gone p �
       by (inr g) = inr (on p g)
 
   rows_on : (s : GroupState) (c : Closed) → RowsFail gone s c → RowsFail now s c
-  rows_on s c k r h = row_on s r.p r.vote (k r h)
+  rows_on s c k r h = row_on s r.provider r.vote (k r h)
 
   cause_on : (source : List ℕ → GroupState) (s : GroupState) (p : ProviderId) (c : Cause) → CauseHolds gone source s p c → CauseHolds now source s p c
   cause_on source s p Died k = k
@@ -58,7 +58,7 @@ module _ (gone now : ProviderId → Type 0) (on : (p : ProviderId) → gone p �
   cause_on source s p Cast k = k
 
   leaves_on : (source : List ℕ → GroupState) (s : GroupState) (x : Proposal) → LeavesFail gone source s x → LeavesFail now source s x
-  leaves_on source s (Fail out) k = λ f h. let z = k f h in (z.0, cause_on source s f.p f.cause z.1)
+  leaves_on source s (Fail out) k = λ f h. let z = k f h in (z.0, cause_on source s f.provider f.cause z.1)
   leaves_on source s _ k = tt
 
   entry_on : (source : List ℕ → GroupState) (s : GroupState) (e : Entry) → EntryFails gone source s e → EntryFails now source s e

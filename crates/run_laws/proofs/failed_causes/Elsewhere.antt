@@ -124,7 +124,7 @@ module _ (n inc : ℕ) (before : History) (old : ViewId) (last : ℕ) where
   does_away _ _ (Hands s c h e bs ordered same) rs more fine lively fresh failing o k = hands_none Away none_away before s c h e bs same k
   does_away _ _ (Loses s t f) rs more fine lively fresh failing o k = k
   does_away _ _ (Joins s t g instance attrs none) rs more fine lively fresh failing o k = k
-  does_away _ _ (Votes s x o b found opened unkept) rs more fine lively fresh failing ord k = turned_none Away none_away before s.records (happened.Cast x.p o.proto o.phase b.vote b.value b.message) tt k
+  does_away _ _ (Votes s x o b found opened unkept) rs more fine lively fresh failing ord k = turned_none Away none_away before s.records (happened.Cast x.provider o.proto o.phase b.vote b.value b.message) tt k
   does_away _ _ (Enters s i lt none) rs more fine lively fresh failing o k = enters_away s i lt none rs more failing o k
 
 -- ---- every scene

@@ -45,7 +45,7 @@ use Rattle.std.specs.Option.{option_or}
 
 -- what a call records
 abbrev pub CallRecord : SessionState → Happened → Type 0
-CallRecord t (happened.Asked p r g x) = (y : Provider) × Has y t.providers × (y.p ≡ p)
+CallRecord t (happened.Asked p r g x) = (y : Provider) × Has y t.providers × (y.provider ≡ p)
 CallRecord t (happened.Cast p proto phase vote value message) = Unit {0}
 CallRecord t (happened.Refused n c fault) = Unit {0}
 CallRecord t _ = ⊥
@@ -90,7 +90,7 @@ module _ (c : CallLine) (s : Core) (none : s.records ≡ []) where
   plain_joins : (u : SessionState) → Plain s.sessions u → JoinWaits s.sessions → JoinWaits u
   unfolding provider_of
   plain_joins u k j q i e =
-      let a = j q (k.joins q i e) e in (a.0, λ y f. a.1 y (ap (λ (z : List Provider). find (is_provider q.p) z) (sym k.providers) ∙ f))
+      let a = j q (k.joins q i e) e in (a.0, λ y f. a.1 y (ap (λ (z : List Provider). find (is_provider q.provider) z) (sym k.providers) ∙ f))
 
   -- where nothing is recorded of joins
   plain : (u : SessionState) (rs : List Happened) → Plain s.sessions u → ((r : Happened) → Has r rs → CallRecord u r) → ((g : List ℕ) (p : ProviderId) → AskedJoin g p rs → ⊥) → Made c s (record s { sessions = u; records = rs })
@@ -122,7 +122,7 @@ module _ (c : CallLine) (s : Core) (none : s.records ≡ []) where
   pub record Asks (u : SessionState) : Type 0 where
     pub request : Request
     pub last : last_or None u.requests ≡ Some request
-    pub own : (y : Provider) × Has y s.sessions.providers × (y.p ≡ request.p)
+    pub own : (y : Provider) × Has y s.sessions.providers × (y.provider ≡ request.provider)
     pub other : (p : ProviderId) → among (joins_of request.proposal) p ≡ false
     pub plain_it : Plain s.sessions u
 
@@ -131,7 +131,7 @@ module _ (c : CallLine) (s : Core) (none : s.records ≡ []) where
   proposed_made client (Err f) k = refused_made client f
   proposed_made client (Ok u) k =
       let d : Core = record s { sessions = u } in
-      let a : Happened = happened.Asked q.p q.r q.group q.proposal in
+      let a : Happened = happened.Asked q.provider q.request q.group q.proposal in
       let t : Core = record d { records = s.records ++ a ∷ [] } in
       subst (λ o. Made c s (ask_last d o)) (sym j.last) (made_sends c s t (send_request t q) (request_sends t q) (plain u (s.records ++ a ∷ []) j.plain_it (λ r i. subst (CallRecord u) (sym (one_of a r i)) (j.own.0, subst (Has j.own.0) (sym j.plain_it.providers) j.own.1, j.own.2)) (λ g p b. no_join p b.proposal (same (one_of a (happened.Asked p p.join g b.proposal) b.there)) b.joins)))
     where
@@ -141,7 +141,7 @@ module _ (c : CallLine) (s : Core) (none : s.records ≡ []) where
       q : Request
       q = j.request
 
-      same : {p : ProviderId} {g : List ℕ} {y : Proposal} → happened.Asked p p.join g y ≡ happened.Asked q.p q.r q.group q.proposal → y ≡ q.proposal
+      same : {p : ProviderId} {g : List ℕ} {y : Proposal} → happened.Asked p p.join g y ≡ happened.Asked q.provider q.request q.group q.proposal → y ≡ q.proposal
       same e = cc
 
       no_join : (p : ProviderId) (y : Proposal) → y ≡ q.proposal → among (joins_of y) p ≡ true → ⊥
@@ -152,7 +152,7 @@ module _ (c : CallLine) (s : Core) (none : s.records ≡ []) where
   asked_asks x phases make o u has other e = subst Asks (sym (unless_is o (asked s.sessions x phases make) u e)) (record { request = q; last = last_is s.sessions.requests q None; own = (x, has, refl); other = λ p. ap (λ z. among z p) (other (s.sessions.last_request + 1)).0; plain_it = record { providers = refl; joins = joins } })
     where
       q : Request
-      q = record { p = x.p; r = s.sessions.last_request + 1; group = x.group; phases = phases; proposal = make (s.sessions.last_request + 1) }
+      q = record { provider = x.provider; request = s.sessions.last_request + 1; group = x.group; phases = phases; proposal = make (s.sessions.last_request + 1) }
 
       joins : (z : Request) → Has z (s.sessions.requests ++ q ∷ []) → is_join z.proposal ≡ true → Has z s.sessions.requests
       joins z i j = by (has_append z s.sessions.requests (q ∷ []) i)
@@ -180,7 +180,7 @@ module _ (c : CallLine) (s : Core) (none : s.records ≡ []) where
     where
       by : (o : Option Provider) → find (is_member_of m) s.sessions.providers ≡ o → member_changes s.sessions o phases attrs ≡ Ok u → Asks u
       by None q e = absurd (cc)
-      by (Some x) q e = asked_asks x phases (λ r. Attributes x.p r attrs) _ u (find_has (is_member_of m) s.sessions.providers x q).0 (λ r. (refl, refl)) e
+      by (Some x) q e = asked_asks x phases (λ r. Attributes x.provider r attrs) _ u (find_has (is_member_of m) s.sessions.providers x q).0 (λ r. (refl, refl)) e
 
   -- a vote
   given_made : (client : List ℕ) (r : Result SessionState GsFault) → ((u : SessionState) → r ≡ Ok u → Casts s.sessions u) → Made c s (give_ballot s client r)
@@ -204,7 +204,7 @@ module _ (c : CallLine) (s : Core) (none : s.records ≡ []) where
       said : (b : KeptBallot) (o : Option Filled) → Made c s (record_ballot d b o)
       said b None = begin
       said b (Some f) =
-          let a : Happened = happened.Cast b.p b.proto b.phase f.vote f.value f.message in
+          let a : Happened = happened.Cast b.provider b.proto b.phase f.vote f.value f.message in
           plain u (s.records ++ a ∷ []) same (λ r i. subst (CallRecord u) (sym (one_of a r i)) tt) (λ g p z. let y = one_of a (happened.Asked p p.join g z.proposal) z.there in cc)
 
       by : (o : Option KeptBallot) → Made c s (cast_last d o)
@@ -237,7 +237,7 @@ module _ (s : Core) (none : s.records ≡ []) (client : List ℕ) (own : OneOwne
         records = λ r i. absurd (subst (Has r) none i);
         found = λ p x q. ⊎_elim (λ (a : provider_of u p ≡ Some x). inl a) (λ (a : is_client_of t x ≡ true). inr (client, refl, a, none)) (ended_found p x q (is_client_of t x) refl);
         asks = λ g p a. absurd (subst (Has (happened.Asked p p.join g a.proposal)) none a.there);
-        joins = λ j q i e. let a = j q (ended_requests q i) e in (a.0, λ y f. a.1 y ((fewer_ended s.sessions t own).providers q.p y f));
+        joins = λ j q i e. let a = j q (ended_requests q i) e in (a.0, λ y f. a.1 y ((fewer_ended s.sessions t own).providers q.provider y f));
       }
 
   said_made : (xs : List Provider) (r : Result SessionState GsFault) → ((v : SessionState) → r ≡ Ok v → v ≡ u) → Made (call.Goodbye client) s (goodbye_said s client xs r)
@@ -248,7 +248,7 @@ module _ (s : Core) (none : s.records ≡ []) (client : List ℕ) (own : OneOwne
 
 -- ---- a join
 
-module _ (s : Core) (none : s.records ≡ []) (low : (x : Provider) → Has x s.sessions.providers → x.p.join ≤ s.sessions.last_request) (known : (q : Request) → Has q s.sessions.requests → (y : Provider) × Has y s.sessions.providers × (y.p ≡ q.p)) (c : CallLine) (client g : List ℕ) (instance : ℕ) (attrs : Attrs) where
+module _ (s : Core) (none : s.records ≡ []) (low : (x : Provider) → Has x s.sessions.providers → x.provider.join ≤ s.sessions.last_request) (known : (q : Request) → Has q s.sessions.requests → (y : Provider) × Has y s.sessions.providers × (y.provider ≡ q.provider)) (c : CallLine) (client g : List ℕ) (instance : ℕ) (attrs : Attrs) where
   abbrev token : ClientToken
   token = client_token s.sessions client
 
@@ -256,19 +256,19 @@ module _ (s : Core) (none : s.records ≡ []) (low : (x : Provider) → Has x s.
   new = new_provider s.sessions instance
 
   abbrev next : Provider
-  next = record { p = new; client = token; group = g; takes_part = false; opened = None }
+  next = record { provider = new; client = token; group = g; takes_part = false; opened = None }
 
   abbrev request : Request
-  request = record { p = new; r = s.sessions.last_request + 1; group = g; phases = One; proposal = Join (new ∷ []) attrs None }
+  request = record { provider = new; request = s.sessions.last_request + 1; group = g; phases = One; proposal = Join (new ∷ []) attrs None }
 
   abbrev after : SessionState
   after = join_asked s.sessions token g instance attrs
 
-  not_new : (y : Provider) → Has y s.sessions.providers → y.p ≡ new → ⊥
-  not_new y i e = let a = low y i in let b : y.p.join ≡ s.sessions.last_request + 1 = ap (λ (z : ProviderId). z.join) e in omega (arith, a, b)
+  not_new : (y : Provider) → Has y s.sessions.providers → y.provider ≡ new → ⊥
+  not_new y i e = let a = low y i in let b : y.provider.join ≡ s.sessions.last_request + 1 = ap (λ (z : ProviderId). z.join) e in omega (arith, a, b)
 
   none_new : (y : Provider) → find (is_provider new) s.sessions.providers ≡ Some y → ⊥
-  none_new y e = let k = find_has (is_provider new) s.sessions.providers y e in not_new y k.0 (provider_same y.p new k.1)
+  none_new y e = let k = find_has (is_provider new) s.sessions.providers y e in not_new y k.0 (provider_same y.provider new k.1)
 
   joined_stands : Stood after new g false
   unfolding join_asked provider_of
@@ -285,9 +285,9 @@ module _ (s : Core) (none : s.records ≡ []) (low : (x : Provider) → Has x s.
       no_part : (y : Provider) → y ≡ next → y.takes_part ≡ false
       no_part y z = ap (λ (a : Provider). a.takes_part) z
 
-      by : Has q s.sessions.requests ⊎ Has q (request ∷ []) → (q.r ≡ q.p.join) × ((y : Provider) → find (is_provider q.p) (s.sessions.providers ++ next ∷ []) ≡ Some y → y.takes_part ≡ false)
-      by (inl h) = let a = j q h e in (a.0, λ y f. ⊎_elim (λ (z : find (is_provider q.p) s.sessions.providers ≡ Some y). a.1 y z) (λ (z : (y ≡ next) × (q.p ≡ new)). no_part y z.0) (found_joined next q.p s.sessions.providers y f))
-      by (inr (inl z)) = subst (λ (q : Request). (q.r ≡ q.p.join) × ((y : Provider) → find (is_provider q.p) (s.sessions.providers ++ next ∷ []) ≡ Some y → y.takes_part ≡ false)) (sym z) (refl, λ y f. ⊎_elim (λ (z : find (is_provider new) s.sessions.providers ≡ Some y). absurd (none_new y z)) (λ (z : (y ≡ next) × (new ≡ new)). no_part y z.0) (found_joined next new s.sessions.providers y f))
+      by : Has q s.sessions.requests ⊎ Has q (request ∷ []) → (q.request ≡ q.provider.join) × ((y : Provider) → find (is_provider q.provider) (s.sessions.providers ++ next ∷ []) ≡ Some y → y.takes_part ≡ false)
+      by (inl h) = let a = j q h e in (a.0, λ y f. ⊎_elim (λ (z : find (is_provider q.provider) s.sessions.providers ≡ Some y). a.1 y z) (λ (z : (y ≡ next) × (q.provider ≡ new)). no_part y z.0) (found_joined next q.provider s.sessions.providers y f))
+      by (inr (inl z)) = subst (λ (q : Request). (q.request ≡ q.provider.join) × ((y : Provider) → find (is_provider q.provider) (s.sessions.providers ++ next ∷ []) ≡ Some y → y.takes_part ≡ false)) (sym z) (refl, λ y f. ⊎_elim (λ (z : find (is_provider new) s.sessions.providers ≡ Some y). absurd (none_new y z)) (λ (z : (y ≡ next) × (new ≡ new)). no_part y z.0) (found_joined next new s.sessions.providers y f))
       by (inr (inr z)) = absurd z
 
   joined_found : (p : ProviderId) (x : Provider) → provider_of s.sessions p ≡ Some x → provider_of after p ≡ Some x
@@ -314,7 +314,7 @@ module _ (s : Core) (none : s.records ≡ []) (low : (x : Provider) → Has x s.
       same : (h : List ℕ) (p : ProviderId) (y : Proposal) → happened.Asked p p.join h y ≡ happened.Asked new (s.sessions.last_request + 1) g (Join (new ∷ []) attrs None) → ◌≡◌ {A = ProviderId × List ℕ} (new, g) (p, h)
       same h p y e = let a : p ≡ new = cc in let b : h ≡ g = cc in (λ i. (sym a i, sym b i))
 
-pub call_made : (c : CallLine) (s : Core) → s.records ≡ [] → OneOwner s.sessions → ((x : Provider) → Has x s.sessions.providers → x.p.join ≤ s.sessions.last_request) → ((q : Request) → Has q s.sessions.requests → (y : Provider) × Has y s.sessions.providers × (y.p ≡ q.p)) → Made c s (take_call s c)
+pub call_made : (c : CallLine) (s : Core) → s.records ≡ [] → OneOwner s.sessions → ((x : Provider) → Has x s.sessions.providers → x.provider.join ≤ s.sessions.last_request) → ((q : Request) → Has q s.sessions.requests → (y : Provider) × Has y s.sessions.providers × (y.provider ≡ q.provider)) → Made c s (take_call s c)
 unfolding take_call inited add_session joined left expelled state_changed message_sent subscribe_taken unsubscribe_taken goodbye_taken
 call_made (call.Init node name votes) s none own low known = changed_made _ s none name _ (λ u e. subst (Plain s.sessions) (sym (unless_is _ (add_session s.sessions name) u e)) (record { providers = refl; joins = λ q i j. i }))
 call_made (call.Join client g instance attrs) s none own low known = joined_made s none low known _ client g instance attrs (join_fault s.sessions (client_token s.sessions client) g attrs)

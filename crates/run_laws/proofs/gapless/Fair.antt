@@ -144,7 +144,7 @@ module _ (c : Core) where
       }
     where
       it : Decision
-      it = record { p = q; r = r; why = y }
+      it = record { provider = q; request = r; why = y }
 
       change : Led → Led
       change l = record l { decided = decisions_with it l.decided }
@@ -156,9 +156,9 @@ module _ (c : Core) where
   unfolding decision_of led_of row_of
   fair_knows s g q d e k = by (find (λ (row : GroupRow). bytes_eq row.name g) s.groups) refl e
     where
-      by : (o : Option GroupRow) → find (λ (row : GroupRow). bytes_eq row.name g) s.groups ≡ o → find (λ (d : Decision). same_provider d.p q) (row_found g o).led.decided ≡ Some d → Fairly d.why
+      by : (o : Option GroupRow) → find (λ (row : GroupRow). bytes_eq row.name g) s.groups ≡ o → find (λ (d : Decision). same_provider d.provider q) (row_found g o).led.decided ≡ Some d → Fairly d.why
       by None f z = absurd (cc)
-      by (Some row) f z = k.speaks.decided row (find_has (λ (row : GroupRow). bytes_eq row.name g) s.groups row f).0 d (find_has (λ (d : Decision). same_provider d.p q) row.led.decided d z).0
+      by (Some row) f z = k.speaks.decided row (find_has (λ (row : GroupRow). bytes_eq row.name g) s.groups row f).0 d (find_has (λ (d : Decision). same_provider d.provider q) row.led.decided d z).0
 
   fair_spoken : (s : Core) (b : Body) → Fair c s → Spoken s b → FairBody b
   fair_spoken s (body.Tell v g q r y) k (inl e) = e
@@ -171,7 +171,7 @@ module _ (c : Core) where
       record {
         sends = λ s network to b spoken k. fair_sends s network to b (fair_spoken s b k spoken) k;
         puts = λ s g e ok k. fair_records _ (happened.Put s.views.me s.views.view g (len_of s g) e) tt (fair_row s g _ (λ row. refl) k);
-        hears = λ s g before after e bs x i h k. fair_records s (happened.Heard x.p s.views.view g i e after.members after.value) tt k;
+        hears = λ s g before after e bs x i h k. fair_records s (happened.Heard x.provider s.views.view g i e after.members after.value) tt k;
         casts = λ s p proto phase vote value message k. fair_records s (happened.Cast p proto phase vote value message) tt k;
         handed = λ s g before after e bs k. alike s (with_sessions s (handed_on s.sessions g before after e bs)) refl refl refl k;
       }

@@ -35,43 +35,43 @@ find_kept p keep (y ∷ ys) x k e = by (keep y) (is_provider p y) refl refl e (f
     by false true m q e rest = absurd (let z : true ≡ false = sym k ∙ ap keep (sym (some_is e)) ∙ m in cc)
     by false false m q e rest = rest e
 
-find_without : (p : ProviderId) (out : List ProviderId) (xs : List Provider) (x : Provider) → among out p ≡ false → find (is_provider p) xs ≡ Some x → find (is_provider p) (filter (λ (x : Provider). not (among out x.p)) xs) ≡ Some x
+find_without : (p : ProviderId) (out : List ProviderId) (xs : List Provider) (x : Provider) → among out p ≡ false → find (is_provider p) xs ≡ Some x → find (is_provider p) (filter (λ (x : Provider). not (among out x.provider)) xs) ≡ Some x
 find_without p out xs x off e =
-    find_kept p (λ (x : Provider). not (among out x.p)) xs x (ap (λ q. not (among out q)) (provider_same x.p p (find_has (is_provider p) xs x e).1) ∙ ap not off) e
+    find_kept p (λ (x : Provider). not (among out x.provider)) xs x (ap (λ q. not (among out q)) (provider_same x.provider p (find_has (is_provider p) xs x e).1) ∙ ap not off) e
 
 -- it is of a join that the provider has outstanding under that number, or says that the group is dissolved
 abbrev pub Drops : SessionState → ProviderId → ℕ → Why → Type 0
-Drops s q r y = ((z : Request) × (outstanding s q ≡ Some z) × (z.r ≡ r) × (is_join z.proposal ≡ true)) ⊎ (is_dissolved y ≡ true)
+Drops s q r y = ((z : Request) × (outstanding s q ≡ Some z) × (z.request ≡ r) × (is_join z.proposal ≡ true)) ⊎ (is_dissolved y ≡ true)
 
 pub told_stands : (s : SessionState) (q : ProviderId) (r : ℕ) (y : Why) (p : ProviderId) (x : Provider) → provider_of s p ≡ Some x → (provider_of (take_telling s q r y) p ≡ Some x) ⊎ ((q ≡ p) × Drops s q r y)
 unfolding take_telling told_of takes_telling without_providers provider_of
 told_stands s q r y p x found = by (is_some (find (is_provider q) s.providers)) (outstanding s q) refl (is_dissolved y) refl
   where
-    dropped : Drops s q r y → (b : Bool) → same_provider q p ≡ b → (find (is_provider p) (filter (λ (x : Provider). not (among (q ∷ []) x.p)) s.providers) ≡ Some x) ⊎ ((q ≡ p) × Drops s q r y)
+    dropped : Drops s q r y → (b : Bool) → same_provider q p ≡ b → (find (is_provider p) (filter (λ (x : Provider). not (among (q ∷ []) x.provider)) s.providers) ≡ Some x) ⊎ ((q ≡ p) × Drops s q r y)
     dropped why true e = inr (provider_same q p e, why)
     dropped why false e = inl (find_without p (q ∷ []) s.providers x (ap (λ b. b || false) e) found)
 
-    by : (o : Bool) (n : Option Request) → outstanding s q ≡ n → (d : Bool) → is_dissolved y ≡ d → (provider_of (if o && (is_numbered r n || d) then (if is_join_request n || d then without_providers s (q ∷ []) else record s { requests = filter (λ (z : Request). not (among (q ∷ []) z.p)) s.requests }) else s) p ≡ Some x) ⊎ ((q ≡ p) × Drops s q r y)
+    by : (o : Bool) (n : Option Request) → outstanding s q ≡ n → (d : Bool) → is_dissolved y ≡ d → (provider_of (if o && (is_numbered r n || d) then (if is_join_request n || d then without_providers s (q ∷ []) else record s { requests = filter (λ (z : Request). not (among (q ∷ []) z.provider)) s.requests }) else s) p ≡ Some x) ⊎ ((q ≡ p) × Drops s q r y)
     by false n e d f = inl found
     by true None e true f = dropped (inr f) (same_provider q p) refl
     by true None e false f = inl found
-    by true (Some z) e d f = at (z.r == r) (is_join z.proposal) d refl refl f
+    by true (Some z) e d f = at (z.request == r) (is_join z.proposal) d refl refl f
       where
-        at : (a b c : Bool) → (z.r == r) ≡ a → is_join z.proposal ≡ b → is_dissolved y ≡ c → (provider_of (if a || c then (if b || c then without_providers s (q ∷ []) else record s { requests = filter (λ (z : Request). not (among (q ∷ []) z.p)) s.requests }) else s) p ≡ Some x) ⊎ ((q ≡ p) × Drops s q r y)
-        at true true c k m g = dropped (inl (z, e, eqb-true z.r r k, m)) (same_provider q p) refl
+        at : (a b c : Bool) → (z.request == r) ≡ a → is_join z.proposal ≡ b → is_dissolved y ≡ c → (provider_of (if a || c then (if b || c then without_providers s (q ∷ []) else record s { requests = filter (λ (z : Request). not (among (q ∷ []) z.provider)) s.requests }) else s) p ≡ Some x) ⊎ ((q ≡ p) × Drops s q r y)
+        at true true c k m g = dropped (inl (z, e, eqb-true z.request r k, m)) (same_provider q p) refl
         at true false true k m g = dropped (inr g) (same_provider q p) refl
         at true false false k m g = inl found
         at false b true k m g = gone b (dropped (inr g) (same_provider q p) refl)
           where
-            gone : (b : Bool) → (find (is_provider p) (filter (λ (x : Provider). not (among (q ∷ []) x.p)) s.providers) ≡ Some x) ⊎ ((q ≡ p) × Drops s q r y) → (provider_of (if b || true then without_providers s (q ∷ []) else record s { requests = filter (λ (z : Request). not (among (q ∷ []) z.p)) s.requests }) p ≡ Some x) ⊎ ((q ≡ p) × Drops s q r y)
+            gone : (b : Bool) → (find (is_provider p) (filter (λ (x : Provider). not (among (q ∷ []) x.provider)) s.providers) ≡ Some x) ⊎ ((q ≡ p) × Drops s q r y) → (provider_of (if b || true then without_providers s (q ∷ []) else record s { requests = filter (λ (z : Request). not (among (q ∷ []) z.provider)) s.requests }) p ≡ Some x) ⊎ ((q ≡ p) × Drops s q r y)
             gone true u = u
             gone false u = u
         at false b false k m g = inl found
 
 -- whose request is outstanding
-pub asked_own : (s : SessionState) (q : ProviderId) (z : Request) → outstanding s q ≡ Some z → Has z s.requests × (z.p ≡ q)
+pub asked_own : (s : SessionState) (q : ProviderId) (z : Request) → outstanding s q ≡ Some z → Has z s.requests × (z.provider ≡ q)
 unfolding outstanding
-asked_own s q z e = let k = find_has (is_asked_by q) s.requests z e in (k.0, provider_same z.p q k.1)
+asked_own s q z e = let k = find_has (is_asked_by q) s.requests z e in (k.0, provider_same z.provider q k.1)
 
 -- ---- an entry is handed on
 

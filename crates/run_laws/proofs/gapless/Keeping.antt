@@ -178,7 +178,7 @@ module _ (n : ℕ) (before : History) (p : ProviderId) (node : p.node ≡ n) (fi
           waits = λ g a. ⊎_elim (λ (x : Stood s.sessions p g false). inl (stood_on g false x)) (λ (x : Over n g p (earlier (reverse s.records) before)). inr (pushed_over g new (reverse s.records) x)) (v.waits g (pushed_asked g new (reverse s.records) entered_all a));
           takes = λ g a. let b = taker_passed p i.view (base_is (base_named bs g)) (stays n g (earlier (reverse s.records) before)) (subst (Taker p) (stays_at g) a) in
               ⊎_elim (λ (x : Stood s.sessions p g true). inl (stood_on g true x)) (λ (x : Dissolving p (earlier (reverse s.records) before)). inr (pushed_dissolving new (reverse s.records) x)) (v.takes g b.0);
-          joins = λ q h j. let a = v.joins q (subst (Has q) same_requests h) j in (a.0, λ y f. a.1 y (sym (same_found q.p) ∙ f));
+          joins = λ q h j. let a = v.joins q (subst (Has q) same_requests h) j in (a.0, λ y f. a.1 y (sym (same_found q.provider) ∙ f));
           law = within_pushed (Law n before p node final) Entered entered_law new (reverse s.records) before entered_all v.law;
         }
 

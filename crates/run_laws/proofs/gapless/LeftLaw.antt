@@ -60,7 +60,7 @@ known_lives c w k n s up p known = by known
     here : NodeIsIf w.config rests.ghost [] n (w.incs n) (Some s)
     here = subst (NodeIsIf w.config rests.ghost [] n (w.incs n)) up (rests.nodes n)
 
-    by : ((q : Request) × Has q s.sessions.requests × (q.p ≡ p)) ⊎ IsLive s.sessions p → was_let_go p w.before ≡ false
+    by : ((q : Request) × Has q s.sessions.requests × (q.provider ≡ p)) ⊎ IsLive s.sessions p → was_let_go p w.before ≡ false
     by (inl q) = let y = here.0.owes.attended q.0 q.1 in live (y.0, y.1, y.2 ∙ q.2)
     by (inr l) = live l
 

@@ -63,11 +63,11 @@ pub heards_inert : (v : ViewId) (h : List ℕ) (i : ℕ) (e : Entry) (st : Group
 heards_inert v h i e st cs r k = voiced_inert r (all_voiced v h i e st cs r k)
 
 -- who casts is heard
-heard_has : (v : ViewId) (h : List ℕ) (i : ℕ) (e : Entry) (st : GroupState) (cs : List Cast) (c : Cast) → Has c cs → Has (happened.Heard c.p v h i e st.members st.value) (flat_map (heard_at v h i e st) cs)
+heard_has : (v : ViewId) (h : List ℕ) (i : ℕ) (e : Entry) (st : GroupState) (cs : List Cast) (c : Cast) → Has c cs → Has (happened.Heard c.provider v h i e st.members st.value) (flat_map (heard_at v h i e st) cs)
 heard_has v h i e st [] c k = absurd k
-heard_has v h i e st (x ∷ cs) c (inl q) = inl (ap (λ (z : Cast). happened.Heard z.p v h i e st.members st.value) q)
+heard_has v h i e st (x ∷ cs) c (inl q) = inl (ap (λ (z : Cast). happened.Heard z.provider v h i e st.members st.value) q)
 heard_has v h i e st (x ∷ cs) c (inr k) =
-    inr (append_has_right (happened.Heard c.p v h i e st.members st.value) (cast_records x.p x.cast) (flat_map (heard_at v h i e st) cs) (heard_has v h i e st cs c k))
+    inr (append_has_right (happened.Heard c.provider v h i e st.members st.value) (cast_records x.provider x.cast) (flat_map (heard_at v h i e st) cs) (heard_has v h i e st cs c k))
 
 module _ (n : ℕ) (before : History) (p : ProviderId) (node : p.node ≡ n) (final : List Happened) (v : ViewId) (t : SessionState) (now : List Happened) (lens lens' : List ℕ → ℕ) (states states' : List ℕ → GroupState) (k : Inv n before p node final v t now lens states) (h : List ℕ) (e : Entry) (bs : List (Option Filled)) (more : lens' h ≡ lens h + 1) (made : states' h ≡ after (states h) v (lens h) e) (same : (g : List ℕ) → (h ≡ g → ⊥) → (lens' g ≡ lens g) × (states' g ≡ states g)) (at : SeenAt (earlier now before) (happened.Put n v h (lens h) e)) where
   abbrev i : ℕ
@@ -196,7 +196,7 @@ module _ (n : ℕ) (before : History) (p : ProviderId) (node : p.node ≡ n) (fi
   heard_of : ((r : Happened) → Has r put_heards → Has r final) → Has p (hearers t h (states h) e) → Heard_at n before p node final v h i e
   heard_of all a =
       let c = has_cast e st t.level (hearers t h (states h) e) bs p a in
-      (st.members, st.value, subst (λ z. Has (happened.Heard z v h i e st.members st.value) final) c.2 (all (happened.Heard (c.0).p v h i e st.members st.value) (heard_has v h i e st cs c.0 c.1)))
+      (st.members, st.value, subst (λ z. Has (happened.Heard z v h i e st.members st.value) final) c.2 (all (happened.Heard (c.0).provider v h i e st.members st.value) (heard_has v h i e st cs c.0 c.1)))
 
   law : ((r : Happened) → Has r put_heards → Has r final) → Law n before p node final now before put_r
   law all own takes = by (part_came p old.now old.older e (subst IsTrue place takes))

@@ -37,20 +37,20 @@ use Rattle.row_laws.proofs.failed_rows.Asked.{join_carried}
 
 -- a request for a join has the number of its provider, which does not take part
 abbrev pub JoinWaits : SessionState → Type 0
-JoinWaits t = (q : Request) → Has q t.requests → is_join q.proposal ≡ true → (q.r ≡ q.p.join) × ((y : Provider) → provider_of t q.p ≡ Some y → y.takes_part ≡ false)
+JoinWaits t = (q : Request) → Has q t.requests → is_join q.proposal ≡ true → (q.request ≡ q.provider.join) × ((y : Provider) → provider_of t q.provider ≡ Some y → y.takes_part ≡ false)
 
 pub told_joins : (t : SessionState) (q : ProviderId) (r : ℕ) (y : Why) → JoinWaits t → JoinWaits (take_telling t q r y)
-told_joins t q r y k z i j = let a = k z ((told_kept t q r y).1 z i) j in (a.0, λ x f. a.1 x ((fewer_told t q r y).providers z.p x f))
+told_joins t q r y k z i j = let a = k z ((told_kept t q r y).1 z i) j in (a.0, λ x f. a.1 x ((fewer_told t q r y).providers z.provider x f))
 
 pub handed_joins : (t : SessionState) (h : List ℕ) (before after : GroupState) (e : Entry) (bs : List (Option Filled)) → JoinWaits t → JoinWaits (handed_on t h before after e bs)
 handed_joins t h before after e bs k q there j =
     let a = k q ((handed_later t h before after e bs).requests q there) j in (a.0, λ y f. not_yet a.0 a.1 y f y.takes_part refl)
   where
-    not_yet : q.r ≡ q.p.join → ((y : Provider) → provider_of t q.p ≡ Some y → y.takes_part ≡ false) → (y : Provider) → provider_of (handed_on t h before after e bs) q.p ≡ Some y → (b : Bool) → y.takes_part ≡ b → y.takes_part ≡ false
+    not_yet : q.request ≡ q.provider.join → ((y : Provider) → provider_of t q.provider ≡ Some y → y.takes_part ≡ false) → (y : Provider) → provider_of (handed_on t h before after e bs) q.provider ≡ Some y → (b : Bool) → y.takes_part ≡ b → y.takes_part ≡ false
     not_yet number none y f false z = z
     not_yet number none y f true z =
-        let b = (handed_kept t h before after e bs).back q.p y f in
-        absurd (⊎_elim (λ (u : (b.0).takes_part ≡ true). let x : true ≡ false = sym u ∙ none b.0 b.1 in cc) (λ (u : Has q.p (beginners t h e)). handed_gone t h before after e bs q there (subst (λ r. Has {A = ProviderId × ℕ} (q.p, r) (carried e)) (sym number) (join_carried q.p e (begins_by_join t h e q.p u)))) (b.4 z))
+        let b = (handed_kept t h before after e bs).back q.provider y f in
+        absurd (⊎_elim (λ (u : (b.0).takes_part ≡ true). let x : true ≡ false = sym u ∙ none b.0 b.1 in cc) (λ (u : Has q.provider (beginners t h e)). handed_gone t h before after e bs q there (subst (λ r. Has {A = ProviderId × ℕ} (q.provider, r) (carried e)) (sym number) (join_carried q.provider e (begins_by_join t h e q.provider u)))) (b.4 z))
 
 dissolved_so : (y : Why) → is_dissolved y ≡ true → stay.is_dissolved y ≡ true
 dissolved_so why.Dissolved e = refl
@@ -115,7 +115,7 @@ module _ (n : ℕ) (before : History) (p : ProviderId) (node : p.node ≡ n) (fi
         off same (inr d) z = inr (record { number = r; why = y; told = inl (λ i. happened.Told (sym same i) r y); is = dissolved_so y d })
         off same (inl d) z =
             let own = asked_own t q d.0 d.1 in
-            let number : (d.0).r ≡ (d.0).p.join = (k.joins d.0 own.0 d.3).0 in
+            let number : (d.0).request ≡ (d.0).provider.join = (k.joins d.0 own.0 d.3).0 in
             inl (inl (same, sym d.2 ∙ number ∙ ap (λ (z : ProviderId). z.join) (own.1 ∙ same)))
 
         waits : (g : List ℕ) → Stood t p g false ⊎ Over n g p rs → Stood (take_telling t q r y) p g false ⊎ Over n g p (told ∷ rs)

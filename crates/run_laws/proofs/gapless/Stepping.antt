@@ -188,8 +188,8 @@ module _ (c : Config) (w : Scene) (n : ℕ) (f : Answering) (s : Core) (e : Node
     unfolding provider_of
     remains d q x found l =
         let a = find_has (is_provider p) s.sessions.providers x found in
-        let said : is_named l.0 (client_of x.p w.before) ≡ true = goodbye_named (λ p. client_of p w.before) s.sessions l.0 (subst (KeptIf w.before) up (clean.nodes n)).owners x a.0 l.2 in
-        let of_p : is_named l.0 (client_of p w.before) ≡ true = ap (λ z. is_named l.0 (client_of z w.before)) (sym (provider_same x.p p a.1)) ∙ said in
+        let said : is_named l.0 (client_of x.provider w.before) ≡ true = goodbye_named (λ p. client_of p w.before) s.sessions l.0 (subst (KeptIf w.before) up (clean.nodes n)).owners x a.0 l.2 in
+        let of_p : is_named l.0 (client_of p w.before) ≡ true = ap (λ z. is_named l.0 (client_of z w.before)) (sym (provider_same x.provider p a.1)) ∙ said in
         let event_is : v ≡ event.Call n (call.Goodbye l.0) = says d q ∙ ap (λ z. event.Call n z) l.1 in
         let bye : goodbye_of p.node (client_of p w.before) (Some v) ≡ true = ap (λ z. goodbye_of p.node (client_of p w.before) (Some z)) event_is ∙ (λ i. eq-eqb n p.node (sym node) i && of_p i) in
         let none : root.records ≡ [] = ap (λ z. (root_of (at_work s) z).records) q ∙ l.3 in

@@ -102,9 +102,9 @@ module _ (c : Config) (w : Scene) (e : Happening) (t : Scene) (o : Outer recount
 
 -- ---- a node that stops
 
-found_in : (s : Core) (p : ProviderId) (y : Provider) → provider_of s.sessions p ≡ Some y → Has y s.sessions.providers × (y.p ≡ p)
+found_in : (s : Core) (p : ProviderId) (y : Provider) → provider_of s.sessions p ≡ Some y → Has y s.sessions.providers × (y.provider ≡ p)
 unfolding provider_of
-found_in s p y f = let k = find_has (is_provider p) s.sessions.providers y f in (k.0, provider_same y.p p k.1)
+found_in s p y f = let k = find_has (is_provider p) s.sessions.providers y f in (k.0, provider_same y.provider p k.1)
 
 -- whose join waited there was let go
 stop_known : (c : Config) (w : Scene) (o : Option Event) (m : ℕ) (s : Core) → Reached c w → w.cores m ≡ Some s → ((p : ProviderId) → p.node ≡ m → was_let_go p w.before ≡ false → Known p w.before s) → (p : ProviderId) → p.node ≡ m → was_let_go p (record { event = o; records = happened.Down m ∷ [] } ∷ w.before) ≡ false → (g : List ℕ) → AskedJoin g p (happened.Down m ∷ records_of w.before) → Over p.node g p (happened.Down m ∷ records_of w.before)
@@ -125,7 +125,7 @@ stop_known c w o m s reach up k p at spared g a = by (was.waits g (asked_back g 
     gone : Stood s.sessions p g false → ⊥
     gone x = absurd (let u : true ≡ false = sym test ∙ (or_parts (m == p.node && inc_now p.node (records_of w.before) == p.inc) false (or_parts ((m == p.node && inc_now p.node (records_of w.before) == p.inc) || false) (goodbye_of p.node (client_of p w.before) o && not false) before.0).0).0 in cc)
       where
-        there : Has x.provider s.sessions.providers × (x.provider.p ≡ p)
+        there : Has x.provider s.sessions.providers × (x.provider.provider ≡ p)
         there = found_in s p x.provider x.found
 
         inc : p.inc ≡ w.incs m

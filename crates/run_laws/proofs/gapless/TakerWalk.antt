@@ -112,7 +112,7 @@ module _ (P : Core → Type 0) (k : Keeps P) where
       record {
         views = λ s v p. (let stays = stays_in s v in k.alike s (record s { views = (viewing s v).views }) (record { same = record { me = stays.0; inc = stays.2; view = stays.1; sessions = refl; records = refl; lens = λ h. refl; states = λ h. refl }; order = λ o. o }) p);
         enters = λ s i p. k.enters s i p;
-        dissolves = λ s q x e p. k.tells s x.p (number_of (outstanding s.sessions x.p)) Dissolved p;
+        dissolves = λ s q x e p. k.tells s x.provider (number_of (outstanding s.sessions x.provider)) Dissolved p;
       }
 
   -- what holds after the call of a step, or before any other step, holds after it

@@ -45,33 +45,33 @@ told_one root old bs c g q k = by (provider_of c.sessions q) refl
   where
     by : (o : Option Provider) → provider_of c.sessions q ≡ o → Told root old bs (dissolved_if c g old (base_named bs g) o)
     by None e = k
-    by (Some x) e = at x.takes_part (bytes_eq x.group g) (is_in_base old x.p (base_named bs g)) refl refl refl
+    by (Some x) e = at x.takes_part (bytes_eq x.group g) (is_in_base old x.provider (base_named bs g)) refl refl refl
       where
         r : ℕ
-        r = number_of (outstanding c.sessions x.p)
+        r = number_of (outstanding c.sessions x.provider)
 
         it : Happened
-        it = happened.Told x.p r Dissolved
+        it = happened.Told x.provider r Dissolved
 
-        self : x.p ≡ q
+        self : x.provider ≡ q
         self = found_is c.sessions q x e
 
-        named : (p : ProviderId) (m : ℕ) → happened.Told p m Dissolved ≡ it → p ≡ x.p
+        named : (p : ProviderId) (m : ℕ) → happened.Told p m Dissolved ≡ it → p ≡ x.provider
         named p m z = cc
 
-        leaves : x.takes_part ≡ true → bytes_eq x.group g ≡ true → is_in_base old x.p (base_named bs g) ≡ false → Leaves root.sessions old bs x.p
+        leaves : x.takes_part ≡ true → bytes_eq x.group g ≡ true → is_in_base old x.provider (base_named bs g) ≡ false → Leaves root.sessions old bs x.provider
         leaves a b d =
             record {
               provider = x;
-              found = k.back x.p x (ap (provider_of c.sessions) self ∙ e);
+              found = k.back x.provider x (ap (provider_of c.sessions) self ∙ e);
               takes = a;
-              out = ap (λ z. is_in_base old x.p (base_named bs z)) (text_same x.group g b) ∙ d;
+              out = ap (λ z. is_in_base old x.provider (base_named bs z)) (text_same x.group g b) ∙ d;
             }
 
-        one : Leaves root.sessions old bs x.p → Told root old bs (dissolved c x.p r)
+        one : Leaves root.sessions old bs x.provider → Told root old bs (dissolved c x.provider r)
         one l =
             record {
-              back = λ p y f. k.back p y ((fewer_told c.sessions x.p r Dissolved).providers p y f);
+              back = λ p y f. k.back p y ((fewer_told c.sessions x.provider r Dissolved).providers p y f);
               told = λ p m h. ⊎_elim (k.told p m) (λ (i : Has (happened.Told p m Dissolved) (it ∷ [])). inr (new p m i)) (has_append (happened.Told p m Dissolved) c.records (it ∷ []) h);
               sends = k.sends;
             }
@@ -80,7 +80,7 @@ told_one root old bs c g q k = by (provider_of c.sessions q) refl
             new p m (inl z) = subst (Leaves root.sessions old bs) (sym (named p m z)) l
             new p m (inr z) = absurd z
 
-        at : (a b d : Bool) → x.takes_part ≡ a → bytes_eq x.group g ≡ b → is_in_base old x.p (base_named bs g) ≡ d → Told root old bs (elim (a && b && not d) as (λ _. Core) [ true ↦ dissolved c x.p r | false ↦ c ])
+        at : (a b d : Bool) → x.takes_part ≡ a → bytes_eq x.group g ≡ b → is_in_base old x.provider (base_named bs g) ≡ d → Told root old bs (elim (a && b && not d) as (λ _. Core) [ true ↦ dissolved c x.provider r | false ↦ c ])
         at true true false a b d = one (leaves a b d)
         at true true true a b d = k
         at true false true a b d = k
@@ -116,23 +116,23 @@ stays_one p old bs c g q k = by (provider_of c.sessions q)
   where
     by : (o : Option Provider) → Stayed p (dissolved_if c g old (base_named bs g) o)
     by None = k
-    by (Some x) = at (x.takes_part && bytes_eq x.group g && not (is_in_base old x.p (base_named bs g))) k
+    by (Some x) = at (x.takes_part && bytes_eq x.group g && not (is_in_base old x.provider (base_named bs g))) k
       where
         r : ℕ
-        r = number_of (outstanding c.sessions x.p)
+        r = number_of (outstanding c.sessions x.provider)
 
         it : Happened
-        it = happened.Told x.p r Dissolved
+        it = happened.Told x.provider r Dissolved
 
-        here : (p ≡ x.p) → Has (happened.Told p r Dissolved) (c.records ++ it ∷ [])
+        here : (p ≡ x.provider) → Has (happened.Told p r Dissolved) (c.records ++ it ∷ [])
         here e = append_has_right (happened.Told p r Dissolved) c.records (it ∷ []) (inl (ap (λ z. happened.Told z r Dissolved) e))
 
-        at : (b : Bool) → Stayed p c → Stayed p (elim b as (λ _. Core) [ true ↦ dissolved c x.p r | false ↦ c ])
+        at : (b : Bool) → Stayed p c → Stayed p (elim b as (λ _. Core) [ true ↦ dissolved c x.provider r | false ↦ c ])
         at false s = s
         at true (inr h) = inr (h.0, append_has_left (happened.Told p h.0 Dissolved) c.records (it ∷ []) h.1)
-        at true (inl l) = turn (told_lives c.sessions x.p r Dissolved p l)
+        at true (inl l) = turn (told_lives c.sessions x.provider r Dissolved p l)
           where
-            turn : {A : Type 0} → IsLive (take_telling c.sessions x.p r Dissolved) p ⊎ ((p ≡ x.p) × A) → Stayed p (dissolved c x.p r)
+            turn : {A : Type 0} → IsLive (take_telling c.sessions x.provider r Dissolved) p ⊎ ((p ≡ x.provider) × A) → Stayed p (dissolved c x.provider r)
             turn (inl a) = inl a
             turn (inr a) = inr (r, here a.0)
 

@@ -191,7 +191,7 @@ module _ (net : ℕ) (w : Scene) (n : ℕ) where
       record {
         sends = λ s network to b spoken p. (p.0, p.1, at_sent_on p.0 s network to b (spoken_carried net p.0 s (packet_on s network to b) b spoken) p.2);
         puts = λ s g e ok p. told (with_row s g _) (happened.Put s.views.me s.views.view g (len_of s g) e) (λ z. tt) (alike s (with_row s g _) refl refl refl refl refl p);
-        hears = λ s g before after e bs c i h p. told s (happened.Heard c.p s.views.view g i e after.members after.value) (λ z. tt) p;
+        hears = λ s g before after e bs c i h p. told s (happened.Heard c.provider s.views.view g i e after.members after.value) (λ z. tt) p;
         casts = λ s q proto phase vote value message p. told s (happened.Cast q proto phase vote value message) (λ z. tt) p;
         handed = λ s g before after e bs p. alike s (with_sessions s (handed_on s.sessions g before after e bs)) refl refl refl refl refl p;
       }
@@ -220,7 +220,7 @@ module _ (net : ℕ) (w : Scene) (n : ℕ) where
       record {
         views = λ s v p. (let stays = stays_in s v in alike s (record s { views = (viewing s v).views }) refl stays.0 stays.2 refl refl p);
         enters = λ s i p. on_enters Played entered s i (alike s (entering s i) refl refl refl refl refl p);
-        dissolves = λ s q x e p. refused s x.p (number_of (outstanding s.sessions x.p)) Dissolved p;
+        dissolves = λ s q x e p. refused s x.provider (number_of (outstanding s.sessions x.provider)) Dissolved p;
       }
 
   pub played_calls : KeepsCalls Played

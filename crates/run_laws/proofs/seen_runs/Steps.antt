@@ -118,9 +118,9 @@ module _ (n : ℕ) where
   does_grows _ _ (Hands s c h e bs order same) me = record { me = same.me ∙ me; more = hands_more s c h e bs me same }
   does_grows _ _ (Loses s t fewer) me = record { me = me; more = more_same s.records s.records refl }
   does_grows _ _ (Joins s t g instance attrs none) me = record { me = me; more = more_same s.records s.records refl }
-  does_grows _ _ (Votes s x o b here opened free) me = record { me = me; more = more_append s.records (happened.Cast x.p o.proto o.phase b.vote b.value b.message ∷ []) (λ q h. one q h) }
+  does_grows _ _ (Votes s x o b here opened free) me = record { me = me; more = more_append s.records (happened.Cast x.provider o.proto o.phase b.vote b.value b.message ∷ []) (λ q h. one q h) }
     where
-      one : (q : Happened) → Has q (happened.Cast x.p o.proto o.phase b.vote b.value b.message ∷ []) → Mine n q
+      one : (q : Happened) → Has q (happened.Cast x.provider o.proto o.phase b.vote b.value b.message ∷ []) → Mine n q
       one q (inl e) = subst (Mine n) (sym e) tt
       one q (inr z) = absurd z
   does_grows _ _ (Enters s i lt none) me =

@@ -62,7 +62,7 @@ module _ {said : Items → Option Items} where
   packet_adds : (p : AnsweredPlay) (x : Sent) (rest : List Sent) (up cut : Bool) (q : AnsweredPlay) → TakesPacket said p x rest up cut q → Adds said p q
   packet_adds p x rest false cut q e = adds_still p q (ap (λ (z : AnsweredPlay). z.events) e) (subst (λ (z : AnsweredPlay). SameRun z.world p.world) (sym e) refl)
   packet_adds p x rest true true q e = adds_still p q (ap (λ (z : AnsweredPlay). z.events) e) (subst (λ (z : AnsweredPlay). SameRun z.world p.world) (sym e) refl)
-  packet_adds p x rest true false q h = event_adds p (event.Deliver x.packet.from x.packet.to x.k) q h
+  packet_adds p x rest true false q h = event_adds p (event.Deliver x.packet.from x.packet.to x.number) q h
 
   next_adds : (More : AnsweredPlay → AnsweredPlay → Type 0) (p q : AnsweredPlay) (xs : List Sent) → ((r : AnsweredPlay) → More r q → Adds said r q) → TakesNext More said p q xs → Adds said p q
   next_adds More p q [] rest e = adds_none p q e

@@ -40,7 +40,7 @@ module _ (said : Items → Option Items) where
   packet_goes : (p : AnsweredPlay) (x : Sent) (rest : List Sent) (up cut : Bool) → (q : AnsweredPlay) × TakesPacket said p x rest up cut q
   packet_goes p x rest false cut = (_, refl)
   packet_goes p x rest true true = (_, refl)
-  packet_goes p x rest true false = event_goes p (event.Deliver x.packet.from x.packet.to x.k)
+  packet_goes p x rest true false = event_goes p (event.Deliver x.packet.from x.packet.to x.number)
 
   next_goes : (More : AnsweredPlay → AnsweredPlay → Type 0) (p : AnsweredPlay) (xs : List Sent) → ((r : AnsweredPlay) → (q : AnsweredPlay) × More r q) → (q : AnsweredPlay) × TakesNext More said p q xs
   next_goes More p [] rest = (p, refl)

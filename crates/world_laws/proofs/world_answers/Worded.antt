@@ -26,7 +26,7 @@ module _ {said : Items → Option Items} (all : AllWorded said) where
   unfolding flows_to in_world
   packet_same p x rest false cut q e = ap unanswered e
   packet_same p x rest true true q e = ap unanswered e
-  packet_same p x rest true false q h = event_same p (event.Deliver x.packet.from x.packet.to x.k) q h
+  packet_same p x rest true false q h = event_same p (event.Deliver x.packet.from x.packet.to x.number) q h
 
   next_same : (n : ℕ) (p q : AnsweredPlay) (xs : List Sent) → ((r : AnsweredPlay) → PlaysFlow said n r q → unanswered q ≡ flows n (unanswered r)) → TakesNext (PlaysFlow said n) said p q xs
       → unanswered q ≡ (elim xs as (λ _. Played) [ [] ↦ unanswered p | x ∷ xs ↦ flows n (flows_to (unanswered p) x xs (is_some (node_at p.world x.packet.to)) (is_cut p.cuts x.packet)) ])

@@ -40,7 +40,7 @@ pub taken_happen : (p : Played) (x : Sent) (rest : List Sent) (up cut : Bool) �
 unfolding flows_to in_world with_event
 taken_happen p x rest false cut = ([], refl)
 taken_happen p x rest true true = ([], refl)
-taken_happen p x rest true false = (event.Deliver x.packet.from x.packet.to x.k ∷ [], refl)
+taken_happen p x rest true false = (event.Deliver x.packet.from x.packet.to x.number ∷ [], refl)
 
 flow_happens : (n : ℕ) (p : Played) (q : List Sent) → ((r : Played) → Adds r (flows n r))
     → Adds p (elim q [ [] ↦ p | x ∷ xs ↦ flows n (flows_to p x xs (is_some (node_at p.world x.packet.to)) (is_cut p.cuts x.packet)) ])

@@ -43,7 +43,7 @@ PlaysEach M p (x ∷ xs) q = (r : AnsweredPlay) × M p x r × PlaysEach M r xs q
 abbrev pub TakesPacket : (Items → Option Items) → AnsweredPlay → Sent → List Sent → Bool → Bool → AnsweredPlay → Type 0
 TakesPacket said p x rest false cut q = q ≡ in_that_world p (record (p.world) { queue = rest })
 TakesPacket said p x rest true true q = q ≡ in_that_world p (record (p.world) { queue = rest })
-TakesPacket said p x rest true false q = PlaysEvent said p (event.Deliver x.packet.from x.packet.to x.k) q
+TakesPacket said p x rest true false q = PlaysEvent said p (event.Deliver x.packet.from x.packet.to x.number) q
 
 -- the packet that waits longest is taken, and then more
 abbrev pub TakesNext : (AnsweredPlay → AnsweredPlay → Type 0) → (Items → Option Items) → AnsweredPlay → AnsweredPlay → List Sent → Type 0

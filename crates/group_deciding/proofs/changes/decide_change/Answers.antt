@@ -10,7 +10,7 @@ use Rattle.group_deciding.proofs.changes.decide_change.Goals as goal
 pub returns-in-Some-clause-does : goal.returns-in-Some-clause-does
 returns-in-Some-clause-does g c =
     on_ok_weaker c.refuse.result
-    (refused_does _ _ (receive_nothing _ _) c.args.core.now c.refuse.new.core c.args.asked.now.group c.args.asked.now.p c.args.asked.now.r c.args.asked.now.phases c.args.asked.now.proposal c.in-Some.y (sym c.in-Some.is ∙ rw c.bytes.ensures.value at c.in_ok-other_refusal.ensures))
+    (refused_does _ _ (receive_nothing _ _) c.args.core.now c.refuse.new.core c.args.asked.now.group c.args.asked.now.provider c.args.asked.now.request c.args.asked.now.phases c.args.asked.now.proposal c.in-Some.y (sym c.in-Some.is ∙ rw c.bytes.ensures.value at c.in_ok-other_refusal.ensures))
     (on_ok_both _ _ c.refuse.result c.refuse.ensures.rule c.refuse.ensures.keeps)
 
 pub returns-in-None-clause-does : goal.returns-in-None-clause-does

@@ -8,7 +8,7 @@ use Rattle.group_deciding.proofs.requests.decide.Goals as goal
 pub returns-in-Join-clause-does : goal.returns-in-Join-clause-does
 returns-in-Join-clause-does g c =
     on_ok_weaker c.decide_join.result
-    (join_does _ _ (receive_nothing _ _) c.args.core.now c.decide_join.new.core c.args.asked.now.group c.args.asked.now.p c.args.asked.now.r c.args.asked.now.phases c.args.asked.now.proposal c.in-Join.ps c.in-Join.attrs c.in-Join.source_len c.in-Join.is)
+    (join_does _ _ (receive_nothing _ _) c.args.core.now c.decide_join.new.core c.args.asked.now.group c.args.asked.now.provider c.args.asked.now.request c.args.asked.now.phases c.args.asked.now.proposal c.in-Join.ps c.in-Join.attrs c.in-Join.source_len c.in-Join.is)
     (on_ok_both _ _ c.decide_join.result c.decide_join.ensures.rule c.decide_join.ensures.keeps)
 
 pub returns-in_default : goal.returns-in_default
@@ -16,5 +16,5 @@ returns-in_default g c =
     record {
       work = c.decide_change.ensures.work;
       scripts = c.decide_change.ensures.scripts;
-      does = on_ok_weaker c.decide_change.result (change_does _ _ c.args.core.now c.decide_change.new.core c.args.asked.now.group c.args.asked.now.p c.args.asked.now.r c.args.asked.now.phases c.args.asked.now.proposal c.in_default.not-Join) c.decide_change.ensures.does;
+      does = on_ok_weaker c.decide_change.result (change_does _ _ c.args.core.now c.decide_change.new.core c.args.asked.now.group c.args.asked.now.provider c.args.asked.now.request c.args.asked.now.phases c.args.asked.now.proposal c.in_default.not-Join) c.decide_change.ensures.does;
     }
