@@ -2,6 +2,7 @@
 ghost use Rattle.std.specs.Prelude.{◌≡◌, ◌++◌, ◌∷◌, [], List, Option, None, OnOk, IfOk, MatchOption};
 ghost use Rattle.std.specs.Option.{ForSome};
 ghost use Rattle.client_callbacks.specs.declared.votes.VoteItem.{VoteItem};
+ghost use Rattle.client_callbacks.specs.Ballots.{new_ballot};
 ghost use Rattle.client_callbacks.specs.Handed.{Handed, Notified, Informed, notice_of, Fills};
 ghost use Rattle.client_callbacks.specs.Votes.{votes_word};
 
@@ -34,9 +35,11 @@ pub trait Callbacks: Drop {
     ghost script: { Self → Option (List (Option VoteItem)) };
 
     /// Hands it a notice, with a ballot to fill. What it stands for then tells the notice with what the ballot is
-    /// filled with, or that it is not filled.
+    /// filled with, or that it is not filled. That is promised of a new ballot alone, which asks for a vote where the
+    /// notice has `votes` true: who hands a filled one on is promised nothing of what the object stands for.
     fn notice(&mut self, notice: &Notice<'_>, ballot: &mut Ballot) -> Result<(), NoMemory>
         ensures stands { (h : List Handed) → stands_for self.old h
+            → (ballot.old ≡ new_ballot notice.now.votes ballot.old.level)
             → OnOk result (stands_for self.new (h ++ Notified (notice_of notice.now)
             ballot.new.filled ∷ [])) }
         ensures script { OnOk result (script self.new ≡ script self.old) }

@@ -12,3 +12,7 @@ pub says_on : {C X E : Type 0} (R : C → List Handed → Type 0) (c d : C) (r :
 says_on R c d (Ok x) new on [] s = absurd s
 says_on R c d (Ok x) new on (m ∷ h) s = on_if (is_known m) (R c h) (R d (h ++ new ∷ [])) (on h) s
 says_on R c d (Err e) new on h s = tt
+
+-- the same where something is promised of it under a premise
+pub says_noticed : {C X E P : Type 0} (R : C → List Handed → Type 0) (c d : C) (r : Result X E) (new : Handed) → ((h : List Handed) → R c h → P → OnOk r (R d (h ++ new ∷ []))) → (h : List Handed) → Says R c h → P → OnOk r (Says R d (h ++ new ∷ []))
+says_noticed R c d r new on h s premise = says_on R c d r new (λ h stood. on h stood premise) h s

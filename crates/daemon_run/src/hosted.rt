@@ -20,7 +20,7 @@ impl<C: Callbacks> Callbacks for Hosted<C> {
 
     ghost script = { λ c. C.script c.client };
 
-    #[tactic(auto, using(crate::proofs::HostLaws::says_on))]
+    #[tactic(auto, using(crate::proofs::HostLaws::says_noticed))]
     fn notice(&mut self, notice: &Notice<'_>, ballot: &mut Ballot) -> Result<(), NoMemory> {
         self.client.notice(notice, ballot)
     }
