@@ -116,6 +116,7 @@ seen_at now before r old one k =
       rising = k.node.rising;
       rises = k.group.rises;
       among = k.node.among;
+      started = k.node.started;
       members = k.group.members;
       together = k.group.together;
       base = k.group.base;

@@ -144,6 +144,7 @@ module _ (o : Opening) (nodes : ℕ → Standing) (ps : List Packet) (all : List
         one = wins.from;
         node = side.0;
         reaches = subst (λ tr. b.len ≤ length (puts_of side.0 b.old tr)) (sym tr_is) reaches;
+        knows = λ m c h. has_bare (Based side.0 b.old c) older tt (known c (w.based_ok.noted m b.old c (subst (Has (Noted (Based m b.old c))) (sym is) (inr (had_bare (Noted (Based m b.old c)) older h)))));
         state = wins.state ∙ ap (marked rs b.old) states;
       }
     where

@@ -97,6 +97,7 @@ pub record BasedSeen (all : List Line) (n : ℕ) (v : ViewId) (b : Origin) : Typ
   pub one : (r : Reply) × Has r replies × (r.view ≡ b.old)
   pub node : ℕ
   pub reaches : b.len ≤ length (puts_of node b.old (kept all))
+  pub knows : (m : ℕ) (c : Origin) → Has (Noted (Based m b.old c)) all → Has (Noted (Based node b.old c)) all
   pub state : b.state ≡ marked replies b.old (fold_from b.old (base_in node b.old all) 0 (take b.len (puts_of node b.old (kept all))))
 
 abbrev pub NoteSeen : List Line → Note → Type 0

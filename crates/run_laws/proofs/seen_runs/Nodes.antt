@@ -1,6 +1,6 @@
 -- Nodes and their incarnations: each start is a later one, and a node is in the view that it entered last, as a member of its
 -- incarnation.
-use Rattle.std.proofs.Common.{refl, ◌≡◌, ℕ, ◌≤◌, inl, inr, sym, ◌∙◌, ap, subst, true, false, Bool, List, [], ◌∷◌, ◌++◌, Option, Some, arith}
+use Rattle.std.proofs.Common.{◌<◌, refl, ◌≡◌, ℕ, ◌≤◌, inl, inr, sym, ◌∙◌, ap, subst, true, false, Bool, List, [], ◌∷◌, ◌++◌, Option, Some, arith}
 use Rattle.std.specs.Prelude.{◌==◌, ◌&&◌, IsTrue, if◌then◌else◌}
 use Rattle.std.proofs.lemmas.Bool.{eqb-true}
 use Rattle.std.proofs.lemmas.Bool.Decides.{nat_tests}
@@ -16,7 +16,7 @@ use Rattle.run_safety.specs.Past.{History, records_of, Within, view_now, inc_now
 use Rattle.run_safety.specs.Sight.{inc_in, lines_of}
 use Rattle.run_safety.specs.SafeLists.{InItsView, is_later, Rising, AmongMembers}
 use Rattle.run_safety.proofs.Tests.{has_any}
-use Rattle.run_laws.specs.seen_runs.Seen.{StartsLater}
+use Rattle.run_laws.specs.seen_runs.Seen.{StartsLater, StartedSeen}
 use Rattle.run_laws.proofs.seen_runs.LineRules.{bare, Entered, last_in, GoesOn, InSeen, PutSeen}
 use Rattle.run_laws.proofs.seen_runs.BareLines.{kept_bare}
 use Rattle.run_laws.proofs.seen_runs.Sights.{cut, last_same, last_groups}
@@ -28,6 +28,7 @@ pub record NodeShown (rs : List Happened) (r : Happened) : Type 0 where
   pub later : StartsLater rs r
   pub rising : Rising rs r
   pub among : AmongMembers rs r
+  pub started : StartedSeen rs r
   pub in_view : InItsView rs r
 
 -- ---- within a step of node n, in incarnation inc
@@ -38,6 +39,7 @@ pub record Here (n inc : ℕ) (now : List Happened) (before : History) : Type 0 
   pub last : last_in n (kept (lines_of [] (cut now before))) ≡ Some (record { inc = inc; view = view })
   pub is : view_now n (now ++ records_of before) ≡ Some view
   pub inc_is : inc_now n (now ++ records_of before) ≡ inc
+  pub up : 0 < inc
 
 last_was : (n j : ℕ) (v : ViewId) (tr : List Record) → last_in n tr ≡ Some (record { inc = j; view = v }) → (ms : List Member) × Has (In n j v ms) tr
 last_was n j v [] e = absurd (cc)
@@ -71,7 +73,7 @@ module _ (n inc : ℕ) (before : History) where
   one (happened.Up m j) now mine bound all h = absurd mine
   one (happened.Down m) now mine bound all h = absurd mine
   one (happened.Put m v g i e) now mine bound all h =
-      (record { view = h.view; last = last_same n (happened.Put m v g i e) now before (λ v k ns z. cc) ∙ h.last; is = h.is; inc_is = h.inc_is }, record { later = tt; rising = tt; among = tt; in_view = in_its })
+      (record { view = h.view; last = last_same n (happened.Put m v g i e) now before (λ v k ns z. cc) ∙ h.last; is = h.is; inc_is = h.inc_is; up = h.up }, record { later = tt; rising = tt; among = tt; started = tt; in_view = in_its })
     where
       q : PutSeen (bare (lines_of g (cut now before))) m v i e
       q = put_line now before m v g i e all
@@ -90,7 +92,7 @@ module _ (n inc : ℕ) (before : History) where
           let d : mine_is ≡ its = cc in
           ap (λ k. view_now k (now ++ records_of before)) mine ∙ h.is ∙ ap (λ (x : Entered). Some x.view) d
   one (happened.In m v ms) now mine bound all h =
-      (record { view = v; last = last; is = is; inc_is = h.inc_is }, record { later = tt; rising = rising; among = among; in_view = tt })
+      (record { view = v; last = last; is = is; inc_is = h.inc_is; up = h.up }, record { later = tt; rising = rising; among = among; started = begun; in_view = tt })
     where
       q : InSeen (bare (lines_of [] (cut now before))) m (inc_in m ms) v ms
       q = in_line now before m v ms all []
@@ -124,6 +126,11 @@ module _ (n inc : ℕ) (before : History) where
           own_test : (a b : ℕ) → (a == a && b == b) ≡ true
           own_test a b = grind (arith, nat_tests)
 
+      begun : (0 < inc_now m (now ++ records_of before)) × (inc_in m ms ≡ inc_now m (now ++ records_of before))
+      begun =
+          let a : inc_now m (now ++ records_of before) ≡ inc = ap (λ k. inc_now k (now ++ records_of before)) mine ∙ h.inc_is in
+          (subst (λ k. 0 < k) (sym a) h.up, inc_same ∙ sym a)
+
       rising : Rising (now ++ records_of before) (happened.In m v ms)
       rising =
           let k = last_was m inc h.view (kept (bare (lines_of [] (cut now before)))) older in
@@ -134,7 +141,7 @@ module _ (n inc : ℕ) (before : History) where
           at : (o : Option ViewId) → o ≡ Some h.view → Lt h.view v → IsTrue (is_later o v)
           at o e l = subst (λ z. IsTrue (is_later z v)) (sym e) l
   one r now mine bound all h =
-      (record { view = h.view; last = last_same n r now before (λ v k ns z. cc) ∙ h.last; is = h.is; inc_is = h.inc_is }, record { later = tt; rising = tt; among = tt; in_view = tt })
+      (record { view = h.view; last = last_same n r now before (λ v k ns z. cc) ∙ h.last; is = h.is; inc_is = h.inc_is; up = h.up }, record { later = tt; rising = tt; among = tt; started = tt; in_view = tt })
 
   -- all records of a step
   pub step_shown : (now : List Happened) → ((r : Happened) → Has r now → Mine n r) → Bounded now → AllShow (cut now before) → Here n inc [] before → Here n inc now before × Within (λ now before r. NodeShown (now ++ records_of before) r) now before

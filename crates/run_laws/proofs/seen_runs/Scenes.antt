@@ -66,8 +66,8 @@ note_quiet (happened.Shown m l) a = tt
 note_quiet _ a = absurd a
 
 note_shown : (rs : List Happened) (r : Happened) → IsNote r → NodeShown rs r
-note_shown rs (happened.Refused m c f) a = record { later = tt; rising = tt; among = tt; in_view = tt }
-note_shown rs (happened.Shown m l) a = record { later = tt; rising = tt; among = tt; in_view = tt }
+note_shown rs (happened.Refused m c f) a = record { later = tt; rising = tt; among = tt; started = tt; in_view = tt }
+note_shown rs (happened.Shown m l) a = record { later = tt; rising = tt; among = tt; started = tt; in_view = tt }
 note_shown rs _ a = absurd a
 
 quiet_up : (m k : ℕ) (rs xs : List Happened) → ((r : Happened) → Has r rs → Quiet r) → Has (happened.Up m k) (rs ++ xs) → Has (happened.Up m k) xs
@@ -116,9 +116,32 @@ fixed_member c n fixed there = by c.mode fixed
     by Asked e = absurd (cc)
     by Rings e = absurd (cc)
 
+first_inc : (c : Config) (n j : ℕ) → is_fixed c.mode ≡ false → inc_in n (first_members c c.mode n j) ≡ j
+unfolding first_members
+first_inc c n j real = by c.mode real
+  where
+    by : (m : Mode) → is_fixed m ≡ false → inc_in n (first_members c m n j) ≡ j
+    by Fixed e = absurd (cc)
+    by Asked e = grind (arith, nat_tests)
+    by Rings e = grind (arith, nat_tests)
+
+inc_listed : (n : ℕ) (xs : List ℕ) → Has n xs → inc_in n (map (λ k. member k 1) xs) ≡ 1
+inc_listed n [] h = absurd h
+inc_listed n (x ∷ xs) (inl e) = grind (arith, nat_tests)
+inc_listed n (x ∷ xs) (inr h) = let k : inc_in n (map (λ k. member k 1) xs) ≡ 1 = inc_listed n xs h in grind (arith, nat_tests)
+
+fixed_inc : (c : Config) (n : ℕ) → is_fixed c.mode ≡ true → Has n (nodes_of c.nodes) → inc_in n (first_members c c.mode n 1) ≡ 1
+unfolding first_members
+fixed_inc c n fixed there = by c.mode fixed
+  where
+    by : (m : Mode) → is_fixed m ≡ true → inc_in n (first_members c m n 1) ≡ 1
+    by Fixed e = inc_listed n (nodes_of c.nodes) there
+    by Asked e = absurd (cc)
+    by Rings e = absurd (cc)
+
 -- a node starts in an event that has these records already
-started_too : (c : Config) (n : ℕ) (incs : ℕ → ℕ) (o q : Option Event) (now : List Happened) (before : History) → is_member (first_members c c.mode n (incs n + 1)) n (incs n + 1) ≡ true → Numbers incs (record { event = o; records = now } ∷ before) → Numbers (at_node incs n (incs n + 1)) (record { event = q; records = reverse (started c n (incs n + 1)).records ++ now } ∷ before)
-started_too c n incs o q now before member k =
+started_too : (c : Config) (n : ℕ) (incs : ℕ → ℕ) (o q : Option Event) (now : List Happened) (before : History) → is_member (first_members c c.mode n (incs n + 1)) n (incs n + 1) ≡ true → inc_in n (first_members c c.mode n (incs n + 1)) ≡ incs n + 1 → Numbers incs (record { event = o; records = now } ∷ before) → Numbers (at_node incs n (incs n + 1)) (record { event = q; records = reverse (started c n (incs n + 1)).records ++ now } ∷ before)
+started_too c n incs o q now before member own k =
     record {
       upto = λ m i h. bounded m i (start_ups c n j now before m i (subst (λ l. Has (happened.Up m i) (l ++ records_of before)) is h));
       rules = (subst (λ l. AllIn l before) (sym is) shown.0, k.rules.1);
@@ -131,7 +154,7 @@ started_too c n incs o q now before member k =
     is = start_records c n j now before
 
     shown : AllIn (happened.In n (first_view c c.mode n j) (first_members c c.mode n j) ∷ (reverse (map (ring_record n) (own_rings c c.mode n j)) ++ happened.Up n j ∷ now)) before × (inc_now n ((happened.In n (first_view c c.mode n j) (first_members c c.mode n j) ∷ (reverse (map (ring_record n) (own_rings c c.mode n j)) ++ happened.Up n j ∷ now)) ++ records_of before) ≡ j)
-    shown = start_within c n j now before (λ i h. let l = k.upto n i h in omega arith) member k.rules.0
+    shown = start_within c n j now before (λ i h. let l = k.upto n i h in omega arith) member own (omega arith) k.rules.0
 
     grows : (m : ℕ) → incs m ≤ at_node incs n (incs n + 1) m
     grows m = each_set (λ m (x : ℕ). incs m ≤ x) incs n (incs n + 1) (omega arith) (λ m ne. omega arith) m
@@ -148,7 +171,8 @@ all_numbered c fixed = (all_start_holds c (λ w. Numbers w.incs w.before) one (r
     one : (w : Scene) (n : ℕ) → Opened c w → Has n (nodes_of c.nodes) → w.cores n ≡ None → Numbers w.incs w.before → Numbers (at_node w.incs n (w.incs n + 1)) (with_records w.before (started w.config n (w.incs n + 1)).records)
     one w n k there down numbers =
         let member : is_member (first_members w.config w.config.mode n (w.incs n + 1)) n (w.incs n + 1) ≡ true = subst (λ (z : Config × ℕ). is_member (first_members z.0 z.0.mode n (z.1 + 1)) n (z.1 + 1) ≡ true) (λ i. (sym k.config i, sym (opened_inc c w n k down) i)) (fixed_member c n fixed there) in
-        subst (λ h. Numbers (at_node w.incs n (w.incs n + 1)) (with_records h (started w.config n (w.incs n + 1)).records)) (sym k.before) (started_too w.config n w.incs None None k.records [] member (subst (Numbers w.incs) k.before numbers))
+        let own : inc_in n (first_members w.config w.config.mode n (w.incs n + 1)) ≡ w.incs n + 1 = subst (λ (z : Config × ℕ). inc_in n (first_members z.0 z.0.mode n (z.1 + 1)) ≡ z.1 + 1) (λ i. (sym k.config i, sym (opened_inc c w n k down) i)) (fixed_inc c n fixed there) in
+        subst (λ h. Numbers (at_node w.incs n (w.incs n + 1)) (with_records h (started w.config n (w.incs n + 1)).records)) (sym k.before) (started_too w.config n w.incs None None k.records [] member own (subst (Numbers w.incs) k.before numbers))
 
 -- ---- a step
 
@@ -181,6 +205,7 @@ numbers_step c w n f s e v k up arises old =
           last = ap (λ l. last_in n (kept l)) (sym t.lines) ∙ (at_last t.life n).0 a ∙ (λ i. Some (record { inc = (own.0.stands.inc ∙ own.2) i; view = own.0.stands.view i }));
           is = t.placed n s up;
           inc_is = incs_of c w k n;
+          up = subst (λ z. 0 < z) (own.0.stands.inc ∙ own.2) a;
         }
 
     -- after it
@@ -204,10 +229,10 @@ numbered c _ Nothing = record { upto = λ m k h. absurd h; rules = tt }
 numbered c _ (AllStart fixed) = all_numbered c fixed
 numbered c _ (Starts w n e k real nz down) =
     let old = numbered c w k in
-    let z = started_too w.config n w.incs None (Some e) [] w.before (first_member w.config n (w.incs n + 1) real) (quietly w.incs w.before None [] (λ r h. absurd h) tt old) in
+    let z = started_too w.config n w.incs None (Some e) [] w.before (first_member w.config n (w.incs n + 1) real) (first_inc w.config n (w.incs n + 1) real) (quietly w.incs w.before None [] (λ r h. absurd h) tt old) in
     subst (λ l. Numbers (at_node w.incs n (w.incs n + 1)) (record { event = Some e; records = l } ∷ w.before)) (append-nil (reverse (started w.config n (w.incs n + 1)).records)) z
 numbered c _ (Stops w n e s k up) =
-    quietly w.incs w.before (Some e) (happened.Down n ∷ []) (λ r h. down r h) (record { later = tt; rising = tt; among = tt; in_view = tt }, tt) (numbered c w k)
+    quietly w.incs w.before (Some e) (happened.Down n ∷ []) (λ r h. down r h) (record { later = tt; rising = tt; among = tt; started = tt; in_view = tt }, tt) (numbered c w k)
   where
     down : (r : Happened) → Has r (happened.Down n ∷ []) → Quiet r
     down r (inl q) = subst Quiet (sym q) tt

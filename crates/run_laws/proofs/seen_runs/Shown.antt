@@ -183,6 +183,7 @@ module _ (now : List Happened) (before : History) where
           from = (member r.node r.inc, subst (Has (member r.node r.inc)) (sym q.are) (reply_member r q.replies q.one.1), bare_from g r.node r.inc v u (subst (lists.From (kept (bare (L g))) r.node r.inc v) q.one.2 (q.from r q.one.1)));
           node = q.node;
           reaches = subst (λ l. len ≤ length l) (puts_bare q.node u g) q.reaches;
+          knows = λ m t k x c. based_recorded g q.node u t k x (had_bare (Noted (Based q.node u (record { old = t; len = k; state = x }))) (L g) (q.knows m (record { old = t; len = k; state = x }) (has_bare (Based m u (record { old = t; len = k; state = x })) (L g) tt (based_line g m u t k x c))));
           state = q.state ∙ (λ i. bases.marked q.replies u (fold_from u (base_at q.node u g i) 0 (take len (puts_bare q.node u g i)))) ∙ failed_same (fold_from u (base_of q.node u g rs) 0 (take len (puts_of q.node u g rs)));
         };
         same = λ m t k x c. let e = q.same m (record { old = t; len = k; state = x }) (has_bare (Based m v (record { old = t; len = k; state = x })) (L g) tt (based_line g m v t k x c)) in (ap (λ (o : Origin). o.old) e, ap (λ (o : Origin). o.len) e, ap (λ (o : Origin). o.state) e);

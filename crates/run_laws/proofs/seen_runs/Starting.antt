@@ -14,6 +14,7 @@ use Rattle.node_state.specs.declared.happened.Happened.{Happened}
 use Rattle.node_state.specs.declared.happened.Happened.TheVariants as happened
 use Rattle.node_state.specs.State.{with_sessions}
 use Rattle.node_state.specs.Step.{started, ring_record, own_rings, first_view, first_members}
+use Rattle.run_safety.specs.Sight.{inc_in}
 use Rattle.run_safety.specs.Past.{History, records_of, Within, view_now, inc_now}
 use Rattle.run_safety.specs.SafeLists.{is_later}
 use Rattle.run_laws.proofs.seen_runs.Nodes.{NodeShown}
@@ -40,15 +41,15 @@ module _ (c : Config) (n j : ℕ) (now : List Happened) (before : History) where
   rings_over (r ∷ qs) are old =
       let k = rings_over qs (λ q h. are q (inr h)) old in
       let x = are r (inl refl) in
-      ((subst (NodeShown ((qs ++ first) ++ records_of before)) (sym x.1) (record { later = tt; rising = tt; among = tt; in_view = tt }), k.0), ap (λ z. inc_now n (z ∷ (qs ++ first) ++ records_of before)) x.1 ∙ k.1, ap (λ z. view_now n (z ∷ (qs ++ first) ++ records_of before)) x.1 ∙ k.2)
+      ((subst (NodeShown ((qs ++ first) ++ records_of before)) (sym x.1) (record { later = tt; rising = tt; among = tt; started = tt; in_view = tt }), k.0), ap (λ z. inc_now n (z ∷ (qs ++ first) ++ records_of before)) x.1 ∙ k.1, ap (λ z. view_now n (z ∷ (qs ++ first) ++ records_of before)) x.1 ∙ k.2)
 
   -- all that is recorded at the start
-  pub start_within : ((k : ℕ) → Has (happened.Up n k) (now ++ records_of before) → k < j) → is_member ms n j ≡ true → AllIn now before → AllIn (happened.In n v ms ∷ (reverse rings ++ first)) before × (inc_now n ((happened.In n v ms ∷ (reverse rings ++ first)) ++ records_of before) ≡ j)
-  start_within upto member old =
-      ((record { later = tt; rising = subst (λ z. IsTrue (is_later z v)) (sym (over.2 ∙ none)) refl; among = subst (λ z. is_member ms n z ≡ true) (sym (over.1 ∙ here)) member; in_view = tt }, over.0), over.1 ∙ here)
+  pub start_within : ((k : ℕ) → Has (happened.Up n k) (now ++ records_of before) → k < j) → is_member ms n j ≡ true → inc_in n ms ≡ j → 0 < j → AllIn now before → AllIn (happened.In n v ms ∷ (reverse rings ++ first)) before × (inc_now n ((happened.In n v ms ∷ (reverse rings ++ first)) ++ records_of before) ≡ j)
+  start_within upto member own up old =
+      ((record { later = tt; rising = subst (λ z. IsTrue (is_later z v)) (sym (over.2 ∙ none)) refl; among = subst (λ z. is_member ms n z ≡ true) (sym (over.1 ∙ here)) member; started = (subst (λ z. 0 < z) (sym (over.1 ∙ here)) up, own ∙ sym (over.1 ∙ here)); in_view = tt }, over.0), over.1 ∙ here)
     where
       over : AllIn (reverse rings ++ first) before × (inc_now n ((reverse rings ++ first) ++ records_of before) ≡ inc_now n (first ++ records_of before)) × (view_now n ((reverse rings ++ first) ++ records_of before) ≡ view_now n (first ++ records_of before))
-      over = rings_over (reverse rings) (λ r h. let k = has_map (ring_record n) r (own_rings c c.mode n j) (has_reverse r rings h) in (k.0, k.2)) (record { later = upto; rising = tt; among = tt; in_view = tt }, old)
+      over = rings_over (reverse rings) (λ r h. let k = has_map (ring_record n) r (own_rings c c.mode n j) (has_reverse r rings h) in (k.0, k.2)) (record { later = upto; rising = tt; among = tt; started = tt; in_view = tt }, old)
 
       here : inc_now n (first ++ records_of before) ≡ j
       here = grind (arith, nat_tests)

@@ -12,7 +12,7 @@ use Rattle.proposal_core.specs.declared.group_state.GroupState.{GroupState}
 use Rattle.proposal_core.specs.Fold.{present}
 use Rattle.node_state.specs.declared.happened.Happened.{Happened}
 use Rattle.node_state.specs.declared.happened.Happened.TheVariants.{Up, In, Base, Put, Heard, Asked, Told}
-use Rattle.run_safety.specs.Past.{puts_of, base_of, fold_from, state_at}
+use Rattle.run_safety.specs.Past.{inc_now, puts_of, base_of, fold_from, state_at}
 use Rattle.run_safety.specs.Sight.{inc_in}
 use Rattle.run_safety.specs.ViewOrder.{Lt}
 use Rattle.run_safety.specs.SafeLists.{NextPlace, InItsView, Fitting, Rising, AmongMembers}
@@ -36,6 +36,11 @@ StartsLater rs _ = Unit {0}
 abbrev pub RisesSeen : List Happened → Happened → Type 0
 RisesSeen rs (In n v ms) = (u : ViewId) (ns : List Member) → Has (In n u ns) rs → inc_in n ns ≡ inc_in n ms → Lt u v
 RisesSeen rs _ = Unit {0}
+
+-- a node that enters a view has started, and stands among the members in the incarnation of its last start
+abbrev pub StartedSeen : List Happened → Happened → Type 0
+StartedSeen rs (In n v ms) = (0 < inc_now n rs) × (inc_in n ms ≡ inc_now n rs)
+StartedSeen rs _ = Unit {0}
 
 -- all who enter a view name the same members
 abbrev pub SameSeen : List Happened → Happened → Type 0
@@ -81,6 +86,7 @@ pub record CutFrom (rs : List Happened) (v : ViewId) (ms : List Member) (g : Lis
   pub from : (x : Member) × Has x ms × (from_of x.node x.inc v rs ≡ Some u)
   pub node : ℕ
   pub reaches : len ≤ length (puts_of node u g rs)
+  pub knows : (m : ℕ) (t : ViewId) (k : ℕ) (x : GroupState) → Has (Base m u g t k x) rs → Has (Base node u g t k x) rs
   pub state : s ≡ marked rs v ms u (fold_from u (base_of node u g rs) 0 (take len (puts_of node u g rs)))
 
 -- a base is of a view that the node entered, with these members, and it is the same for all nodes
@@ -161,6 +167,7 @@ pub record SeenAt (rs : List Happened) (r : Happened) : Type 0 where
   pub rising : Rising rs r
   pub rises : RisesSeen rs r
   pub among : AmongMembers rs r
+  pub started : StartedSeen rs r
   pub members : SameSeen rs r
   pub together : LeavesTogether rs r
   pub base : BaseSeen rs r
