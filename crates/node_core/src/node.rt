@@ -8,6 +8,7 @@ ghost use Rattle.entry_delivery.specs.Received.{Receive};
 ghost use Rattle.entry_delivery.specs.Doing.{Does, RuleDoes};
 ghost use Rattle.node_state.specs.declared.call.CallLine.TheVariants as call;
 ghost use Rattle.node_state.specs.Calls.{take_call};
+ghost use Rattle.node_state.specs.Sending.{network_to};
 ghost use Rattle.node_state.specs.State.{InNameOrder};
 ghost use Rattle.node_state.specs.Status.{status_text};
 ghost use Rattle.node_state.specs.Step.{Calls, at_work, started, stepped};
@@ -18,6 +19,7 @@ ghost use Rattle.node_core.specs.Sends.{SendsFew};
 use crate::events::{NodeEvent, take_event};
 use crate::sessions::{close_session, open_session};
 use client_callbacks::Callbacks;
+use node_sending::network_to;
 use node_start::start_core;
 use node_state::{Config, Core, Packets, Records, What};
 use node_text::status_text;
@@ -103,6 +105,14 @@ impl<C: Callbacks> Node<C> {
         self.halted
     }
 
+    /// The network, from 1 to 4, by which it sends to the node of this number now: the least in whose ring both stand,
+    /// else the least on which both have an adapter; 0 where there is none.
+    pub fn network(&self, node: u8) -> u8
+        ensures { result ≡ network_to self.now.core node }
+    {
+        network_to(&self.core, node)
+    }
+
     /// Appends the lines of a status as the node stands, as a reply to a status client carries them. Where memory
     /// runs out nothing is appended.
     pub fn status(&self, alloc: Global, out: &mut Vec<u8>, what: What) -> Result<(), NoMemory>
@@ -115,7 +125,7 @@ impl<C: Callbacks> Node<C> {
         Ok(())
     }
 
-    /// Takes what its last step sent. The bytes of a packet are those of its `Datagram` in `world_packets`.
+    /// Takes what its last step sent. The bytes of a packet are those of its `Datagram` in `packet_codec`.
     #[tactic(auto, using(crate::proofs::StepLaws::work_beside))]
     pub fn take_sends(&mut self, alloc: Global) -> Packets
         ensures taken { result ≡ self.old.core.sends }

@@ -7,7 +7,7 @@ mod settings;
 mod views;
 
 pub use ballots::{FilledBallot, send_kept_to, send_request_to, send_vote};
-pub use packets::{send, send_entry, send_if_known, send_on};
+pub use packets::{network_to, send, send_entry, send_if_known, send_on};
 pub use settings::{
     address, has_adapter, is_fixed, is_rings, shared_network, speaks_two, view_level,
 };

@@ -37,7 +37,7 @@ fn ring_network(core: &Core, node: u8) -> Option<u8>
 
 /// The network by which the node sends to another one; 0 where none leads there.
 #[tactic(auto, unfolding(node_state::specs::Sending::network_to))]
-fn network_to(core: &Core, node: u8) -> u8
+pub fn network_to(core: &Core, node: u8) -> u8
     ensures { result ≡ network_to core.now node }
 {
     let shared = shared_network(&core.config, core.views.me, node);

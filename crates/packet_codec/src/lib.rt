@@ -1,6 +1,7 @@
 //! Packets of daemons as bytes: reading in place, writing, and which packets have a spelling.
 #![tactic(auto)]
 
+mod datagram;
 mod groups;
 mod laws;
 mod packet;
@@ -12,6 +13,7 @@ mod writable_lists;
 mod writable_packets;
 mod writing;
 
+pub use datagram::Datagram;
 pub use laws::packets_are_read_again;
 pub use packet::{
     Answered, BodyRef, PacketRef, PlacedRef, RequestRef, TellRef, VoteRef, is_packet,

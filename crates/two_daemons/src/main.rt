@@ -8,13 +8,13 @@ use client_callbacks::{Ballot, Callbacks, Notice, Told};
 use group_attr::{Attrs, Phases};
 use node_core::{Node, NodeEvent, is_packet};
 use node_state::{CallLine, Config, Mode, What};
+use packet_codec::Datagram;
 use proposal_core::Vote;
 use rsct_packet::{List, Mask, NoMemory};
 use std::alloc::Global;
 use std::io::{self, Write};
 use std::mem;
 use transcript::put_line;
-use world_packets::Datagram;
 
 /// How many turns the daemons have between two calls.
 const TURNS: u32 = 8;

@@ -6,17 +6,17 @@ ghost use Rattle.node_state.specs.Bytes.{packet_len};
 ghost use Rattle.world_model.specs.World.{kth_in, pairs_with};
 ghost use Rattle.world_packets.specs.Packets.{world_pairs, find_pair, is_waiting, is_between, waits_next, first_of};
 
-use crate::Datagram;
 use crate::pairs::{Pair, add, kth};
 use crate::waiting::Waiting;
 use node_state::Packet;
+use packet_codec::Datagram;
 use rsct_packet::NoMemory;
 use std::alloc::Global;
 use std::collections::VecDeque;
 use std::marker::Model;
 use std::mem;
 
-/// How many hints there are: one for each two of 32 nodes.
+/// How many hints there are: one for each two nodes.
 const HINTS: usize = 1024;
 
 /// All packets of a world, by pairs of nodes, and those that wait to be given, in the order of sending. A hint says where

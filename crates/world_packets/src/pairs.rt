@@ -5,7 +5,7 @@ ghost use Rattle.rsct_packet.specs.Search.{place_where};
 ghost use Rattle.world_model.specs.World.{kth_in, count_in, pairs_with};
 ghost use Rattle.world_packets.specs.Packets.{is_from, is_right, AreApart, world_pairs, find_pair};
 
-use crate::Datagram;
+use packet_codec::Datagram;
 use rsct_packet::{List, NoMemory};
 use std::alloc::Global;
 

@@ -4,7 +4,7 @@ use Rattle.node_state.specs.declared.packet.Packet.{Packet}
 use Rattle.node_state.specs.Bytes.{packet_of, bytes_of, packet_len}
 use Rattle.packet_codec.specs.Spelled.{IsSpelled}
 use Rattle.packet_codec.proofs.BodyFormats.{packet_read_again}
-use Rattle.world_packets.specs.Reading.{packet_in, packet_as, IsDatagram}
+use Rattle.packet_codec.specs.Datagram.{packet_in, packet_as, IsDatagram}
 
 pub packet_again : (p : Packet) (b : List ℕ) → IsSpelled p → b ≡ bytes_of p → packet_as b ≡ p
 unfolding packet_as

@@ -2,8 +2,9 @@
 ghost use Rattle.std.specs.Prelude.{◌≡◌, IfOk, Some};
 ghost use Rattle.node_state.specs.Bytes.{packet_of, bytes_of, packet_len};
 
+use crate::writable_packets::is_writable;
+use crate::writing::write_packet;
 use node_state::Packet;
-use packet_codec::{is_writable, write_packet};
 use rsct_packet::NoMemory;
 use std::alloc::Global;
 use std::marker::Model;
@@ -16,7 +17,7 @@ pub struct Datagram {
 
 impl Model for Datagram {
     ghost use Rattle.node_state.specs.declared.packet.Packet.{Packet};
-    ghost use Rattle.world_packets.specs.Reading.{packet_as, IsDatagram};
+    ghost use Rattle.packet_codec.specs.Datagram.{packet_as, IsDatagram};
 
     ghost Value = { Packet };
 
