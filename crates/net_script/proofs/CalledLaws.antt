@@ -39,7 +39,7 @@ use Rattle.node_groups.specs.Keeps.{Keeps}
 use Rattle.node_groups.proofs.KeepLaws.{keeps_itself, record_keeps, sent_keeps}
 use Rattle.node_calls.specs.Calling.{is_within_session}
 use Rattle.node_core.specs.Event.{called}
-use Rattle.net_script.specs.Hands.{given_by}
+use Rattle.run_hands.specs.Hands.{given_by}
 
 -- the same sessions, nothing more is handed, and the states of groups are as the records tell
 pub record Quiet (s t : Core) : Type 0 where

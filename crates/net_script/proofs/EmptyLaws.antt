@@ -16,7 +16,8 @@ use Rattle.world_model.specs.World as world
 use Rattle.world_laws.specs.world_answers.Answers.{Items}
 use Rattle.net_script.specs.declared.world.World.{World}
 use Rattle.net_script.specs.Standing.{Stands, Goes, kept_empty}
-use Rattle.net_script.specs.Hands.{ClientLogs, Logs, LogsStand, logs_begun, logs_started, last_start, empty_logs, Hears}
+use Rattle.run_hands.specs.Hands.{ClientLogs, Logs, LogsStand, logs_begun, logs_started, last_start, empty_logs}
+use Rattle.net_script.specs.Hearing.{Hears}
 use Rattle.net_script.proofs.NodeLaws.{node_before}
 use Rattle.net_script.proofs.BeginLaws.{empty_stands}
 use Rattle.net_script.proofs.HearLaws.{started_me}

@@ -21,7 +21,7 @@ use Rattle.world_laws.specs.world_answers.Plays.{AnsweredPlay, with_answers, Pla
 use Rattle.load_script.specs.Counting.{counted}
 use Rattle.net_script.specs.declared.world.World as kept
 use Rattle.net_script.specs.Standing.{Holds, Goes, Passes, Comes}
-use Rattle.net_script.specs.Hands.{Hears}
+use Rattle.net_script.specs.Hearing.{Hears}
 use Rattle.transcript.specs.declared.kinds.Kinds.{Kinds}
 use Rattle.transcript.specs.Kinds.{kinds_text}
 use Rattle.net_script.specs.declared.stage.Stage.{Stage}

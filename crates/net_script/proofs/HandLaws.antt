@@ -28,7 +28,8 @@ use Rattle.node_core.specs.Event as taken
 use Rattle.node_core.specs.Node.{NodeView}
 use Rattle.net_script.specs.declared.steps.Left.{Left}
 use Rattle.net_script.specs.Standing.{Leaves}
-use Rattle.net_script.specs.Hands.{logs_called, given_by, StepHands, StepHears}
+use Rattle.run_hands.specs.Hands.{logs_called, given_by, StepHands}
+use Rattle.net_script.specs.Hearing.{StepHears}
 use Rattle.net_script.proofs.CalledLaws.{CallHands, called_hands, is_within}
 
 -- ---- events that neither begin nor end a session

@@ -28,7 +28,8 @@ use Rattle.net_script.specs.declared.steps.Left.{Left}
 use Rattle.net_script.specs.declared.world.World.{World}
 use Rattle.net_script.specs.Standing.{is_me, comes_before, NodeStands, NodesStand, StepDone, Stands, Settled}
 use Rattle.play_state.specs.Starts.{started_in, is_start}
-use Rattle.net_script.specs.Hands.{Logs, is_log, logs_of, logs_with, LogsStand, logs_begun, logs_started, last_start, StepHands, StepHears, HandsNothing, NodeHands, DeliveryHands, BeginHands, NodesHear, HearsAs}
+use Rattle.run_hands.specs.Hands.{Logs, is_log, logs_of, logs_with, LogsStand, logs_begun, logs_started, last_start, StepHands, HandsNothing, NodeHands, DeliveryHands, BeginHands}
+use Rattle.net_script.specs.Hearing.{StepHears, NodesHear, HearsAs}
 use Rattle.net_script.proofs.NodeLaws.{StandsAt, same_me, stands_at, stands_found}
 use Rattle.net_script.proofs.WorldLaws.{stands_hold}
 use Rattle.net_script.proofs.GivingLaws.{kth_same, missing_either}

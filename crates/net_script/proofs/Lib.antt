@@ -22,7 +22,6 @@ pub mod RoundLaws
 pub mod LineLaws
 pub mod PlaySafeLaws
 pub mod SafePlays
-pub mod FoldLaws
 pub mod PlayLaws
 pub mod WordedLaws
 pub mod LoadLaws

@@ -30,7 +30,7 @@ use Rattle.load_script.proofs.StepLaws.{load_begins, load_goes_on, load_ends}
 use Rattle.transcript.specs.Kinds.{kinds_text, no_kinds}
 use Rattle.transcript.proofs.KindLaws.{no_lines}
 use Rattle.net_script.specs.Safe.{ScriptIsSafe, KeptRunIsSafe, LineMay, LinesMay, MayPlay}
-use Rattle.net_script.specs.Hands.{LogsStand, empty_logs}
+use Rattle.run_hands.specs.Hands.{LogsStand, empty_logs}
 use Rattle.net_script.specs.declared.stage.Stage.{Stage}
 use Rattle.play_state.specs.declared.play_fault.PlayFault.{PlayFault}
 use Rattle.play_state.specs.declared.play_fault.PlayFault.TheVariants as play_fault

@@ -10,7 +10,7 @@ use Rattle.node_state.specs.Handed.{Logged}
 use Rattle.entry_delivery.specs.Received.{WereHanded}
 use Rattle.node_core.specs.Node.{NodeView}
 use Rattle.net_script.specs.Standing.{is_me, comes_before}
-use Rattle.net_script.specs.Hands.{ClientLogs, Logs, is_log, logs_of, logs_with, LogsStand, logs_begun}
+use Rattle.run_hands.specs.Hands.{ClientLogs, Logs, is_log, logs_of, logs_with, LogsStand, logs_begun}
 
 module _ {C : Type 0} (R : C → List Handed → Type 0) where
   -- the same number

@@ -8,7 +8,7 @@ use Rattle.world_model.specs.declared.event.Event.TheVariants as event
 use Rattle.world_model.specs.World.{World, Sent, node_at, kth_between}
 use Rattle.world_laws.specs.world_runs.Runs.{SameRun}
 use Rattle.world_laws.specs.world_answers.Answers.{Answered, goes_on}
-use Rattle.net_script.specs.Hands.{Logs, EventHands, RunHands}
+use Rattle.run_hands.specs.Hands.{Logs, EventHands, RunHands}
 use Rattle.net_script.specs.Stage.{RunHears}
 
 -- ---- one event

@@ -23,7 +23,7 @@ use Rattle.world_laws.proofs.world_answers.Limits.{tells_none}
 use Rattle.net_script.specs.declared.world.World as kept
 use Rattle.net_script.specs.Standing.{Goes, kept_empty}
 use Rattle.play_state.specs.Posting.{bytes_after}
-use Rattle.net_script.specs.Hands.{LogsStand, RunHands, empty_logs}
+use Rattle.run_hands.specs.Hands.{LogsStand, RunHands, empty_logs}
 use Rattle.transcript.specs.declared.kinds.Kinds.{Kinds}
 use Rattle.transcript.specs.Kinds.{kinds_text}
 use Rattle.net_script.specs.declared.stage.Stage.{Stage}
@@ -34,8 +34,7 @@ use Rattle.play_state.specs.declared.play_fault.PutFault.TheVariants as put_faul
 use Rattle.play_state.specs.Faults.{fault_of_put}
 use Rattle.net_script.specs.Stage.{At, Went, Passed, Broke, Stopped, LeadsTo}
 use Rattle.net_script.specs.Ends.{records_in, records_within, StopsAs, EndsAs, ClientsStand, PlayedAs}
-use Rattle.net_script.proofs.SafePlays.{answered_play_is_safe, answered_front_is_safe}
-use Rattle.net_script.proofs.FoldLaws.{answered_play_folds}
+use Rattle.net_script.proofs.SafePlays.{answered_play_is_safe, answered_front_is_safe, answered_play_folds}
 use Rattle.net_script.specs.Writing.{Writes}
 use Rattle.net_script.proofs.TextLaws.{kinds_append, none_front, writes_none, writes_all, writes_front}
 

@@ -2,6 +2,7 @@
 use Rattle.std.proofs.Common.{◌≡◌, ℕ, zero, suc, Bool, true, false, List, [], ◌∷◌, ◌++◌, fold, Option, Some, None, refl, sym, ◌∙◌, ap, subst}
 use Rattle.std.specs.Prelude.{is_some}
 use Rattle.rsct_packet.specs.Lists.{reverse_onto}
+use Rattle.client_callbacks.specs.Handed.{Handed}
 use Rattle.node_state.specs.declared.config.Config.{Config}
 use Rattle.world_model.specs.declared.event.Event.{Event}
 use Rattle.world_model.specs.declared.event.Event.TheVariants as event
@@ -21,6 +22,8 @@ use Rattle.world_safety.proofs.Moments.{front_may}
 use Rattle.net_script.specs.Safe.{MayHappen, AllMayHappen, IsSafe, LineMay, LinesMay, MayPlay}
 use Rattle.net_script.proofs.SafeLaws.{every_answer_is_safe}
 use Rattle.net_script.specs.Ends.{records_in, FrontIsSafe}
+use Rattle.run_hands.specs.Logs.{StatesAreFolds}
+use Rattle.run_hands.proofs.FoldLaws.{states_are_folds}
 
 event_may : (c : Config) (e : Event) → LineMay c.mode (line.Plain e) → MayHappen c e
 event_may c (event.Start n) may = may
@@ -123,3 +126,7 @@ answered_front_is_safe said limit x p h may =
     let f : Front (world_new x.config) (answered_in p) (limited limit x.config p).world = limited_front limit 0 (world_new x.config) (answered_in p) in
     let fine : AllMayHappen x.config (events_in f.front) = front_may x.config f.front f.rest (subst (λ es. AllMayHappen x.config (events_in es)) f.whole (play_may said x p h may)) in
     (f.front, f.rest, f.whole, subst (IsSafe x.config f.front) (front_records x.config f.front (limited limit x.config p).world f.comes) (every_answer_is_safe x.config f.front fine))
+
+-- the states that come with what its clients hear are folds
+pub answered_play_folds : {C : Type 0} (R : C → List Handed → Type 0) (said : Items → Option Items) (x : Script) (p : AnsweredPlay) → PlaysLines said (starting x.config) x.lines p → MayPlay x → StatesAreFolds R x.config (answered_in p)
+answered_play_folds R said x p h may = states_are_folds R x.config (answered_in p) (play_may said x p h may)

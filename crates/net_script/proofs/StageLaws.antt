@@ -16,7 +16,7 @@ use Rattle.world_laws.specs.world_answers.Limits.{AnsweredRuns, AnsweredEnds, An
 use Rattle.load_script.specs.declared.counts.Counts.{Counts}
 use Rattle.load_script.specs.Counting.{counted}
 use Rattle.load_script.proofs.CountLaws.{counted_then}
-use Rattle.net_script.specs.Hands.{LogsStand}
+use Rattle.run_hands.specs.Hands.{LogsStand}
 use Rattle.transcript.specs.declared.kinds.Kinds.{Kinds}
 use Rattle.transcript.specs.Kinds.{kinds_text}
 use Rattle.net_script.specs.declared.stage.Stage.{Stage}

@@ -14,8 +14,8 @@ use Rattle.world_laws.specs.world_answers.Limits.{answered_in, limited}
 use Rattle.net_script.specs.Safe.{IsSafe, MayPlay}
 use Rattle.net_script.specs.declared.world.World.{World}
 use Rattle.net_script.specs.Standing.{Stands}
-use Rattle.net_script.specs.Hands.{Logs, LogsStand, RunHands, empty_logs}
-use Rattle.net_script.specs.Folds.{StatesAreFolds}
+use Rattle.run_hands.specs.Hands.{Logs, LogsStand, RunHands, empty_logs}
+use Rattle.run_hands.specs.Logs.{StatesAreFolds}
 use Rattle.transcript.specs.declared.kinds.Kinds.{Kinds}
 use Rattle.transcript.specs.Kinds.{kinds_text}
 use Rattle.play_state.specs.declared.play_fault.PlayFault.{PlayFault}

@@ -1,7 +1,6 @@
 pub mod Standing
 pub mod Safe
-pub mod Hands
-pub mod Folds
+pub mod Hearing
 pub mod Stage
 pub mod Ends
 pub mod PlaySafe

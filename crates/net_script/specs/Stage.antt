@@ -13,7 +13,7 @@ use Rattle.world_laws.specs.world_answers.Limits.{AnsweredRuns, AnsweredEnds, An
 use Rattle.load_script.specs.Counting.{counted}
 use Rattle.net_script.specs.Standing.{Stands}
 use Rattle.net_script.specs.Writing.{Writes}
-use Rattle.net_script.specs.Hands.{Logs, LogsStand, RunHands}
+use Rattle.run_hands.specs.Hands.{Logs, LogsStand, RunHands}
 use Rattle.transcript.specs.declared.kinds.Kinds.{Kinds}
 use Rattle.transcript.specs.Kinds.{kinds_text}
 use Rattle.net_script.specs.declared.stage.Stage.{Stage}

@@ -12,7 +12,8 @@ ghost use Rattle.node_state.specs.Step.{Calls};
 ghost use Rattle.world_model.specs.World.{node_at, calls_if};
 ghost use Rattle.world_laws.specs.world_answers.Answers.{calls_by_if};
 ghost use Rattle.net_script.specs.Standing.{silent_or, CallDone, Goes, Passes, Comes};
-ghost use Rattle.net_script.specs.Hands.{NodeHands, StepHears, HearsAs};
+ghost use Rattle.run_hands.specs.Hands.{NodeHands};
+ghost use Rattle.net_script.specs.Hearing.{StepHears, HearsAs};
 
 use crate::steps::{Left, leave, step_node};
 use crate::world::World;

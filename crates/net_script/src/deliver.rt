@@ -5,7 +5,7 @@ ghost use Rattle.world_model.specs.World.{node_at, kth_in, kth_between, delivers
 ghost use Rattle.world_laws.specs.world_answers.Answers.{delivers_by_if};
 ghost use Rattle.world_packets.specs.Packets.{world_pairs, find_pair};
 ghost use Rattle.net_script.specs.Standing.{is_me, Goes, Passes, Comes};
-ghost use Rattle.net_script.specs.Hands.{Hears};
+ghost use Rattle.net_script.specs.Hearing.{Hears};
 
 use crate::world::World;
 use client_callbacks::Made;

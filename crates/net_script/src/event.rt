@@ -5,7 +5,8 @@ ghost use Rattle.node_state.specs.Step.{Garbage};
 ghost use Rattle.world_model.specs.World.{node_at, node_steps, happens};
 ghost use Rattle.world_laws.specs.world_answers.Answers.{step_by_if, happens_by};
 ghost use Rattle.net_script.specs.Standing.{Goes, Passes, Comes};
-ghost use Rattle.net_script.specs.Hands.{NodeHands, HearsAs, Hears};
+ghost use Rattle.run_hands.specs.Hands.{NodeHands};
+ghost use Rattle.net_script.specs.Hearing.{HearsAs, Hears};
 ghost use Rattle.net_script.specs.Safe.{AnswersSafely, GoesSafely};
 
 use crate::world::World;

@@ -4,7 +4,8 @@ ghost use Rattle.world_model.specs.declared.event.Event.TheVariants as event;
 ghost use Rattle.world_model.specs.World.{node_at, node_starts, started_at, stops_if, shows_if};
 ghost use Rattle.world_model.specs.World as world;
 ghost use Rattle.net_script.specs.Standing.{Stands, Goes};
-ghost use Rattle.net_script.specs.Hands.{BeginHands, HearsAs, Hears};
+ghost use Rattle.run_hands.specs.Hands.{BeginHands};
+ghost use Rattle.net_script.specs.Hearing.{HearsAs, Hears};
 
 use crate::world::World;
 use client_callbacks::Made;

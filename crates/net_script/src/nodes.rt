@@ -6,7 +6,7 @@ ghost use Rattle.rsct_packet.specs.Lists.{drop_where};
 ghost use Rattle.node_state.specs.Step.{Calls};
 ghost use Rattle.node_core.specs.Event.{event_in, is_taken};
 ghost use Rattle.net_script.specs.Standing.{is_me, comes_before, number_in, StepsIn, with_scripts};
-ghost use Rattle.net_script.specs.Hands.{NodesHear};
+ghost use Rattle.net_script.specs.Hearing.{NodesHear};
 
 use crate::calls::call_node;
 use crate::steps::{Left, step_node};

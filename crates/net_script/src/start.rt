@@ -4,7 +4,7 @@ ghost use Rattle.std.specs.List.{fold};
 ghost use Rattle.world_model.specs.World.{empty_world, node_starts, world_new};
 ghost use Rattle.world_model.specs.World as world;
 ghost use Rattle.net_script.specs.Standing.{Stands, Goes, kept_empty};
-ghost use Rattle.net_script.specs.Hands.{LogsStand, empty_logs};
+ghost use Rattle.run_hands.specs.Hands.{LogsStand, empty_logs};
 ghost use Rattle.net_script.specs.Safe.{SafeOn};
 ghost use Rattle.world_safety.specs.Scripts.{IsSafeRun};
 

@@ -2,7 +2,7 @@
 ghost use Rattle.std.specs.Prelude.{IfOk, IsTrue};
 ghost use Rattle.node_core.specs.Event.{event_in, is_taken};
 ghost use Rattle.net_script.specs.Standing.{Leaves, StepsAs};
-ghost use Rattle.net_script.specs.Hands.{StepHears};
+ghost use Rattle.net_script.specs.Hearing.{StepHears};
 
 use client_callbacks::{Callbacks, Made};
 use node_core::{Node, NodeEvent};

@@ -5,7 +5,8 @@ ghost use Rattle.world_model.specs.World.{node_at, node_steps};
 ghost use Rattle.world_laws.specs.world_answers.Answers.{step_by_if};
 ghost use Rattle.net_script.specs.Standing.{is_me, client_in, Goes, Passes, Comes, Settled};
 ghost use Rattle.play_state.specs.Posting.{bytes_after};
-ghost use Rattle.net_script.specs.Hands.{NodeHands, HearsAs};
+ghost use Rattle.run_hands.specs.Hands.{NodeHands};
+ghost use Rattle.net_script.specs.Hearing.{HearsAs};
 
 use crate::nodes::Nodes;
 use crate::steps::Left;

@@ -5,7 +5,7 @@ use Rattle.node_state.specs.Step.{Calls}
 use Rattle.node_core.specs.Node.{NodeView}
 use Rattle.world_model.specs.World.{scripts_after}
 use Rattle.net_script.specs.Standing.{is_me, with_scripts, StepsIn}
-use Rattle.net_script.specs.Hands.{NodesHear}
+use Rattle.net_script.specs.Hearing.{NodesHear}
 use Rattle.net_script.proofs.HearLaws.{hears_by}
 use Rattle.net_script.proofs.CallLaws.{call_at}
 use Rattle.net_script.proofs.nodes.Nodes.call.Goals as goal

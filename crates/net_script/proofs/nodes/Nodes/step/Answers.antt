@@ -4,7 +4,7 @@ use Rattle.rsct_packet.specs.Search.{place_where}
 use Rattle.node_core.specs.Event.{event_in}
 use Rattle.node_core.specs.Node.{NodeView}
 use Rattle.net_script.specs.Standing.{is_me, StepsIn}
-use Rattle.net_script.specs.Hands.{NodesHear}
+use Rattle.net_script.specs.Hearing.{NodesHear}
 use Rattle.net_script.proofs.HearLaws.{hears_by}
 use Rattle.net_script.proofs.NodeLaws.{steps_at}
 use Rattle.net_script.proofs.nodes.Nodes.step.Goals as goal

@@ -7,7 +7,7 @@ use Rattle.world_model.specs.World as world
 use Rattle.net_script.specs.declared.world.World.{World}
 use Rattle.net_script.specs.Standing.{Stands, Goes, kept_empty}
 use Rattle.net_script.proofs.BeginLaws.{begins_fixed, begins_down}
-use Rattle.net_script.specs.Hands.{LogsStand, empty_logs}
+use Rattle.run_hands.specs.Hands.{LogsStand, empty_logs}
 use Rattle.net_script.proofs.EmptyLaws.{empty_fixed, empty_down}
 use Rattle.net_script.proofs.world.World.begun.Goals as goal
 

@@ -5,7 +5,8 @@ use Rattle.world_model.specs.World.{node_at, node_steps}
 use Rattle.world_laws.specs.world_answers.Answers.{step_by_if}
 use Rattle.play_state.specs.declared.world_fault.WorldFault.TheVariants.{TooMuchKept}
 use Rattle.net_script.specs.Standing.{Goes, Passes, Comes}
-use Rattle.net_script.specs.Hands.{NodeHands, HearsAs}
+use Rattle.run_hands.specs.Hands.{NodeHands}
+use Rattle.net_script.specs.Hearing.{HearsAs}
 use Rattle.net_script.proofs.world.World.give_garbage.Goals as goal
 
 pub returns-clause-goes : goal.returns-clause-goes

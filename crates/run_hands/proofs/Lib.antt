@@ -1,0 +1,2 @@
+pub mod EveryLog
+pub mod FoldLaws
