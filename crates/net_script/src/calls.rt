@@ -15,7 +15,7 @@ ghost use Rattle.net_script.specs.Standing.{silent_or, CallDone, Goes, Passes, C
 ghost use Rattle.run_hands.specs.Hands.{NodeHands};
 ghost use Rattle.net_script.specs.Hearing.{StepHears, HearsAs};
 
-use crate::steps::{Left, leave, step_node};
+use crate::steps::{Left, step_node, take_left};
 use crate::world::World;
 use client_callbacks::{Callbacks, Made, votes_word};
 use node_core::{Node, NodeEvent};
@@ -102,7 +102,7 @@ fn begin_session<C: Made>(
     }
     let client = client_of::<C>(alloc, votes)?;
     match node.begin_session(alloc, name, client) {
-        Ok(()) => leave(node, alloc, me),
+        Ok(()) => take_left(node, alloc, me),
         Err(_) => Err(NoMemory),
     }
 }
@@ -117,7 +117,7 @@ fn say_goodbye<C: Made>(node: &mut Node<C>, alloc: Global, client: &[u8]) -> Res
     scripted_clients_fill_their_scripts();
     let me = node.core().views.me;
     match node.say_goodbye(alloc, client) {
-        Ok(()) => leave(node, alloc, me),
+        Ok(()) => take_left(node, alloc, me),
         Err(_) => Err(NoMemory),
     }
 }

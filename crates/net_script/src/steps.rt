@@ -19,7 +19,7 @@ pub struct Left {
 }
 
 /// Takes what a node's last step left. A node keeps its number: one that has another counts as want of memory.
-pub fn leave<C: Callbacks>(node: &mut Node<C>, alloc: Global, me: u8) -> Result<Left, NoMemory>
+pub fn take_left<C: Callbacks>(node: &mut Node<C>, alloc: Global, me: u8) -> Result<Left, NoMemory>
     ensures { IfOk result (λ l. Leaves node.old node.new l me) }
 {
     if node.core().views.me != me {
@@ -45,7 +45,7 @@ pub fn step_node<C: Made>(
     scripted_clients_fill_their_scripts();
     let me = node.core().views.me;
     match node.step(alloc, event) {
-        Ok(()) => leave(node, alloc, me),
+        Ok(()) => take_left(node, alloc, me),
         Err(_) => Err(NoMemory),
     }
 }
