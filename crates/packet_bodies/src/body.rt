@@ -339,8 +339,8 @@ fn read_gone_parts(bytes: &[u8]) -> Option<(Gone, &[u8])>
     ensures { Gives result (gone_at bytes.now) }
 {
     let (group, bytes) = read_group(bytes)?;
-    let (p, bytes) = read_provider(bytes)?;
-    Some((Gone { group, p }, bytes))
+    let (provider, bytes) = read_provider(bytes)?;
+    Some((Gone { group, provider }, bytes))
 }
 
 /// A GONE.

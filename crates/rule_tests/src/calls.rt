@@ -130,7 +130,7 @@ pub fn first_request(steady: &Steady) -> Option<&Proposal> {
 
 /// The number of the oldest request.
 pub fn first_number(steady: &Steady) -> Option<u32> {
-    Some(steady.request(0)?.r)
+    Some(steady.request(0)?.request)
 }
 
 /// Tells the client that its request was refused, and answers whether it was told.
