@@ -138,7 +138,24 @@ def seconds_of(program, words, lines):
     return used.ru_utime + used.ru_stime
 
 
-def seconds_of_work(program, case):
-    """The processor time of the work of a case: all but what it takes to get ready."""
-    whole = seconds_of(program, case.words, case.ready + case.work)
-    return whole - seconds_of(program, case.words, case.ready) if case.ready else whole
+@dataclass(frozen=True)
+class Turn:
+    """The processor time of a case, and of what it takes to get ready, once each."""
+
+    whole: float
+    ready: float
+
+    @property
+    def work(self):
+        return self.whole - self.ready
+
+
+def turn_of(program, case):
+    ready = seconds_of(program, case.words, case.ready) if case.ready else 0
+    return Turn(seconds_of(program, case.words, case.ready + case.work), ready)
+
+
+def least_work(turns):
+    """The work of a case of which nothing was disturbed: what disturbs a turn makes it longer, and may disturb the half of
+    it that is taken away."""
+    return min(turn.whole for turn in turns) - min(turn.ready for turn in turns)
