@@ -1,56 +1,14 @@
 -- The words that say how a client votes: items joined by commas. An item is `-`, which is silent, or a vote,
 -- `A`, `C` or `R`, with `=` and a value after it or not. A value is a text with `%XX` for any byte; `~` alone
 -- is the empty one.
-use Rattle.std.specs.Prelude.{ℕ, Bool, ◌==◌, ◌&&◌, ◌+◌, ◌-◌, ◌*◌, ◌++◌, List, [], ◌∷◌, Option, Some, None, nat_le, length, codes, if◌then◌else◌}
+use Rattle.std.specs.Prelude.{ℕ, Bool, ◌==◌, ◌&&◌, ◌+◌, ◌-◌, ◌++◌, List, [], ◌∷◌, Option, Some, None, nat_le, codes, if◌then◌else◌}
 use Rattle.std.specs.List.{fold, list_all}
 use Rattle.std.specs.Str.{bytes_eq}
 use Rattle.proposal_core.specs.declared.entry.Vote.{Vote}
 use Rattle.proposal_core.specs.declared.entry.Vote.TheVariants.{Approve, Continue, Reject}
 use Rattle.client_callbacks.specs.declared.votes.VoteItem.{VoteItem}
 use Rattle.client_callbacks.specs.declared.votes.VotesRead.{VotesRead}
-use Rattle.client_callbacks.specs.declared.texts.TextRead.{TextRead}
-use Rattle.client_callbacks.specs.declared.texts.Escape.{Escape}
-use Rattle.client_callbacks.specs.declared.texts.Escape.TheVariants.{Plain, Percent, Digit}
-
-unfoldable pub hex_value : ℕ → Option ℕ
-hex_value b =
-    if nat_le 48 b && nat_le b 57 then Some (b - 48)
-    else if nat_le 65 b && nat_le b 70 then Some (b - 55)
-    else if nat_le 97 b && nat_le b 102 then Some (b - 87)
-    else None
-
-abbrev pub with_byte : Option (List ℕ) → Option ℕ → Option (List ℕ)
-with_byte None x = None
-with_byte (Some bytes) None = None
-with_byte (Some bytes) (Some b) = Some (bytes ++ b ∷ [])
-
-abbrev pub hex_pair : Option ℕ → Option ℕ → Option ℕ
-hex_pair None y = None
-hex_pair (Some x) None = None
-hex_pair (Some x) (Some y) = Some (16 * x + y)
-
-abbrev pub text_byte_at : Option (List ℕ) → Escape → ℕ → TextRead
-text_byte_at bytes Plain b = if b == 37 then record { bytes = bytes; escape = Percent } else record { bytes = with_byte bytes (Some b); escape = Plain }
-text_byte_at bytes Percent b = record { bytes = bytes; escape = Digit b }
-text_byte_at bytes (Digit a) b = record { bytes = with_byte bytes (hex_pair (hex_value a) (hex_value b)); escape = Plain }
-
-unfoldable pub text_byte : TextRead → ℕ → TextRead
-text_byte r b = text_byte_at r.bytes r.escape b
-
-abbrev pub text_end_at : Option (List ℕ) → Escape → Option (List ℕ)
-text_end_at bytes Plain = bytes
-text_end_at bytes Percent = None
-text_end_at bytes (Digit a) = None
-
--- no text ends within a `%XX`
-unfoldable pub text_end : TextRead → Option (List ℕ)
-text_end r = text_end_at r.bytes r.escape
-
-unfoldable pub text_of : List ℕ → Option (List ℕ)
-text_of w = text_end (fold text_byte (record { bytes = Some []; escape = Plain }) w)
-
-unfoldable pub text_word : List ℕ → Option (List ℕ)
-text_word w = if length w == 0 then None else if bytes_eq w (codes "~") then Some [] else text_of w
+use Rattle.value_words.specs.Escapes.{text_word, escapes_open}
 
 unfoldable pub vote_letter : ℕ → Option Vote
 vote_letter b = if b == 65 then Some Approve else if b == 67 then Some Continue else if b == 82 then Some Reject else None
@@ -98,5 +56,5 @@ votes_word w = if is_word w then votes_end (fold votes_byte (record { items = So
 
 -- opens each word of this file, for a computation
 unfoldable pub votes_opens : Unit {0}
-unfolding hex_value text_byte text_end text_of text_word vote_letter vote_word vote_item votes_end votes_byte votes_word
+unfolding escapes_open vote_letter vote_word vote_item votes_end votes_byte votes_word
 votes_opens = tt

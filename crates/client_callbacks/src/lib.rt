@@ -4,13 +4,11 @@
 mod ballot;
 mod kinds;
 mod notice;
-mod texts;
 mod told;
 mod votes;
 
 pub use ballot::{Ballot, Filled, MAX_MESSAGE, value_limit};
 pub use kinds::{BoxedClient, DaemonClient, ScriptClient, SteadyClient};
 pub use notice::{Callbacks, Made, Notice};
-pub use texts::{hex_value, text_word};
 pub use told::{Told, Why};
 pub use votes::{VoteItem, vote_word, votes_word};

@@ -2,9 +2,9 @@
 ghost use Rattle.std.specs.Prelude.{◌≡◌, ◌++◌, ◌+◌, drop, length, OnOk, IfOk};
 ghost use Rattle.client_run.specs.Turns.{answer_line, event_lines};
 
-use node_text::{put_number, put_text};
 use remote_session::Far;
 use rsct_packet::NoMemory;
+use value_words::{put_number, put_text};
 
 /// The line of the answer to the call of this number, at the end.
 #[tactic(auto, unfolding(crate::specs::Turns::answer_line))]

@@ -7,9 +7,9 @@ use Rattle.world_model.specs.declared.script.Aim.TheVariants.{Plays}
 use Rattle.world_model.specs.declared.script.LineWhy.{LineWhy}
 use Rattle.world_model.specs.declared.script.LineWhy.TheVariants.{Long}
 use Rattle.world_model.specs.declared.script.Script.{Script}
-use Rattle.world_model.specs.Words.{split_on, push_head}
+use Rattle.value_words.specs.Words.{split_on, push_head}
 use Rattle.world_model.specs.Reading.{Reading, Read, Good, Bad, ScriptRead, IsScript, IsNone, nothing_read, input_limit, read_for, script_of}
-use Rattle.script_words.proofs.SplitLaws.{some_piece}
+use Rattle.value_words.proofs.SplitLaws.{some_piece}
 use Rattle.hags_cli.specs.Run.{ReadsAs}
 use Rattle.script_reader.specs.declared.faults.LineFault.TheVariants as line_fault
 use Rattle.script_reader.specs.ClientScript.{line_by, lines_from, lines_for}

@@ -1,4 +1,3 @@
-pub mod Wording
 pub mod Settings
 pub mod State
 pub mod Sending

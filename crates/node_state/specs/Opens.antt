@@ -22,7 +22,8 @@ use Rattle.view_state.specs.Bases.{bases_open}
 use Rattle.view_state.specs.Codec.{sized_entry_at, sized_entry_text, group_part_at, group_part_text, parts_at as lists_at, parts_text as lists_text, answer_at, answer_text, source_at_front, source_text as brought_source_text, each_comes_once, install_at, install_text}
 use Rattle.view_state.specs.Cut.{cut_opens}
 use Rattle.view_state.specs.Views.{views_open}
-use Rattle.node_state.specs.Wording.{wording_opens}
+use Rattle.value_words.specs.Wording.{wording_opens}
+use Rattle.entry_words.specs.Wording.{entry_wording_opens}
 use Rattle.node_state.specs.Settings.{settings_opens}
 use Rattle.node_state.specs.State.{state_opens}
 use Rattle.node_state.specs.Sending.{sending_opens}
@@ -58,5 +59,5 @@ unfolding sized_entry_at sized_entry_text group_part_at group_part_text lists_at
 brought_opens = tt
 
 unfoldable pub node_opens : Unit {0}
-unfolding digits risen mask_opens is_bad_source first_fault agree fold_opens sizes_opens lists_opens gather_opens addresses_opens rings_opens reach_opens due_opens ballots_opens handed_opens sessions_open calls_opens handon_opens answers_open bases_open cut_opens views_open wording_opens settings_opens state_opens sending_opens handing_opens leading_opens deciding_opens ending_opens following_opens applying_opens ticks_opens status_opens node_calls_opens step_opens spelling_opens brought_opens bodies_opens bytes_opens
+unfolding digits risen mask_opens is_bad_source first_fault agree fold_opens sizes_opens lists_opens gather_opens addresses_opens rings_opens reach_opens due_opens ballots_opens handed_opens sessions_open calls_opens handon_opens answers_open bases_open cut_opens views_open wording_opens entry_wording_opens settings_opens state_opens sending_opens handing_opens leading_opens deciding_opens ending_opens following_opens applying_opens ticks_opens status_opens node_calls_opens step_opens spelling_opens brought_opens bodies_opens bytes_opens
 node_opens = tt

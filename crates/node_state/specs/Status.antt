@@ -12,7 +12,8 @@ use Rattle.packet_bodies.specs.declared.body.What.{What}
 use Rattle.packet_bodies.specs.declared.body.What.TheVariants.{Hats, Hagsns, Hagsgr, Hagsvote}
 use Rattle.node_state.specs.declared.state.Core.{Core}
 use Rattle.node_state.specs.State.{held_rows, frozen, leader_in, leads_in}
-use Rattle.node_state.specs.Wording.{word, view_text, ring_text, proto_text, nodes_text, members_text, providers_text, escaped, kind_text}
+use Rattle.value_words.specs.Wording.{word, view_text, ring_text, proto_text, nodes_text, members_text, providers_text, escaped}
+use Rattle.entry_words.specs.Wording.{kind_text}
 
 unfoldable pub ring_line : Ring → List ℕ
 ring_line r =

@@ -1,2 +1,1 @@
 pub mod StatusLaws
-pub mod TextLaws

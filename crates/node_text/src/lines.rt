@@ -1,6 +1,6 @@
 //! The line of a ring, of the view, of a group, and of a protocol that runs.
 ghost use Rattle.std.specs.Prelude.{◌≡◌, ◌++◌, IfOk, OnOk, Some};
-ghost use Rattle.node_state.specs.Wording.{word};
+ghost use Rattle.value_words.specs.Wording.{word};
 ghost use Rattle.node_state.specs.Status.{ring_line, yes_or_no, view_line, leader_text, list_line, group_line, waiting_text, vote_line};
 
 use crate::words::{
@@ -58,7 +58,7 @@ pub fn view_line(core: &Core, alloc: Global) -> Result<List<u8>, NoMemory>
 }
 
 /// The leader, `?` where it is unknown, and a space.
-#[tactic(auto, unfolding(node_state::specs::Status::leader_text, node_state::specs::Wording::word))]
+#[tactic(auto, unfolding(node_state::specs::Status::leader_text, value_words::specs::Wording::word))]
 fn put_leader_word(out: &mut Vec<u8>, leader: Option<u8>) -> Result<(), NoMemory>
     ensures { OnOk result (out.new.items ≡ out.old.items ++ word (leader_text leader)) }
 {

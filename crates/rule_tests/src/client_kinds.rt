@@ -3,12 +3,13 @@ ghost use Rattle.std.specs.Prelude.{None};
 
 use client_callbacks::{
     Ballot, BoxedClient, Callbacks, DaemonClient, Made, Notice, ScriptClient, SteadyClient, Told,
-    VoteItem, text_word, vote_word, votes_word,
+    VoteItem, vote_word, votes_word,
 };
 use proposal_core::{Entry, GroupState, Vote};
 use rsct_packet::{List, NoMemory, ProtoId, ProviderId, Providers, ViewId};
 use std::alloc::Global;
 use std::process::Abort;
+use value_words::text_word;
 
 /// An object that rejects wherever a vote is asked for.
 #[derive(Drop)]

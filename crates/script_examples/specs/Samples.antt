@@ -13,7 +13,7 @@ use Rattle.packet_bodies.specs.declared.body.What.TheVariants.{Hagsns}
 use Rattle.node_state.specs.declared.state.Core.{Core}
 use Rattle.node_state.specs.Step.{Given, started, stepped}
 use Rattle.node_state.specs.Bytes.{is_packet}
-use Rattle.world_model.specs.Words.{hex_word}
+use Rattle.value_words.specs.Words.{hex_word}
 use Rattle.world_model.specs.World.{by_scripts}
 use Rattle.world_model.specs.Load.{settings_of}
 use Rattle.world_model.specs.Reading.{ScriptRead, IsScript, IsNone}

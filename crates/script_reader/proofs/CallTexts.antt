@@ -9,9 +9,9 @@ use Rattle.world_model.specs.declared.script.Aim.TheVariants.{Asks}
 use Rattle.world_model.specs.declared.script.LineWhy.{LineWhy}
 use Rattle.world_model.specs.declared.script.LineWhy.TheVariants.{Long, BadByte, MissingWord, ExtraWord, OutOfPlace}
 use Rattle.world_model.specs.declared.script.Script.{Script}
-use Rattle.world_model.specs.Words.{split_on, chosen}
+use Rattle.value_words.specs.Words.{split_on, chosen, words_in}
 use Rattle.world_model.specs.Lines.{Form, forms, Said, SaysMode, SaysNode, SaysAdapter, SaysHb, SaysPort, SaysLevel, SaysDomain, SaysBegin, SaysLine, SaysClient, SaysCall, said}
-use Rattle.world_model.specs.Reading.{Reading, Read, Good, Bad, ScriptRead, IsScript, IsNone, nothing_read, misplaced, reason, with_line, with_call, with_client, with_config, with_address, taken, taken_unless, said_line, is_extra, counted_line, formed_line, skipped_line, worded_line, is_comment, words_in, is_bad_byte, with_text, texted, read_line, script_in, lacks_begin, at_end, input_limit}
+use Rattle.world_model.specs.Reading.{Reading, Read, Good, Bad, ScriptRead, IsScript, IsNone, nothing_read, misplaced, reason, with_line, with_call, with_client, with_config, with_address, taken, taken_unless, said_line, is_extra, counted_line, formed_line, skipped_line, worded_line, is_comment, is_bad_byte, with_text, texted, read_line, script_in, lacks_begin, at_end, input_limit}
 use Rattle.world_model.proofs.ReadingLaws.{reasonless}
 use Rattle.script_reader.specs.declared.faults.ScriptFault.{ScriptFault}
 use Rattle.script_reader.specs.Reading.{GivesScript}

@@ -1,7 +1,7 @@
 -- Words of which each one is read.
 use Rattle.std.proofs.Common.{◌≡◌, ℕ, ◌++◌, List, [], ◌∷◌, Option, Some, None, refl, sym, ◌∙◌, ap, append_assoc, append-nil}
 use Rattle.std.specs.Option.{option_map}
-use Rattle.world_model.specs.Words.{◌>>=◌, each_read}
+use Rattle.value_words.specs.Words.{◌>>=◌, each_read}
 
 -- these, and those that are read of the words that are left
 unfoldable pub each_after : {X : Type 0} → (List ℕ → Option X) → List X → List (List ℕ) → Option (List X)

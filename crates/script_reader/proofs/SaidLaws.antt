@@ -2,13 +2,14 @@
 use Rattle.std.proofs.Common.{◌≡◌, ℕ, List, [], ◌∷◌, Option, Some, None, Result, refl, sym, ◌∙◌, ap, subst}
 use Rattle.std.specs.Option.{option_map, ok_or}
 use Rattle.rsct_packet.specs.Ids.{last_u32}
-use Rattle.world_model.specs.Words.{◌>>=◌, when_true, number_word, hex_word, node_word, network_word, what_word}
+use Rattle.value_words.specs.Words.{◌>>=◌, when_true, number_word, hex_word, node_word, network_word}
+use Rattle.world_model.specs.Words.{what_word}
 use Rattle.world_model.specs.Lines.{Head, Said, says_one, says_event, says_two, says_call, said, HMode, HNode, HAdapter, HHb, HPort, HLevel, HDomain, HBegin, HStart, HStop, HAsk, HTick, HRun, HDeliver, HDrop, HFlow, HCut, HHeal, HGarbage, HShow, HClient, HJoin, HLeave, HExpel, HState, HMessage, HAttrs, HVote, HSubscribe, HUnsubscribe, HGoodbye}
-use Rattle.script_words.specs.declared.faults.WordFault.{WordFault}
-use Rattle.script_words.specs.declared.faults.WordFault.TheVariants as word_fault
+use Rattle.value_words.specs.declared.faults.WordFault.{WordFault}
+use Rattle.value_words.specs.declared.faults.WordFault.TheVariants as word_fault
 use Rattle.script_words.specs.declared.heads.Head.{Head as LineHead}
 use Rattle.script_words.specs.Heads.{head_seen}
-use Rattle.script_words.specs.Counted.{first_of, one_of, two_of, three_of, four_of}
+use Rattle.value_words.specs.Counted.{first_of, one_of, two_of, three_of, four_of}
 use Rattle.script_reader.specs.declared.said.Said.{Said as LineSaid}
 use Rattle.script_reader.specs.Said.{GivesSaid, said_seen, mode_said, node_said, adapter_said, hb_said, port_said, level_said, domain_said, begin_said, start_said, stop_said, ask_said, tick_said, run_said, deliver_said, drop_said, flow_said, cut_said, heal_said, garbage_said, show_said, client_said, join_said, leave_said, expel_said, state_said, message_said, attrs_said, vote_said, subscribe_said, unsubscribe_said, goodbye_said, last_network}
 

@@ -5,7 +5,7 @@ use Rattle.rsct_packet.specs.Lists.{is_empty}
 use Rattle.world_model.specs.declared.script.LineWhy.TheVariants.{Long}
 use Rattle.world_model.specs.Reading.{Reading, Read, Good, Bad, ScriptRead, IsNone, with_text, texted, read_line, at_end, input_limit, nothing_read, read_from, read_for}
 use Rattle.world_model.specs.declared.script.Aim.{Aim}
-use Rattle.world_model.specs.Words.{split_on}
+use Rattle.value_words.specs.Words.{split_on}
 use Rattle.script_reader.specs.ClientScript.{line_by, lines_from, lines_for}
 use Rattle.script_reader.specs.declared.faults.LineFault.{LineFault}
 use Rattle.script_reader.specs.declared.faults.LineFault.TheVariants as line_fault

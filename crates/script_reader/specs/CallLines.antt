@@ -3,9 +3,9 @@ use Rattle.std.specs.Prelude.{ℕ, true, false, List, [], ◌∷◌, length, Opt
 use Rattle.std.specs.List.{list_any}
 use Rattle.node_state.specs.declared.call.CallLine.{CallLine}
 use Rattle.node_state.specs.declared.call.CallLine.TheVariants as call
-use Rattle.world_model.specs.Words.{chosen}
+use Rattle.value_words.specs.Words.{chosen, words_in}
 use Rattle.world_model.specs.Lines.{Form, forms, Said, SaysClient, SaysCall, said}
-use Rattle.world_model.specs.Reading.{votes_said, is_extra, is_comment, is_bad_byte, words_in}
+use Rattle.world_model.specs.Reading.{votes_said, is_extra, is_comment, is_bad_byte}
 
 -- the call that a line says, if it says one
 abbrev pub call_in : Said → Option CallLine

@@ -10,8 +10,8 @@ use Rattle.world_model.specs.declared.script.Line.{Line}
 use Rattle.world_model.specs.declared.script.Line.TheVariants as line
 use Rattle.world_model.specs.declared.script.LineWhy.{LineWhy}
 use Rattle.world_model.specs.declared.script.LineWhy.TheVariants.{Long, OutOfPlace, IsAPacket}
-use Rattle.world_model.specs.Words.{split_on}
-use Rattle.world_model.specs.Reading.{Reading, Read, Good, Bad, ScriptRead, IsNone, is_comment, words_in, read_line, nothing_read, at_end, input_limit}
+use Rattle.value_words.specs.Words.{split_on, words_in}
+use Rattle.world_model.specs.Reading.{Reading, Read, Good, Bad, ScriptRead, IsNone, is_comment, read_line, nothing_read, at_end, input_limit}
 
 -- how many bytes the line of a call that is handed on has at most
 abbrev pub max_call : ℕ

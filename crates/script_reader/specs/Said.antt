@@ -3,22 +3,25 @@ use Rattle.std.specs.Prelude.{◌≡◌, ℕ, List, [], ◌∷◌, Option, Some,
 use Rattle.rsct_packet.specs.Ids.{last_u32}
 use Rattle.rsct_packet.specs.Lists.{is_empty}
 use Rattle.rsct_packet.specs.Mask.{no_nodes, with_node}
-use Rattle.client_callbacks.specs.Votes.{text_word, vote_word}
+use Rattle.value_words.specs.Escapes.{text_word}
+use Rattle.client_callbacks.specs.Votes.{vote_word}
 use Rattle.node_state.specs.declared.call.CallLine.TheVariants as call
 use Rattle.node_state.specs.Calls.{caller_of}
 use Rattle.world_model.specs.declared.event.Event.TheVariants as event
 use Rattle.world_model.specs.declared.script.Line.TheVariants as line
-use Rattle.world_model.specs.Words.{◌>>=◌, when_true, each_read, number_word, hex_word, client_word, group_word, node_word, network_word, address_word, provider_word, phases_word, mode_word, what_word, attr_words}
+use Rattle.value_words.specs.Words.{◌>>=◌, when_true, each_read, number_word, hex_word, client_word, group_word, node_word, network_word, provider_word}
+use Rattle.world_model.specs.Words.{address_word, mode_word, what_word}
+use Rattle.entry_words.specs.Words.{phases_word, attr_words}
 use Rattle.world_model.specs.Lines.{Votes, Boxed, Scripted, client_votes, Said, SaysMode, SaysNode, SaysAdapter, SaysHb, SaysPort, SaysLevel, SaysDomain, SaysBegin, SaysLine, SaysClient, SaysCall}
-use Rattle.script_words.specs.declared.faults.WordFault.{WordFault}
+use Rattle.value_words.specs.declared.faults.WordFault.{WordFault}
 use Rattle.script_reader.specs.declared.said.Said.{Said as LineSaid}
 use Rattle.script_reader.specs.declared.said.Said.TheVariants as says
 use Rattle.script_reader.specs.declared.said.LineNodes.{LineNodes}
 use Rattle.script_reader.specs.declared.said.LineNodes.TheVariants as nodes
 use Rattle.script_reader.specs.declared.said.ClientVotes.{ClientVotes}
 use Rattle.script_reader.specs.declared.said.ClientVotes.TheVariants as votes
-use Rattle.script_words.specs.Answers.{FailsWord}
-use Rattle.script_words.specs.Counted.{first_of, one_of, two_of, three_of, four_of}
+use Rattle.value_words.specs.Answers.{FailsWord}
+use Rattle.value_words.specs.Counted.{first_of, one_of, two_of, three_of, four_of}
 
 -- ---- the declared types
 

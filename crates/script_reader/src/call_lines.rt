@@ -8,8 +8,9 @@ use crate::said::{Said, read_said};
 use crate::script::{has_bad_byte, is_comment, is_extra};
 use node_state::CallLine;
 use rsct_packet::NoMemory;
-use script_words::{Form, WordFault, Words, form_of};
+use script_words::{Form, form_of};
 use std::alloc::Global;
+use value_words::{WordFault, Words};
 
 /// The call that a line says, if it says one.
 fn call_in(alloc: Global, said: Said) -> Result<Option<CallLine>, NoMemory>

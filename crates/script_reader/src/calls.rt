@@ -1,21 +1,22 @@
 //! Lines of clients and of their calls.
 ghost use Rattle.std.specs.Prelude.{◌≡◌};
 ghost use Rattle.node_state.specs.Calls.{caller_of};
-ghost use Rattle.world_model.specs.Words.{each_read, provider_word};
+ghost use Rattle.value_words.specs.Words.{each_read, provider_word};
 ghost use Rattle.world_model.specs.Lines.{client_votes};
-ghost use Rattle.client_callbacks.specs.Votes.{text_word, vote_word};
-ghost use Rattle.script_words.specs.Answers.{GivesWord};
+ghost use Rattle.value_words.specs.Escapes.{text_word};
+ghost use Rattle.client_callbacks.specs.Votes.{vote_word};
+ghost use Rattle.value_words.specs.Answers.{GivesWord};
 ghost use Rattle.script_reader.specs.Said.{GivesSaid, GivesVotes, client_said, join_said, leave_said, expel_said, state_said, message_said, attrs_said, vote_said, subscribe_said, unsubscribe_said, goodbye_said};
 
 use crate::said::{BOXED, ClientVotes, Said};
-use client_callbacks::{VoteItem, text_word, vote_word, votes_word};
+use client_callbacks::{VoteItem, vote_word, votes_word};
+use entry_words::{attr_words, phases_word};
 use node_state::CallLine;
 use rsct_packet::{List, ProviderId};
-use script_words::{
-    WordFault, Words, attr_words, client_word, group_word, node_word, phases_word, provider_word,
-    short_word,
-};
 use std::alloc::Global;
+use value_words::{
+    WordFault, Words, client_word, group_word, node_word, provider_word, short_word, text_word,
+};
 
 /// The name of the client that calls.
 #[tactic(auto, unfolding(node_state::specs::Calls::caller_of))]
@@ -58,7 +59,7 @@ fn vote_of(alloc: Global, word: &[u8]) -> Result<VoteItem, WordFault>
 }
 
 /// How a client votes, by its word.
-#[tactic(auto, unfolding(world_model::specs::Lines::client_votes, world_model::specs::Lines::scripted, script_words::specs::Answers::bind_opens))]
+#[tactic(auto, unfolding(world_model::specs::Lines::client_votes, world_model::specs::Lines::scripted, value_words::specs::Answers::bind_opens))]
 fn client_votes(alloc: Global, word: &[u8]) -> Result<ClientVotes, WordFault>
     ensures { GivesVotes result (client_votes word.now) }
 {
@@ -87,7 +88,7 @@ fn provider_words(alloc: Global, words: &mut Words<'_>) -> Result<List<ProviderI
 }
 
 /// `client NODE NAME VOTES`.
-#[tactic(auto, unfolding(crate::specs::Said::client_said, script_words::specs::Answers::bind_opens))]
+#[tactic(auto, unfolding(crate::specs::Said::client_said, value_words::specs::Answers::bind_opens))]
 pub fn says_client(alloc: Global, words: &mut Words<'_>) -> Result<Said, WordFault>
     ensures { GivesSaid result (client_said words.old) }
 {
@@ -99,7 +100,7 @@ pub fn says_client(alloc: Global, words: &mut Words<'_>) -> Result<Said, WordFau
 }
 
 /// `join CLIENT GROUP INSTANCE ATTRIBUTE..`.
-#[tactic(auto, unfolding(crate::specs::Said::join_said, node_state::specs::Calls::caller_of, script_words::specs::Answers::bind_opens))]
+#[tactic(auto, unfolding(crate::specs::Said::join_said, node_state::specs::Calls::caller_of, value_words::specs::Answers::bind_opens))]
 pub fn says_join(alloc: Global, words: &mut Words<'_>) -> Result<Said, WordFault>
     ensures { GivesSaid result (join_said words.old) }
 {
@@ -119,7 +120,7 @@ pub fn says_join(alloc: Global, words: &mut Words<'_>) -> Result<Said, WordFault
 }
 
 /// `leave CLIENT GROUP PHASES`.
-#[tactic(auto, unfolding(crate::specs::Said::leave_said, node_state::specs::Calls::caller_of, script_words::specs::Answers::bind_opens))]
+#[tactic(auto, unfolding(crate::specs::Said::leave_said, node_state::specs::Calls::caller_of, value_words::specs::Answers::bind_opens))]
 pub fn says_leave(alloc: Global, words: &mut Words<'_>) -> Result<Said, WordFault>
     ensures { GivesSaid result (leave_said words.old) }
 {
@@ -135,7 +136,7 @@ pub fn says_leave(alloc: Global, words: &mut Words<'_>) -> Result<Said, WordFaul
 }
 
 /// `expel CLIENT GROUP PHASES PROVIDER..`.
-#[tactic(auto, unfolding(crate::specs::Said::expel_said, node_state::specs::Calls::caller_of, script_words::specs::Answers::bind_opens))]
+#[tactic(auto, unfolding(crate::specs::Said::expel_said, node_state::specs::Calls::caller_of, value_words::specs::Answers::bind_opens))]
 pub fn says_expel(alloc: Global, words: &mut Words<'_>) -> Result<Said, WordFault>
     ensures { GivesSaid result (expel_said words.old) }
 {
@@ -155,7 +156,7 @@ pub fn says_expel(alloc: Global, words: &mut Words<'_>) -> Result<Said, WordFaul
 }
 
 /// `state CLIENT GROUP PHASES TEXT`.
-#[tactic(auto, unfolding(crate::specs::Said::state_said, node_state::specs::Calls::caller_of, script_words::specs::Answers::bind_opens))]
+#[tactic(auto, unfolding(crate::specs::Said::state_said, node_state::specs::Calls::caller_of, value_words::specs::Answers::bind_opens))]
 pub fn says_state(alloc: Global, words: &mut Words<'_>) -> Result<Said, WordFault>
     ensures { GivesSaid result (state_said words.old) }
 {
@@ -173,7 +174,7 @@ pub fn says_state(alloc: Global, words: &mut Words<'_>) -> Result<Said, WordFaul
 }
 
 /// `message CLIENT GROUP PHASES TEXT`.
-#[tactic(auto, unfolding(crate::specs::Said::message_said, node_state::specs::Calls::caller_of, script_words::specs::Answers::bind_opens))]
+#[tactic(auto, unfolding(crate::specs::Said::message_said, node_state::specs::Calls::caller_of, value_words::specs::Answers::bind_opens))]
 pub fn says_message(alloc: Global, words: &mut Words<'_>) -> Result<Said, WordFault>
     ensures { GivesSaid result (message_said words.old) }
 {
@@ -191,7 +192,7 @@ pub fn says_message(alloc: Global, words: &mut Words<'_>) -> Result<Said, WordFa
 }
 
 /// `attrs CLIENT GROUP PHASES ATTRIBUTE..`.
-#[tactic(auto, unfolding(crate::specs::Said::attrs_said, node_state::specs::Calls::caller_of, script_words::specs::Answers::bind_opens))]
+#[tactic(auto, unfolding(crate::specs::Said::attrs_said, node_state::specs::Calls::caller_of, value_words::specs::Answers::bind_opens))]
 pub fn says_attrs(alloc: Global, words: &mut Words<'_>) -> Result<Said, WordFault>
     ensures { GivesSaid result (attrs_said words.old) }
 {
@@ -211,7 +212,7 @@ pub fn says_attrs(alloc: Global, words: &mut Words<'_>) -> Result<Said, WordFaul
 }
 
 /// `vote CLIENT GROUP VOTE`.
-#[tactic(auto, unfolding(crate::specs::Said::vote_said, node_state::specs::Calls::caller_of, script_words::specs::Answers::bind_opens))]
+#[tactic(auto, unfolding(crate::specs::Said::vote_said, node_state::specs::Calls::caller_of, value_words::specs::Answers::bind_opens))]
 pub fn says_vote(alloc: Global, words: &mut Words<'_>) -> Result<Said, WordFault>
     ensures { GivesSaid result (vote_said words.old) }
 {
@@ -228,7 +229,7 @@ pub fn says_vote(alloc: Global, words: &mut Words<'_>) -> Result<Said, WordFault
 }
 
 /// `subscribe CLIENT GROUP`.
-#[tactic(auto, unfolding(crate::specs::Said::subscribe_said, node_state::specs::Calls::caller_of, script_words::specs::Answers::bind_opens))]
+#[tactic(auto, unfolding(crate::specs::Said::subscribe_said, node_state::specs::Calls::caller_of, value_words::specs::Answers::bind_opens))]
 pub fn says_subscribe(alloc: Global, words: &mut Words<'_>) -> Result<Said, WordFault>
     ensures { GivesSaid result (subscribe_said words.old) }
 {
@@ -239,7 +240,7 @@ pub fn says_subscribe(alloc: Global, words: &mut Words<'_>) -> Result<Said, Word
 }
 
 /// `unsubscribe CLIENT GROUP`.
-#[tactic(auto, unfolding(crate::specs::Said::unsubscribe_said, node_state::specs::Calls::caller_of, script_words::specs::Answers::bind_opens))]
+#[tactic(auto, unfolding(crate::specs::Said::unsubscribe_said, node_state::specs::Calls::caller_of, value_words::specs::Answers::bind_opens))]
 pub fn says_unsubscribe(alloc: Global, words: &mut Words<'_>) -> Result<Said, WordFault>
     ensures { GivesSaid result (unsubscribe_said words.old) }
 {
@@ -250,7 +251,7 @@ pub fn says_unsubscribe(alloc: Global, words: &mut Words<'_>) -> Result<Said, Wo
 }
 
 /// `goodbye CLIENT`.
-#[tactic(auto, unfolding(crate::specs::Said::goodbye_said, node_state::specs::Calls::caller_of, script_words::specs::Answers::bind_opens))]
+#[tactic(auto, unfolding(crate::specs::Said::goodbye_said, node_state::specs::Calls::caller_of, value_words::specs::Answers::bind_opens))]
 pub fn says_goodbye(alloc: Global, words: &mut Words<'_>) -> Result<Said, WordFault>
     ensures { GivesSaid result (goodbye_said words.old) }
 {

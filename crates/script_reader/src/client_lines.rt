@@ -8,8 +8,8 @@ use crate::faults::LineFault;
 use crate::progress::ReadSoFar;
 use crate::script::{is_comment, read_line};
 use node_state::CallLine;
-use script_words::Words;
 use std::alloc::Global;
+use value_words::Words;
 use world_model::{Event, Line, LineWhy};
 
 /// How many bytes the line of a call that is handed on has at most.

@@ -3,16 +3,15 @@ ghost use Rattle.std.specs.Prelude.{◌≡◌, Some, None};
 ghost use Rattle.std.specs.List.{fold};
 ghost use Rattle.std.specs.Option.{option_map};
 ghost use Rattle.rsct_packet.specs.Mask.{no_nodes, with_node};
-ghost use Rattle.world_model.specs.Words.{each_read, node_word};
-ghost use Rattle.script_words.specs.Answers.{GivesWord};
+ghost use Rattle.value_words.specs.Words.{each_read, node_word};
+ghost use Rattle.value_words.specs.Answers.{GivesWord};
 ghost use Rattle.script_reader.specs.Said.{GivesSaid, said_seen, last_network, start_said, stop_said, tick_said, ask_said, run_said, deliver_said, drop_said, flow_said, cut_said, heal_said, garbage_said, show_said};
 
 use crate::said::{LineNodes, Said};
 use rsct_packet::{List, Mask};
-use script_words::{
-    WordFault, Words, hex_word, network_word, node_word, number_word, short_word, what_word,
-};
+use script_words::what_word;
 use std::alloc::Global;
+use value_words::{WordFault, Words, hex_word, network_word, node_word, number_word, short_word};
 use world_model::{Event, Line};
 
 /// The nodes of these words.
@@ -43,7 +42,7 @@ fn mask_of(nodes: &[u8]) -> Mask
 }
 
 /// The network that the last word names, if there is one more.
-#[tactic(auto, unfolding(crate::specs::Said::last_network, world_model::specs::Words::when_true, script_words::specs::Answers::bind_opens))]
+#[tactic(auto, unfolding(crate::specs::Said::last_network, value_words::specs::Words::when_true, value_words::specs::Answers::bind_opens))]
 fn last_network(words: &mut Words<'_>) -> Option<Option<u8>>
     ensures { result ≡ last_network words.old }
 {
@@ -57,7 +56,7 @@ fn last_network(words: &mut Words<'_>) -> Option<Option<u8>>
 }
 
 /// `start NODE`.
-#[tactic(auto, unfolding(crate::specs::Said::start_said, script_words::specs::Answers::bind_opens))]
+#[tactic(auto, unfolding(crate::specs::Said::start_said, value_words::specs::Answers::bind_opens))]
 pub fn says_start(words: &mut Words<'_>) -> Option<Said>
     ensures { option_map said_seen result ≡ start_said words.old }
 {
@@ -66,7 +65,7 @@ pub fn says_start(words: &mut Words<'_>) -> Option<Said>
 }
 
 /// `stop NODE`.
-#[tactic(auto, unfolding(crate::specs::Said::stop_said, script_words::specs::Answers::bind_opens))]
+#[tactic(auto, unfolding(crate::specs::Said::stop_said, value_words::specs::Answers::bind_opens))]
 pub fn says_stop(words: &mut Words<'_>) -> Option<Said>
     ensures { option_map said_seen result ≡ stop_said words.old }
 {
@@ -75,7 +74,7 @@ pub fn says_stop(words: &mut Words<'_>) -> Option<Said>
 }
 
 /// `tick NODE`.
-#[tactic(auto, unfolding(crate::specs::Said::tick_said, script_words::specs::Answers::bind_opens))]
+#[tactic(auto, unfolding(crate::specs::Said::tick_said, value_words::specs::Answers::bind_opens))]
 pub fn says_tick(words: &mut Words<'_>) -> Option<Said>
     ensures { option_map said_seen result ≡ tick_said words.old }
 {
@@ -84,7 +83,7 @@ pub fn says_tick(words: &mut Words<'_>) -> Option<Said>
 }
 
 /// `ask NODE NODE..`: the node, and those of the view that it asks for.
-#[tactic(auto, unfolding(crate::specs::Said::ask_said, script_words::specs::Answers::bind_opens))]
+#[tactic(auto, unfolding(crate::specs::Said::ask_said, value_words::specs::Answers::bind_opens))]
 pub fn says_ask(alloc: Global, words: &mut Words<'_>) -> Result<Said, WordFault>
     ensures { GivesSaid result (ask_said words.old) }
 {
@@ -99,7 +98,7 @@ pub fn says_ask(alloc: Global, words: &mut Words<'_>) -> Result<Said, WordFault>
 }
 
 /// `run TICKS`.
-#[tactic(auto, unfolding(crate::specs::Said::run_said, script_words::specs::Answers::bind_opens))]
+#[tactic(auto, unfolding(crate::specs::Said::run_said, value_words::specs::Answers::bind_opens))]
 pub fn says_run(words: &mut Words<'_>) -> Option<Said>
     ensures { option_map said_seen result ≡ run_said words.old }
 {
@@ -108,7 +107,7 @@ pub fn says_run(words: &mut Words<'_>) -> Option<Said>
 }
 
 /// `deliver FROM TO PLACE`.
-#[tactic(auto, unfolding(crate::specs::Said::deliver_said, script_words::specs::Answers::bind_opens))]
+#[tactic(auto, unfolding(crate::specs::Said::deliver_said, value_words::specs::Answers::bind_opens))]
 pub fn says_deliver(words: &mut Words<'_>) -> Option<Said>
     ensures { option_map said_seen result ≡ deliver_said words.old }
 {
@@ -123,7 +122,7 @@ pub fn says_deliver(words: &mut Words<'_>) -> Option<Said>
 }
 
 /// `drop FROM TO`.
-#[tactic(auto, unfolding(crate::specs::Said::drop_said, script_words::specs::Answers::bind_opens))]
+#[tactic(auto, unfolding(crate::specs::Said::drop_said, value_words::specs::Answers::bind_opens))]
 pub fn says_drop(words: &mut Words<'_>) -> Option<Said>
     ensures { option_map said_seen result ≡ drop_said words.old }
 {
@@ -134,7 +133,7 @@ pub fn says_drop(words: &mut Words<'_>) -> Option<Said>
 }
 
 /// `flow`.
-#[tactic(auto, unfolding(crate::specs::Said::flow_said, script_words::specs::Answers::bind_opens, world_model::specs::Words::when_true))]
+#[tactic(auto, unfolding(crate::specs::Said::flow_said, value_words::specs::Answers::bind_opens, value_words::specs::Words::when_true))]
 pub fn says_flow(words: &mut Words<'_>) -> Option<Said>
     ensures { option_map said_seen result ≡ flow_said words.old }
 {
@@ -146,7 +145,7 @@ pub fn says_flow(words: &mut Words<'_>) -> Option<Said>
 }
 
 /// `cut NODE NODE` on all networks, or with one named at the end.
-#[tactic(auto, unfolding(crate::specs::Said::cut_said, script_words::specs::Answers::bind_opens))]
+#[tactic(auto, unfolding(crate::specs::Said::cut_said, value_words::specs::Answers::bind_opens))]
 pub fn says_cut(words: &mut Words<'_>) -> Option<Said>
     ensures { option_map said_seen result ≡ cut_said words.old }
 {
@@ -159,7 +158,7 @@ pub fn says_cut(words: &mut Words<'_>) -> Option<Said>
 }
 
 /// `heal NODE NODE` on all networks, or with one named at the end.
-#[tactic(auto, unfolding(crate::specs::Said::heal_said, script_words::specs::Answers::bind_opens))]
+#[tactic(auto, unfolding(crate::specs::Said::heal_said, value_words::specs::Answers::bind_opens))]
 pub fn says_heal(words: &mut Words<'_>) -> Option<Said>
     ensures { option_map said_seen result ≡ heal_said words.old }
 {
@@ -172,7 +171,7 @@ pub fn says_heal(words: &mut Words<'_>) -> Option<Said>
 }
 
 /// `garbage NODE HEX`.
-#[tactic(auto, unfolding(crate::specs::Said::garbage_said, script_words::specs::Answers::bind_opens))]
+#[tactic(auto, unfolding(crate::specs::Said::garbage_said, value_words::specs::Answers::bind_opens))]
 pub fn says_garbage(alloc: Global, words: &mut Words<'_>) -> Result<Said, WordFault>
     ensures { GivesSaid result (garbage_said words.old) }
 {
@@ -186,7 +185,7 @@ pub fn says_garbage(alloc: Global, words: &mut Words<'_>) -> Result<Said, WordFa
 }
 
 /// `show NODE WHAT`.
-#[tactic(auto, unfolding(crate::specs::Said::show_said, script_words::specs::Answers::bind_opens))]
+#[tactic(auto, unfolding(crate::specs::Said::show_said, value_words::specs::Answers::bind_opens))]
 pub fn says_show(words: &mut Words<'_>) -> Option<Said>
     ensures { option_map said_seen result ≡ show_said words.old }
 {

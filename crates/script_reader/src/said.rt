@@ -8,8 +8,9 @@ ghost use Rattle.script_reader.specs.Said.{GivesSaid, votes_seen};
 use crate::{calls, events, settings};
 use node_state::{CallLine, Mode};
 use rsct_packet::{List, NoMemory};
-use script_words::{Head, WordFault, Words};
+use script_words::Head;
 use std::alloc::Global;
+use value_words::{WordFault, Words};
 use world_model::Line;
 
 /// The word of a client whose votes an object gives.

@@ -1,7 +1,8 @@
 //! A script from its bytes, line by line.
 ghost use Rattle.std.specs.Prelude.{◌≡◌, ◌≤◌, ◌∷◌, [], None, Some, IfOk, false};
 ghost use Rattle.std.specs.List.{list_any};
-ghost use Rattle.world_model.specs.Reading.{is_bad_byte, is_comment, is_extra, skipped_line, taken_unless, said_line, counted_line, formed_line, worded_line, words_in, texted, read_line, read_from, input_limit, read_for, script_of};
+ghost use Rattle.world_model.specs.Reading.{is_bad_byte, is_comment, is_extra, skipped_line, taken_unless, said_line, counted_line, formed_line, worded_line, texted, read_line, read_from, input_limit, read_for, script_of};
+ghost use Rattle.value_words.specs.Words.{words_in};
 ghost use Rattle.world_model.specs.Settings.{aim_of, daemon_script, KeepsFor, HasTexts};
 ghost use Rattle.script_reader.specs.CallTexts.{HandsTexts};
 ghost use Rattle.script_reader.specs.ClientScript.{line_by, lines_from, lines_for, client_script};
@@ -14,8 +15,9 @@ use crate::faults::{LineFault, ScriptFault};
 use crate::progress::ReadSoFar;
 use crate::reasons::reason;
 use crate::said::{Said, read_said};
-use script_words::{Form, WordFault, Words, cut_at, form_of};
+use script_words::{Form, form_of};
 use std::alloc::Global;
+use value_words::{WordFault, Words, cut_at};
 use world_model::{Aim, LineWhy, Script};
 
 /// How many bytes an input has at most.

@@ -4,12 +4,11 @@ ghost use Rattle.std.specs.Option.{option_map};
 ghost use Rattle.script_reader.specs.Said.{said_seen, mode_said, node_said, adapter_said, hb_said, port_said, level_said, domain_said, begin_said};
 
 use crate::said::Said;
-use script_words::{
-    Words, address_word, mode_word, network_word, node_word, number_word, short_word,
-};
+use script_words::{address_word, mode_word};
+use value_words::{Words, network_word, node_word, number_word, short_word};
 
 /// `mode MODE`.
-#[tactic(auto, unfolding(crate::specs::Said::mode_said, script_words::specs::Answers::bind_opens))]
+#[tactic(auto, unfolding(crate::specs::Said::mode_said, value_words::specs::Answers::bind_opens))]
 pub fn says_mode(words: &mut Words<'_>) -> Option<Said>
     ensures { option_map said_seen result ≡ mode_said words.old }
 {
@@ -18,7 +17,7 @@ pub fn says_mode(words: &mut Words<'_>) -> Option<Said>
 }
 
 /// `node NODE`.
-#[tactic(auto, unfolding(crate::specs::Said::node_said, script_words::specs::Answers::bind_opens))]
+#[tactic(auto, unfolding(crate::specs::Said::node_said, value_words::specs::Answers::bind_opens))]
 pub fn says_node(words: &mut Words<'_>) -> Option<Said>
     ensures { option_map said_seen result ≡ node_said words.old }
 {
@@ -27,7 +26,7 @@ pub fn says_node(words: &mut Words<'_>) -> Option<Said>
 }
 
 /// `adapter NODE NETWORK ADDRESS`.
-#[tactic(auto, unfolding(crate::specs::Said::adapter_said, script_words::specs::Answers::bind_opens))]
+#[tactic(auto, unfolding(crate::specs::Said::adapter_said, value_words::specs::Answers::bind_opens))]
 pub fn says_adapter(words: &mut Words<'_>) -> Option<Said>
     ensures { option_map said_seen result ≡ adapter_said words.old }
 {
@@ -39,7 +38,7 @@ pub fn says_adapter(words: &mut Words<'_>) -> Option<Said>
 }
 
 /// `hb EVERY MISSES`.
-#[tactic(auto, unfolding(crate::specs::Said::hb_said, script_words::specs::Answers::bind_opens))]
+#[tactic(auto, unfolding(crate::specs::Said::hb_said, value_words::specs::Answers::bind_opens))]
 pub fn says_hb(words: &mut Words<'_>) -> Option<Said>
     ensures { option_map said_seen result ≡ hb_said words.old }
 {
@@ -50,7 +49,7 @@ pub fn says_hb(words: &mut Words<'_>) -> Option<Said>
 }
 
 /// `port PORT`.
-#[tactic(auto, unfolding(crate::specs::Said::port_said, script_words::specs::Answers::bind_opens))]
+#[tactic(auto, unfolding(crate::specs::Said::port_said, value_words::specs::Answers::bind_opens))]
 pub fn says_port(words: &mut Words<'_>) -> Option<Said>
     ensures { option_map said_seen result ≡ port_said words.old }
 {
@@ -59,7 +58,7 @@ pub fn says_port(words: &mut Words<'_>) -> Option<Said>
 }
 
 /// `level NODE INCARNATION`.
-#[tactic(auto, unfolding(crate::specs::Said::level_said, script_words::specs::Answers::bind_opens))]
+#[tactic(auto, unfolding(crate::specs::Said::level_said, value_words::specs::Answers::bind_opens))]
 pub fn says_level(words: &mut Words<'_>) -> Option<Said>
     ensures { option_map said_seen result ≡ level_said words.old }
 {
@@ -70,7 +69,7 @@ pub fn says_level(words: &mut Words<'_>) -> Option<Said>
 }
 
 /// `domain DOMAIN`.
-#[tactic(auto, unfolding(crate::specs::Said::domain_said, script_words::specs::Answers::bind_opens))]
+#[tactic(auto, unfolding(crate::specs::Said::domain_said, value_words::specs::Answers::bind_opens))]
 pub fn says_domain(words: &mut Words<'_>) -> Option<Said>
     ensures { option_map said_seen result ≡ domain_said words.old }
 {
@@ -79,7 +78,7 @@ pub fn says_domain(words: &mut Words<'_>) -> Option<Said>
 }
 
 /// `begin`.
-#[tactic(auto, unfolding(crate::specs::Said::begin_said, script_words::specs::Answers::bind_opens, world_model::specs::Words::when_true))]
+#[tactic(auto, unfolding(crate::specs::Said::begin_said, value_words::specs::Answers::bind_opens, value_words::specs::Words::when_true))]
 pub fn says_begin(words: &mut Words<'_>) -> Option<Said>
     ensures { option_map said_seen result ≡ begin_said words.old }
 {

@@ -1,7 +1,7 @@
 -- The table of first words, in four.
 use Rattle.std.proofs.Common.{◌≡◌, ℕ, ◌++◌, Bool, true, false, List, [], ◌∷◌, Option, Some, None, refl, sym, ◌∙◌, ap}
 use Rattle.std.specs.Str.{bytes_eq}
-use Rattle.world_model.specs.Words.{Choice, chosen}
+use Rattle.value_words.specs.Words.{Choice, chosen}
 use Rattle.world_model.specs.Lines.{Form, forms}
 use Rattle.script_words.specs.Heads.{frequent_forms, node_forms, group_forms, setting_forms}
 

@@ -1,6 +1,6 @@
 -- The first words of lines, in four tables.
 use Rattle.std.specs.Prelude.{List, [], ◌∷◌, Option, Some, None, codes}
-use Rattle.world_model.specs.Words.{Choice}
+use Rattle.value_words.specs.Words.{Choice}
 use Rattle.world_model.specs.Lines.{Head, HMode, HNode, HAdapter, HHb, HPort, HLevel, HDomain, HBegin, HStart, HStop, HAsk, HTick, HRun, HDeliver, HDrop, HFlow, HCut, HHeal, HGarbage, HShow, HClient, HJoin, HLeave, HExpel, HState, HMessage, HAttrs, HVote, HSubscribe, HUnsubscribe, HGoodbye, Form, form, form_from, form_to}
 use Rattle.script_words.specs.declared.heads.Head.{Head as LineHead}
 use Rattle.script_words.specs.declared.heads.Head.TheVariants as head

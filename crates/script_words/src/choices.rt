@@ -1,27 +1,12 @@
 //! Words of which there are few.
 ghost use Rattle.std.specs.Prelude.{◌≡◌};
-ghost use Rattle.world_model.specs.Words.{phases_word, mode_word, what_word, batch_word, default_word};
+ghost use Rattle.world_model.specs.Words.{mode_word, what_word};
 
-use crate::words::is_word;
-use group_attr::{Batch, DefaultVote, Phases};
 use node_state::{Mode, What};
-
-/// `1` or `n`.
-#[tactic(auto, unfolding(world_model::specs::Words::phases_word, world_model::specs::Words::chosen))]
-pub fn phases_word(word: &[u8]) -> Option<Phases>
-    ensures { result ≡ phases_word word.now }
-{
-    if is_word(b"1", word) {
-        return Some(Phases::One);
-    }
-    if is_word(b"n", word) {
-        return Some(Phases::Many);
-    }
-    None
-}
+use value_words::is_word;
 
 /// `fixed`, `asked` or `rings`.
-#[tactic(auto, unfolding(world_model::specs::Words::mode_word, world_model::specs::Words::chosen))]
+#[tactic(auto, unfolding(world_model::specs::Words::mode_word, value_words::specs::Words::chosen))]
 pub fn mode_word(word: &[u8]) -> Option<Mode>
     ensures { result ≡ mode_word word.now }
 {
@@ -38,7 +23,7 @@ pub fn mode_word(word: &[u8]) -> Option<Mode>
 }
 
 /// `hats`, `hagsns`, `hagsgr` or `hagsvote`.
-#[tactic(auto, unfolding(world_model::specs::Words::what_word, world_model::specs::Words::chosen))]
+#[tactic(auto, unfolding(world_model::specs::Words::what_word, value_words::specs::Words::chosen))]
 pub fn what_word(word: &[u8]) -> Option<What>
     ensures { result ≡ what_word word.now }
 {
@@ -53,40 +38,6 @@ pub fn what_word(word: &[u8]) -> Option<What>
     }
     if is_word(b"hagsvote", word) {
         return Some(What::Hagsvote);
-    }
-    None
-}
-
-/// `none`, `joins`, `failures` or `both`.
-#[tactic(auto, unfolding(world_model::specs::Words::batch_word, world_model::specs::Words::chosen))]
-pub fn batch_word(word: &[u8]) -> Option<Batch>
-    ensures { result ≡ batch_word word.now }
-{
-    if is_word(b"none", word) {
-        return Some(Batch::Neither);
-    }
-    if is_word(b"joins", word) {
-        return Some(Batch::Joins);
-    }
-    if is_word(b"failures", word) {
-        return Some(Batch::Failures);
-    }
-    if is_word(b"both", word) {
-        return Some(Batch::Both);
-    }
-    None
-}
-
-/// `approve` or `reject`.
-#[tactic(auto, unfolding(world_model::specs::Words::default_word, world_model::specs::Words::chosen))]
-pub fn default_word(word: &[u8]) -> Option<DefaultVote>
-    ensures { result ≡ default_word word.now }
-{
-    if is_word(b"approve", word) {
-        return Some(DefaultVote::Approve);
-    }
-    if is_word(b"reject", word) {
-        return Some(DefaultVote::Reject);
     }
     None
 }

@@ -1,7 +1,7 @@
 //! The first words of lines.
 ghost use Rattle.std.specs.Prelude.{◌≡◌, Some, None};
 ghost use Rattle.std.specs.Option.{option_map};
-ghost use Rattle.world_model.specs.Words.{chosen};
+ghost use Rattle.value_words.specs.Words.{chosen};
 ghost use Rattle.world_model.specs.Lines.{forms};
 ghost use Rattle.script_words.specs.Heads.{head_seen, form_seen, frequent_forms, node_forms, group_forms, setting_forms};
 
@@ -82,7 +82,7 @@ fn between(head: Head, least: usize, most: usize) -> Form
 }
 
 /// The words of the most frequent lines.
-#[tactic(auto, unfolding(world_model::specs::Words::chosen, world_model::specs::Lines::form, world_model::specs::Lines::form_from, world_model::specs::Lines::form_to))]
+#[tactic(auto, unfolding(value_words::specs::Words::chosen, world_model::specs::Lines::form, world_model::specs::Lines::form_from, world_model::specs::Lines::form_to))]
 fn frequent_form(word: &[u8]) -> Option<Form>
     ensures { option_map form_seen result ≡ chosen frequent_forms word.now }
 {
@@ -114,7 +114,7 @@ fn frequent_form(word: &[u8]) -> Option<Form>
 }
 
 /// The words of events of nodes and networks.
-#[tactic(auto, unfolding(world_model::specs::Words::chosen, world_model::specs::Lines::form, world_model::specs::Lines::form_from, world_model::specs::Lines::form_to))]
+#[tactic(auto, unfolding(value_words::specs::Words::chosen, world_model::specs::Lines::form, world_model::specs::Lines::form_from, world_model::specs::Lines::form_to))]
 fn node_form(word: &[u8]) -> Option<Form>
     ensures { option_map form_seen result ≡ chosen node_forms word.now }
 {
@@ -146,7 +146,7 @@ fn node_form(word: &[u8]) -> Option<Form>
 }
 
 /// The words of other calls, and `mode`.
-#[tactic(auto, unfolding(world_model::specs::Words::chosen, world_model::specs::Lines::form, world_model::specs::Lines::form_from, world_model::specs::Lines::form_to))]
+#[tactic(auto, unfolding(value_words::specs::Words::chosen, world_model::specs::Lines::form, world_model::specs::Lines::form_from, world_model::specs::Lines::form_to))]
 fn group_form(word: &[u8]) -> Option<Form>
     ensures { option_map form_seen result ≡ chosen group_forms word.now }
 {
@@ -178,7 +178,7 @@ fn group_form(word: &[u8]) -> Option<Form>
 }
 
 /// The words of the other settings, and `begin`.
-#[tactic(auto, unfolding(world_model::specs::Words::chosen, world_model::specs::Lines::form, world_model::specs::Lines::form_from, world_model::specs::Lines::form_to))]
+#[tactic(auto, unfolding(value_words::specs::Words::chosen, world_model::specs::Lines::form, world_model::specs::Lines::form_from, world_model::specs::Lines::form_to))]
 fn setting_form(word: &[u8]) -> Option<Form>
     ensures { option_map form_seen result ≡ chosen setting_forms word.now }
 {

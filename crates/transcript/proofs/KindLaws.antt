@@ -7,9 +7,9 @@ use Rattle.rsct_packet.specs.Lists.{is_empty}
 use Rattle.node_state.specs.declared.happened.Happened.{Happened}
 use Rattle.node_state.specs.declared.happened.Happened.TheVariants as happened
 use Rattle.world_model.specs.Text.{line_of}
-use Rattle.world_model.specs.Words.{◌>>=◌, chosen, split_on}
+use Rattle.value_words.specs.Words.{◌>>=◌, chosen, split_on}
 use Rattle.world_model.specs.Play.{kind_of, is_shown, lines_text, kinds_in}
-use Rattle.script_words.proofs.SplitLaws.{some_piece}
+use Rattle.value_words.proofs.SplitLaws.{some_piece}
 use Rattle.transcript.specs.declared.kinds.Kinds.{Kinds}
 use Rattle.transcript.specs.declared.kinds.Kind.{Kind}
 use Rattle.transcript.specs.declared.kinds.Kind.TheVariants as kind

@@ -3,7 +3,7 @@ use Rattle.std.specs.Prelude.{ℕ, Bool, true, false, List, [], ◌∷◌, map, 
 use Rattle.node_state.specs.declared.happened.Happened.{Happened}
 use Rattle.node_state.specs.declared.happened.Happened.TheVariants as happened
 use Rattle.world_model.specs.Text.{line_of}
-use Rattle.world_model.specs.Words.{◌>>=◌, Choice, chosen, split_on}
+use Rattle.value_words.specs.Words.{◌>>=◌, Choice, chosen, split_on}
 use Rattle.transcript.specs.declared.kinds.Kinds.{Kinds}
 use Rattle.transcript.specs.declared.kinds.Kind.{Kind}
 use Rattle.transcript.specs.declared.kinds.Kind.TheVariants as kind

@@ -2,9 +2,9 @@
 ghost use Rattle.std.specs.Prelude.{◌≡◌, ◌++◌, OnOk, IfOk, codes, decimal};
 ghost use Rattle.world_model.specs.Play.{why_text};
 
-use node_text::{put_number, put_text};
 use rsct_packet::NoMemory;
 use std::alloc::Global;
+use value_words::{put_number, put_text};
 use world_model::LineWhy;
 
 /// Why the line is in no script.

@@ -3,7 +3,7 @@ ghost use Rattle.std.specs.Prelude.{◌≡◌};
 ghost use Rattle.transcript.specs.Kinds.{shows, all_kinds, no_kinds, kind_word, has_kind, with_kind, with_new, kind_step, kinds_of};
 
 use node_state::Happened;
-use script_words::{cut_at, is_word};
+use value_words::{cut_at, is_word};
 
 /// A kind of records.
 #[derive(Clone, Copy)]
@@ -43,7 +43,7 @@ pub struct Kinds {
     pub shown: bool,
 }
 
-#[tactic(auto, unfolding(crate::specs::Kinds::kind_word, world_model::specs::Words::chosen))]
+#[tactic(auto, unfolding(crate::specs::Kinds::kind_word, value_words::specs::Words::chosen))]
 fn kind_word(word: &[u8]) -> Option<Kind>
     ensures { result ≡ kind_word word.now }
 {
@@ -209,7 +209,7 @@ impl Kinds {
     }
 
     /// The kind of this word more, which is not among them yet.
-    #[tactic(auto, unfolding(crate::specs::Kinds::kind_step, script_words::specs::Answers::bind_opens))]
+    #[tactic(auto, unfolding(crate::specs::Kinds::kind_step, value_words::specs::Answers::bind_opens))]
     fn with_word(self, word: &[u8]) -> Option<Kinds>
         ensures { result ≡ kind_step self word.now }
     {

@@ -2,14 +2,10 @@
 //! bad line of a script.
 #![tactic(auto)]
 
-mod attrs;
 mod bad_lines;
-mod entries;
-mod faults;
 mod kinds;
 mod laws;
 mod notes;
-mod proposals;
 mod records;
 
 pub use bad_lines::{fault_line, put_fault_line, why_text};

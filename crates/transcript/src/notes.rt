@@ -1,11 +1,13 @@
 //! What a subscribed client is handed.
 ghost use Rattle.std.specs.Prelude.{◌≡◌, ◌++◌, OnOk};
-ghost use Rattle.node_state.specs.Wording.{word};
+ghost use Rattle.value_words.specs.Wording.{word};
 ghost use Rattle.world_model.specs.Text.{place_option_text, state_text, note_text};
 
 use client_callbacks::Told;
-use node_text::{put_members, put_number_word, put_providers_word, put_text, put_value, put_word};
 use rsct_packet::{NoMemory, ProviderId};
+use value_words::{
+    put_members, put_number_word, put_providers_word, put_text, put_value, put_word,
+};
 
 /// Members and value.
 #[tactic(auto, unfolding(world_model::specs::Text::state_text))]
@@ -17,7 +19,7 @@ pub fn put_state(out: &mut Vec<u8>, members: &[ProviderId], value: &[u8]) -> Res
 }
 
 /// A place and a space, `-` for none.
-#[tactic(auto, unfolding(world_model::specs::Text::place_option_text, node_state::specs::Wording::word))]
+#[tactic(auto, unfolding(world_model::specs::Text::place_option_text, value_words::specs::Wording::word))]
 fn put_place_option(out: &mut Vec<u8>, place: Option<u32>) -> Result<(), NoMemory>
     ensures { OnOk result (out.new.items ≡ out.old.items ++ word (place_option_text place)) }
 {
@@ -28,7 +30,7 @@ fn put_place_option(out: &mut Vec<u8>, place: Option<u32>) -> Result<(), NoMemor
 }
 
 /// A note from its group on.
-#[tactic(auto, unfolding(world_model::specs::Text::note_text, node_state::specs::Wording::word))]
+#[tactic(auto, unfolding(world_model::specs::Text::note_text, value_words::specs::Wording::word))]
 pub fn put_note(out: &mut Vec<u8>, place: Option<u32>, told: &Told) -> Result<(), NoMemory>
     ensures { OnOk result (out.new.items ≡ out.old.items ++ note_text place told.now) }
 {

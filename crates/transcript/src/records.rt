@@ -1,39 +1,27 @@
 //! The line of each record.
 ghost use Rattle.std.specs.Prelude.{◌≡◌, ◌++◌, OnOk, IfOk, codes, decimal};
 ghost use Rattle.node_state.specs.declared.happened.Happened.TheVariants as happened;
-ghost use Rattle.node_state.specs.Wording.{word, provider_text, providers_text};
-ghost use Rattle.world_model.specs.Text.{running_text, phase_text, vote_text, state_text, cast_value_text, place_text, client_text, record_text, line_of};
+ghost use Rattle.value_words.specs.Wording.{word, provider_text, providers_text};
+ghost use Rattle.entry_words.specs.Wording.{phase_text, vote_text};
+ghost use Rattle.world_model.specs.Text.{state_text, cast_value_text, place_text, client_text, record_text, line_of};
 
-use crate::entries::{put_entry, put_phase, put_what_word, vote_text};
-use crate::faults::{put_fault, put_why};
 use crate::notes::{put_note, put_state};
 use client_callbacks::Told;
-use node_state::Happened;
-use node_text::{
-    kind_of, put_counted, put_mask_word, put_members, put_number, put_number_word, put_proto,
-    put_provider_word, put_providers_word, put_ring_word, put_text, put_value, put_view_word,
-    put_word,
+use entry_words::{
+    kind_of, put_entry, put_fault, put_phase, put_running, put_what_word, put_why, vote_text,
 };
-use proposal_core::{Entry, GroupState, Proposal, Running, Vote};
+use node_state::Happened;
+use proposal_core::{Entry, GroupState, Proposal, Vote};
 use rsct_packet::{
     List, Mask, Members, Name, NoMemory, ProtoId, ProviderId, Providers, RingId, Text, ViewId,
 };
 use session_state::GsFault;
 use std::alloc::Global;
-
-#[tactic(auto, unfolding(world_model::specs::Text::running_text))]
-fn put_running(out: &mut Vec<u8>, run: &Option<Running>) -> Result<(), NoMemory>
-    ensures { OnOk result (out.new.items ≡ out.old.items ++ running_text run.now) }
-{
-    match run {
-        None => put_text(out, b"-"),
-        Some(run) => {
-            put_proto(out, run.proto)?;
-            put_text(out, b":")?;
-            put_number(out, u32::from(run.phase))
-        }
-    }
-}
+use value_words::{
+    put_counted, put_mask_word, put_members, put_number, put_number_word, put_proto,
+    put_provider_word, put_providers_word, put_ring_word, put_text, put_value, put_view_word,
+    put_word,
+};
 
 #[tactic(auto, unfolding(world_model::specs::Text::cast_value_text))]
 fn put_cast_value(out: &mut Vec<u8>, value: &Option<Text>) -> Result<(), NoMemory>
@@ -98,7 +86,7 @@ fn put_request(
 }
 
 /// The record of a ring that is set; and likewise below, one function for each kind of records.
-#[tactic(auto, unfolding(world_model::specs::Text::record_text, node_state::specs::Wording::word))]
+#[tactic(auto, unfolding(world_model::specs::Text::record_text, value_words::specs::Wording::word))]
 fn put_ring(
     alloc: Global,
     out: &mut Vec<u8>,
@@ -118,7 +106,7 @@ fn put_ring(
     put_number(out, u32::from(neighbour))
 }
 
-#[tactic(auto, unfolding(world_model::specs::Text::record_text, node_state::specs::Wording::word))]
+#[tactic(auto, unfolding(world_model::specs::Text::record_text, value_words::specs::Wording::word))]
 fn put_in_view(out: &mut Vec<u8>, node: u8, view: ViewId, members: &Members) -> Result<(), NoMemory>
     ensures { OnOk result (out.new.items ≡ out.old.items
         ++ record_text (happened.In node view members.now)) }
@@ -137,7 +125,7 @@ struct Base<'a> {
 }
 
 /// The state of a group, as the record of its base ends.
-#[tactic(auto, unfolding(node_state::specs::Wording::word))]
+#[tactic(auto, unfolding(value_words::specs::Wording::word))]
 fn put_base_state(out: &mut Vec<u8>, state: &GroupState) -> Result<(), NoMemory>
     ensures { OnOk result (out.new.items ≡ out.old.items
         ++ (word (state_text state.now.members state.now.value)

@@ -9,9 +9,9 @@ use Rattle.world_model.specs.declared.script.Aim.{Aim}
 use Rattle.world_model.specs.declared.script.LineWhy.{LineWhy}
 use Rattle.world_model.specs.declared.script.LineWhy.TheVariants.{BadByte, MissingWord, ExtraWord, UnknownNode, UnknownClient, OutOfPlace}
 use Rattle.world_model.specs.declared.script.Script.{Script}
-use Rattle.world_model.specs.Words.{split_on, chosen}
+use Rattle.value_words.specs.Words.{split_on, chosen, words_in}
 use Rattle.world_model.specs.Lines.{Form, forms, Head, Said, said}
-use Rattle.world_model.specs.Reading.{Reading, Read, Good, Bad, nothing_read, nodes_said, is_known_client, misplaced, misplaced_for, last_reason, reason, taken, taken_unless, said_line, is_extra, counted_line, formed_line, skipped_line, worded_line, is_comment, words_in, is_bad_byte, with_text, texted, read_line, ScriptRead, IsScript, IsNone, script_in, lacks_begin, at_end, input_limit, read_from, read_for}
+use Rattle.world_model.specs.Reading.{Reading, Read, Good, Bad, nothing_read, nodes_said, is_known_client, misplaced, misplaced_for, last_reason, reason, taken, taken_unless, said_line, is_extra, counted_line, formed_line, skipped_line, worded_line, is_comment, is_bad_byte, with_text, texted, read_line, ScriptRead, IsScript, IsNone, script_in, lacks_begin, at_end, input_limit, read_from, read_for}
 
 -- ---- one line
 

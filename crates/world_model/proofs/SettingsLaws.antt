@@ -23,7 +23,7 @@ use Rattle.world_model.specs.declared.script.Line.TheVariants as line
 use Rattle.world_model.specs.declared.script.LineWhy.{LineWhy}
 use Rattle.world_model.specs.declared.script.LineWhy.TheVariants.{NoSharedNetwork, BoxedClient}
 use Rattle.world_model.specs.declared.script.Script.{Script}
-use Rattle.world_model.specs.Words.{◌>>=◌, is_digit, has_needless_zero, number_from, number_word, in_range, when_true, node_word}
+use Rattle.value_words.specs.Words.{◌>>=◌, is_digit, has_needless_zero, number_from, number_word, in_range, when_true, node_word}
 use Rattle.world_model.specs.Lines.{Head, HMode, HNode, HAdapter, HHb, HPort, HLevel, HDomain, HBegin, HStart, HStop, HAsk, HTick, HRun, HDeliver, HDrop, HFlow, HCut, HHeal, HGarbage, HShow, HClient, HJoin, HLeave, HExpel, HState, HMessage, HAttrs, HVote, HSubscribe, HUnsubscribe, HGoodbye, Votes, Boxed, Scripted, scripted, client_votes, Said, SaysMode, SaysNode, SaysAdapter, SaysHb, SaysPort, SaysLevel, SaysDomain, SaysBegin, SaysLine, SaysClient, SaysCall, says_one, says_event, says_two, says_call, said}
 use Rattle.world_model.specs.Reading.{Reading, objects_of, nothing_read, settled_if, settled, own_nodes, nodes_said, is_client, node_of_client, is_carried, misplaced, misplaced_served, misplaced_asked, misplaced_for, all_share, boxed_reason, last_reason, reason, with_line, with_call, boxed_word, votes_said, left_after, with_client, with_config, with_address, taken, with_text, IsScript, script_in, lacks_begin, read_for}
 use Rattle.world_model.specs.Settings.{aim_of, daemon_script, calls_on, calls_of, own_on, is_boxed, boxed_on, own_boxed, is_placed, may_serve, FitsNode, KeepsRules, KeepsFor, HasTexts}

@@ -10,8 +10,11 @@ use Rattle.world_model.specs.declared.event.Event.{Event}
 use Rattle.world_model.specs.declared.event.Event.TheVariants as event
 use Rattle.world_model.specs.declared.script.Line.{Line}
 use Rattle.world_model.specs.declared.script.Line.TheVariants as line
-use Rattle.world_model.specs.Words.{◌>>=◌, Choice, each_read, number_word, hex_word, client_word, group_word, node_word, network_word, address_word, provider_word, phases_word, mode_word, what_word, attr_words}
-use Rattle.client_callbacks.specs.Votes.{text_word, vote_word, votes_word}
+use Rattle.value_words.specs.Words.{◌>>=◌, Choice, each_read, number_word, hex_word, client_word, group_word, node_word, network_word, provider_word}
+use Rattle.world_model.specs.Words.{address_word, mode_word, what_word}
+use Rattle.entry_words.specs.Words.{phases_word, attr_words}
+use Rattle.value_words.specs.Escapes.{text_word}
+use Rattle.client_callbacks.specs.Votes.{vote_word, votes_word}
 
 -- the first word of a line
 pub data Head : Type 0 where

@@ -16,7 +16,7 @@ use Rattle.world_model.specs.declared.script.LineWhy.{LineWhy}
 use Rattle.world_model.specs.declared.script.LineWhy.TheVariants as why
 use Rattle.world_model.specs.declared.script.Script.{Script}
 use Rattle.world_model.specs.Text.{line_of}
-use Rattle.world_model.specs.Words.{split_on}
+use Rattle.value_words.specs.Words.{split_on}
 use Rattle.world_model.specs.Reading.{ScriptRead, IsScript, IsNone, script_of}
 use Rattle.world_model.specs.World.{Node, Sent, World, node_at, happens, world_new}
 

@@ -1,5 +1,5 @@
 -- A script, read line by line: its settings and lines, or its first bad line and the first reason of that.
-use Rattle.std.specs.Prelude.{ℕ, Bool, true, false, not, ◌==◌, ◌&&◌, ◌||◌, ◌+◌, ◌-◌, List, [], ◌∷◌, map, length, replicate, find, filter, slice_set, slice_index, Option, Some, None, nat_lt, codes, if◌then◌else◌}
+use Rattle.std.specs.Prelude.{ℕ, Bool, true, false, not, ◌==◌, ◌&&◌, ◌||◌, ◌+◌, ◌-◌, List, [], ◌∷◌, map, length, replicate, find, slice_set, slice_index, Option, Some, None, nat_lt, codes, if◌then◌else◌}
 use Rattle.std.specs.List.{list_any, list_all}
 use Rattle.std.specs.Str.{bytes_eq}
 use Rattle.rsct_packet.specs.Lists.{is_empty, reverse_onto}
@@ -19,7 +19,7 @@ use Rattle.world_model.specs.declared.script.Line.TheVariants.{Plain}
 use Rattle.world_model.specs.declared.script.LineWhy.{LineWhy}
 use Rattle.world_model.specs.declared.script.LineWhy.TheVariants.{Long, BadByte, UnknownWord, MissingWord, ExtraWord, BadWord, UnknownNode, UnknownClient, OutOfPlace, NoSharedNetwork, IsAPacket, BoxedClient}
 use Rattle.world_model.specs.declared.script.Script.{Script}
-use Rattle.world_model.specs.Words.{split_on, chosen}
+use Rattle.value_words.specs.Words.{split_on, chosen, words_in}
 use Rattle.world_model.specs.Lines.{Form, forms, Votes, Boxed, Scripted, Said, SaysMode, SaysNode, SaysAdapter, SaysHb, SaysPort, SaysLevel, SaysDomain, SaysBegin, SaysLine, SaysClient, SaysCall, said}
 
 -- a client that a line named, and its node
@@ -266,9 +266,6 @@ unfoldable pub is_comment : List ℕ → Bool
 is_comment [] = false
 is_comment (b ∷ bs) = b == 35
 
-unfoldable pub words_in : List ℕ → List (List ℕ)
-words_in bytes = filter (λ w. not (is_empty w)) (split_on 32 bytes)
-
 unfoldable pub is_bad_byte : ℕ → Bool
 is_bad_byte b = nat_lt b 32 || nat_lt 126 b
 
@@ -333,5 +330,5 @@ script_of bytes = read_for Plays bytes
 
 -- opens each word of this file, for a computation
 unfoldable pub reading_opens : Unit {0}
-unfolding objects_of nothing_read plain_address settled_if settled own_nodes nodes_said is_client is_known_client event_misplaced line_misplaced is_second_adapter misplaced node_of_client is_carried misplaced_served misplaced_asked misplaced_for all_share packet_reason boxed_reason last_reason reason with_line with_call votes_said left_after with_client with_config with_address taken taken_unless said_line is_extra counted_line formed_line skipped_line worded_line is_comment words_in is_bad_byte with_text texted read_line script_in lacks_begin at_end read_from read_for script_of
+unfolding objects_of nothing_read plain_address settled_if settled own_nodes nodes_said is_client is_known_client event_misplaced line_misplaced is_second_adapter misplaced node_of_client is_carried misplaced_served misplaced_asked misplaced_for all_share packet_reason boxed_reason last_reason reason with_line with_call votes_said left_after with_client with_config with_address taken taken_unless said_line is_extra counted_line formed_line skipped_line worded_line is_comment is_bad_byte with_text texted read_line script_in lacks_begin at_end read_from read_for script_of
 reading_opens = tt

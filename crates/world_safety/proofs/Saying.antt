@@ -6,7 +6,7 @@ use Rattle.world_model.specs.declared.event.Event.{Event}
 use Rattle.world_model.specs.declared.event.Event.TheVariants as event
 use Rattle.world_model.specs.declared.script.Line.{Line}
 use Rattle.world_model.specs.declared.script.Line.TheVariants as line
-use Rattle.world_model.specs.Words.{◌>>=◌, node_word}
+use Rattle.value_words.specs.Words.{◌>>=◌, node_word}
 use Rattle.world_model.specs.Lines.{Head, HMode, HNode, HAdapter, HHb, HPort, HLevel, HDomain, HBegin, HStart, HStop, HAsk, HTick, HRun, HDeliver, HDrop, HFlow, HCut, HHeal, HGarbage, HShow, HClient, HJoin, HLeave, HExpel, HState, HMessage, HAttrs, HVote, HSubscribe, HUnsubscribe, HGoodbye, Said, SaysLine, says_one, says_event, says_two, says_call, said}
 
 -- who starts is among these

@@ -1,7 +1,7 @@
 -- One line more.
 use Rattle.std.proofs.Common.{◌++◌, [], ap, ◌∙◌}
 use Rattle.std.specs.Prelude.{codes}
-use Rattle.node_text.proofs.TextLaws.{pieces_on}
+use Rattle.value_words.proofs.TextLaws.{pieces_on}
 use Rattle.node_text.proofs.status.text_of.Goals as goal
 
 pub loop-line-preserved : goal.loop-line-preserved

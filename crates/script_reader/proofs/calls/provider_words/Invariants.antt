@@ -1,5 +1,5 @@
 use Rattle.std.proofs.Common.{◌≡◌, length}
-use Rattle.world_model.specs.Words.{each_read, provider_word}
+use Rattle.value_words.specs.Words.{each_read, provider_word}
 use Rattle.script_reader.proofs.EachLaws.{each_after}
 use Rattle.script_reader.proofs.calls.provider_words.Given as goal
 

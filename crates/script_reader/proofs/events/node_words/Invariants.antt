@@ -1,5 +1,5 @@
 use Rattle.std.proofs.Common.{◌≡◌, length}
-use Rattle.world_model.specs.Words.{each_read, node_word}
+use Rattle.value_words.specs.Words.{each_read, node_word}
 use Rattle.script_reader.proofs.EachLaws.{each_after}
 use Rattle.script_reader.proofs.events.node_words.Given as goal
 

@@ -1,5 +1,5 @@
 use Rattle.std.proofs.Common.{◌≡◌, ◌+◌, ◌≤◌, length}
-use Rattle.world_model.specs.Words.{split_on}
+use Rattle.value_words.specs.Words.{split_on}
 use Rattle.world_model.specs.Reading.{input_limit}
 use Rattle.script_reader.specs.ClientScript.{lines_from, lines_for}
 use Rattle.script_reader.specs.Reading.{reading_seen}

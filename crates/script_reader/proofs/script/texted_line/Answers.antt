@@ -1,5 +1,6 @@
 use Rattle.std.proofs.Common.{◌≡◌}
-use Rattle.world_model.specs.Reading.{Good, worded_line, words_in}
+use Rattle.world_model.specs.Reading.{Good, worded_line}
+use Rattle.value_words.specs.Words.{words_in}
 use Rattle.script_reader.specs.Reading.{reading_seen}
 use Rattle.script_reader.proofs.ScriptLaws.{texted_good}
 use Rattle.script_reader.proofs.script.texted_line.Goals as goal

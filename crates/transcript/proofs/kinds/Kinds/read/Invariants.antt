@@ -1,5 +1,5 @@
 use Rattle.std.proofs.Common.{◌≡◌, length}
-use Rattle.world_model.specs.Words.{split_on}
+use Rattle.value_words.specs.Words.{split_on}
 use Rattle.transcript.specs.Kinds.{kinds_from, kinds_of}
 use Rattle.transcript.proofs.kinds.Kinds.read.Given as goal
 

@@ -1,0 +1,2 @@
+pub mod EqualsLaws
+pub mod AttrLaws

@@ -1,6 +1,0 @@
-use Rattle.std.proofs.Common.{ap, ◌∙◌, ◌==◌}
-use Rattle.std.specs.List.{list_any}
-use Rattle.script_words.proofs.attrs.is_seen.Goals as goal
-
-pub returns : goal.returns
-returns c = c.has_number.ensures ∙ ap (λ k. list_any (λ n. n == k) c.args.seen.now) c.key_number.ensures

@@ -1,6 +1,0 @@
-use Rattle.std.proofs.Common.{◌≡◌, ◌≤◌, drop}
-use Rattle.world_model.specs.Words.{number_from}
-use Rattle.script_words.proofs.numbers.value_of.Given as goal
-
-abbrev pub invariant-loop-d : goal.invariant-loop-d
-invariant-loop-d l = (l.value ≤ l.high) × (number_from l.value (drop l.d-index l.digits) ≡ number_from 0 l.digits)

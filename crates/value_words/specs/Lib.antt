@@ -1,0 +1,5 @@
+pub mod Wording
+pub mod Words
+pub mod Escapes
+pub mod Answers
+pub mod Counted
