@@ -27,7 +27,7 @@ use Rattle.run_safety.proofs.WholeLists.{whole_appends, whole_follows, whole_sta
 use Rattle.run_safety.specs.SafeGroups.{ComesFromNowhere, Settled, BasesSettled, NotedBasesWin, LivesAreSafe}
 use Rattle.run_safety.specs.Bases.{BaseIs, Wins, side_state}
 use Rattle.run_safety.specs.Always.{AlwaysOneList, AlwaysInOrder, AlwaysRising, AlwaysSameMembers, AlwaysOneInstall, AlwaysOneBase, AlwaysTogether, AlwaysCut, AlwaysFold, AlwaysBase, AlwaysLed, AlwaysOnce, AlwaysStable, AlwaysTallied, AlwaysApprovedByAll, AlwaysFitted}
-use Rattle.run_safety.proofs.OnceLaw.{begun_once}
+use Rattle.run_safety.proofs.OnceLaw.{begun_once, carried_asked}
 use Rattle.run_safety.proofs.HeardLaw.{heard_law, front_of, take_front}
 use Rattle.run_safety.proofs.StableLaw.{stable_law}
 use Rattle.run_safety.proofs.TallyLaw.{approved_by_all}
@@ -126,7 +126,12 @@ module _ (o : Opening) (nodes : ℕ → Standing) (ps : List Packet) (all : List
   law_heard = heard_law o nodes ps all w.log leads bases w.good w.heard
 
   pub law_requests : RequestsOnce all
-  law_requests = record { once = begun_once o nodes ps all w.log leads w.good w.once; asked_first = w.once.order }
+  law_requests =
+      record {
+        once = begun_once o nodes ps all w.log leads w.good w.once;
+        asked_first = w.once.order;
+        were_asked = carried_asked o nodes ps all w.log leads w.good w.once;
+      }
 
   pub law_stable : StableHeld ps (kept all)
   law_stable = stable_law ps (kept all) w.stable (law_same_members o nodes ps (kept all) w.log leads w.good.inv w.good.past)

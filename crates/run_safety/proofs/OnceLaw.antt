@@ -11,7 +11,7 @@ use Rattle.run_safety.specs.Group.{Standing, Packet, Request, Refusal, Record, I
 use Rattle.run_safety.specs.GroupLists.{WasIn}
 use Rattle.run_safety.specs.Requests.{carried, Meets}
 use Rattle.run_safety.specs.Moves.{Leads, first, Opening}
-use Rattle.run_safety.specs.GroupLaws.{BegunOnce, AskedAndUntold, AskedFirst}
+use Rattle.run_safety.specs.GroupLaws.{BegunOnce, AskedAndUntold, AskedFirst, CarriedWereAsked}
 use Rattle.run_safety.proofs.Order.{le_antisym}
 use Rattle.run_safety.proofs.Parts.{Entered}
 use Rattle.run_safety.proofs.Past.{was_entered}
@@ -126,3 +126,9 @@ module _ (o : Opening) (nodes : ℕ → Standing) (ps : List Packet) (all : List
       let y = old.asked v k p r f b d in
       let same : u ≡ v = le_antisym u v ((old.sent u p r x.0 x.1).2 v k f g d) ((old.sent v p r y.0 y.1).2 u i e h c) in
       (same, old.apart v i k p r e f (subst (λ w. slice_get (log w) i ≡ Some e) same a) c b d)
+
+  -- the law: what an entry carries stands in the view's log, so it was requested in that view, and asked before
+  pub carried_asked : CarriedWereAsked all
+  carried_asked n v i e p r h c =
+      let a = old.asked v i p r e (good.inv.records (Put n v i e) h) c in
+      (a.0, (old.sent v p r a.0 a.1).1, a.2)

@@ -72,9 +72,15 @@ AskedFirst (Kept (In n j v ms) ∷ all) = AskedFirst all
 AskedFirst (Kept Begins ∷ all) = AskedFirst all
 AskedFirst (Noted x ∷ all) = AskedFirst all
 
+-- whatever an entry carries was asked in this group, with that proposal, at whatever node the entry is put
+abbrev pub CarriedWereAsked : List Line → Type 0
+CarriedWereAsked all =
+    (n : ℕ) (v : ViewId) (i : ℕ) (e : Entry) (p : ProviderId) (r : ℕ) → Has (Put n v i e) (kept all) → Has (p, r) (carried e) → (x : Proposal) × Has (Noted (Asked p r x)) all × Meets p x e
+
 pub record RequestsOnce (all : List Line) : Type 0 where
   pub once : BegunOnce (kept all)
   pub asked_first : AskedFirst all
+  pub were_asked : CarriedWereAsked all
 
 -- what is stable every member of the view has put
 abbrev pub StableHeld : List Packet → List Record → Type 0

@@ -66,7 +66,8 @@ pub record SafeLines (o : Opening) (all : List Line) : Type 0 where
   -- ---- leaders and requests
   -- the first put of each place is of the view's leader
   pub leading : Leading o (kept all) leads bases
-  -- a request begins at most once at its own node, after it was asked there, and not after any refusal of it was told
+  -- a request begins at most once at its own node, after it was asked there, and not after any refusal of it was told; and whoever
+  -- an entry names, at whatever node, asked in this group
   pub requests : RequestsOnce all
   -- ---- tallies
   -- an entry that closes a phase has the tally that its kind says

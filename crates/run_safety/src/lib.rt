@@ -72,7 +72,8 @@ pub fn leader_puts_first()
     ensures { AlwaysLed }
 {}
 
-/// At its own node a request begins at most once over all views, after it was asked and not after a refusal was told.
+/// At its own node a request begins at most once over all views, after it was asked and not after a refusal was told. At
+/// whatever node an entry is put, whoever it names asked in that group for what it begins.
 #[tactic(auto, using(crate::proofs::Lives::always_once))]
 pub fn begun_once()
     ensures { AlwaysOnce }
