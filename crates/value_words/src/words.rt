@@ -112,10 +112,10 @@ impl<'a> Words<'a> {
     }
 
     /// Is there none?
-    pub fn is_empty(&mut self) -> bool
-        ensures { result ≡ is_empty self.old }
+    pub fn is_empty(&self) -> bool
+        ensures { result ≡ is_empty self.now }
     {
-        self.take().is_none()
+        next_word(self.left).is_none()
     }
 
     /// Takes the first one off.
