@@ -20,7 +20,7 @@ pub const MAX_CALL: usize = 1_100;
 fn is_long(line: &[u8]) -> bool
     ensures { result ≡ is_long line.now }
 {
-    let mut words = Words::of(line);
+    let words = Words::of(line);
     line.len() > MAX_CALL && !is_comment(line) && !words.is_empty()
 }
 
