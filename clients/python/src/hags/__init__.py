@@ -22,4 +22,5 @@ from .errors import (
 )
 from .events import HOSTS, Asked, Cast, Event, Heard, Hosts, Noted, Told
 from .ids import Host, Member, Token, View
+from .recipes import Barrier, Change, Leader, Lock, Share, Shares, Value, Watch
 from .settings import Adapter, Place, Settings

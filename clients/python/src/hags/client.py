@@ -286,16 +286,21 @@ class Client(AbstractContextManager["Client"]):
             raise HagsError(f"the daemon has taken `{line}`, and has not said what it asked")
         return asked
 
-    def status(self, what: str, seconds: float | None = None) -> list[str]:
-        """Asks the daemon what `hags status` would: `hats`, `hagsns`, `hagsgr` or `hagsvote`. Gives its lines."""
+    def status(self, what: str, node: int | None = None, seconds: float | None = None) -> list[str]:
+        """Asks the daemon of a node, its own one unless said, what `hags status` would: `hats`, `hagsns`, `hagsgr` or
+        `hagsvote`. Gives its lines, or raises NoReply."""
         calls.one_of("what to ask", what, QUESTIONS)
         answers: list[list[str]] = []
         with self.locked() as core:
-            core.session.ask(what, answers.append)
+            question = core.ask(what, answers.append, node)
         try:
             self.wait_until("an answer", lambda: bool(answers), self.seconds if seconds is None else seconds)
         except TimedOut:
-            raise no_reply(self._core) from None
+            places = ", ".join(map(str, question.places))
+            raise NoReply(f"the daemon of node {question.node} does not answer at {places}") from None
+        finally:
+            with self.locked():
+                core.withdraw(question)
         return answers[0]
 
     # Events

@@ -14,10 +14,11 @@ from .calls import client_name, line_bytes
 from .errors import BadArgument, CallRefused, ClientClosed, DaemonFull, HagsError, SessionLost
 from .events import HOSTS, Asked, Event, Heard, Hosts, Noted, Told
 from .ids import Member, View, hosts_of
-from .session import Connection, Session
+from .session import Connection, Question, Session
 from .settings import Settings
 
 FAREWELL = 10.0  # seconds for which a daemon that was given up is told goodbye
+PAUSED = 0.2  # seconds without a step, after which the process was paused
 Answer = Optional[Asked]
 
 
@@ -114,7 +115,7 @@ class Core:
         self._calls: deque[Call] = deque()
         self._current: Call | None = None
         self._opening: Call | None = None
-        self._tries = 0
+        self._tries, self._stepped = 0, time.monotonic()
         self.is_closed = False
         self.follows_hosts = False
         self._recipes: dict[str, Recipe] = {}
@@ -154,11 +155,25 @@ class Core:
 
         self.post(line).add_done_callback(done)
 
+    def ask(self, what: str, answer: Callable[[list[str]], None], node: int | None = None) -> Question:
+        """Asks the daemon of a node, the client's own one unless said, and hands the lines over once they come."""
+        node = self.node if node is None else node
+        question = Question(node, self.settings.places(node), what, answer)
+        self.connection.questions.append(question)
+        return question
+
+    def withdraw(self, question: Question) -> None:
+        if question in self.connection.questions:
+            self.connection.questions.remove(question)
+
     # Turns
 
     def step(self) -> float:
         """Sends, receives, and does what is due. Answers when the next step is due."""
         now = time.monotonic()
+        if now - self._stepped > max(PAUSED, 3 * self.session.idle):
+            self.connection.drop()  # what came while this process was paused says nothing of how it stands now
+        self._stepped = now
         self.connection.send()
         try:
             self.connection.receive()
@@ -246,6 +261,7 @@ class Core:
             membership.is_member, membership.ended = False, membership.ended or "SessionLost"
         failed = [call for call in (self._current,) if call and call is not self._opening]
         self._current = self._opening = None
+        self.connection.questions = [it for it in self.connection.questions if it.node != old.node]
         if node != old.node and old.incarnation and isinstance(error, SessionLost):
             self._farewells.append(_Farewell(old, self.name, time.monotonic() + FAREWELL))
             self.connection.leaving.append(old)
@@ -341,7 +357,7 @@ class Core:
 
     def _ask_hosts(self) -> None:
         self.post_quietly(f"subscribe {{}} {HOSTS}")
-        self.session.ask("hagsns", self._hosts_answered)
+        self.ask("hagsns", self._hosts_answered)
 
     def _hosts_answered(self, lines: list[str]) -> None:
         """A subscription tells changes alone, so how it stands is asked for."""

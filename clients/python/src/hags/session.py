@@ -15,16 +15,35 @@ from .calls import line_bytes
 from .errors import DaemonFull, SessionLost
 from .events import Asked, Event, event_of
 from .settings import Place
-from .wire import FULL, MOST_EVENTS, TAKEN, Down, Joiner, datagram_of, message_of, query_of, up_of
+from .wire import FULL, MOST_EVENTS, TAKEN, Down, Joiner, Reply, datagram_of, message_of, query_of, up_of
 
 SHORTEST, IDLE = 0.001, 0.02  # seconds from one Up to the next, while something happens and while nothing does
 SILENT = 0.1  # seconds without a word from the daemon, after which its other networks are tried too
 ASK_AGAIN = 0.1  # seconds until a question is asked again
 
 
-class _Question:
-    def __init__(self, what: str, answer: Callable[[list[str]], None]) -> None:
-        self.what, self.answer, self.due = what, answer, 0.0
+class Question:
+    """A question of `hags status` to the daemon of a node, asked on all of its networks in turn until it is answered."""
+
+    def __init__(self, node: int, places: Sequence[Place], what: str, answer: Callable[[list[str]], None]) -> None:
+        self.node, self.places, self.what, self.answer = node, tuple(places), what, answer
+        self.is_answered, self.due = False, 0.0
+        self._number, self._joiner, self._sent = secrets.randbits(32), Joiner(node), 0
+
+    def datagrams(self, now: float) -> list[tuple[Place, bytes]]:
+        if now < self.due:
+            return []
+        place = self.places[self._sent % len(self.places)]
+        self._sent, self.due = self._sent + 1, now + ASK_AGAIN
+        query = query_of(place.network, self.node, self._number, self.what)
+        return [(place, datagram_of(place.network, self._sent, query))]
+
+    def take(self, datagram: bytes) -> None:
+        message = self._joiner.take(datagram[1:])
+        said = message_of(message) if message else None
+        if isinstance(said, Reply) and said.question == self._number and not self.is_answered:
+            self.is_answered = True
+            self.answer(said.text.splitlines())
 
 
 class Session:
@@ -42,7 +61,6 @@ class Session:
         self.due = now  # when the next datagram is to go out
         self._joiner, self._network = Joiner(node), self.places[0].network
         self._sent, self._number, self._heard, self._line, self._pause = 0, 0, 0, b"", SHORTEST
-        self._questions: dict[int, _Question] = {}
 
     def begin(self, line: str) -> None:
         """Makes a call, a line of docs/formats.md. The last one has its answer."""
@@ -51,11 +69,6 @@ class Session:
             raise ValueError("the last call has no answer yet")
         self._number, self._line, self.is_settled, self.taken = self._number + 1, spelled, False, False
         self.asked, self.why, self._pause, self.due = None, "", SHORTEST, 0.0
-
-    def ask(self, what: str, answer: Callable[[list[str]], None]) -> None:
-        """Asks the daemon what `hags status` would ask, and hands the lines over once they come."""
-        self._questions[secrets.randbits(32)] = _Question(what, answer)
-        self.due = 0.0
 
     def silence(self, now: float) -> float:
         """For how many seconds the daemon was silent."""
@@ -66,33 +79,23 @@ class Session:
         if now < self.due:
             return []
         place = self._place(now)
-        out = [(place, self._datagram(place, up_of(self.key, self._number, self._heard, self._line)))]
-        for number, question in self._questions.items():
-            if now >= question.due:
-                question.due = now + ASK_AGAIN
-                out.append((place, self._datagram(place, query_of(place.network, self.node, number, question.what))))
         self.due, self._pause = now + self._pause, min(2 * self._pause, self.idle)
-        return out
+        self._sent += 1
+        up = up_of(self.key, self._number, self._heard, self._line)
+        return [(place, datagram_of(place.network, self._sent, up))]
 
     def _place(self, now: float) -> Place:
         if self.silence(now) > max(SILENT, 3 * self.idle):
             return self.places[self._sent % len(self.places)]
         return next(place for place in self.places if place.network == self._network)
 
-    def _datagram(self, place: Place, message: bytes) -> bytes:
-        self._sent += 1
-        return datagram_of(place.network, self._sent, message)
-
     def take(self, datagram: bytes, now: float) -> None:
         """Takes a datagram that came, whatever it is. Raises SessionLost or DaemonFull, and then the session is over."""
         message = self._joiner.take(datagram[1:])
         said = message_of(message) if message else None
-        if isinstance(said, Down):
-            if said.key == self.key:
-                self._network = next((it.network for it in self.places if it.network == datagram[0]), self._network)
-                self._take_down(said, now)
-        elif said and said.question in self._questions:
-            self._questions.pop(said.question).answer(said.text.splitlines())
+        if isinstance(said, Down) and said.key == self.key:
+            self._network = next((it.network for it in self.places if it.network == datagram[0]), self._network)
+            self._take_down(said, now)
 
     def _take_down(self, down: Down, now: float) -> None:
         self.last = now
@@ -139,6 +142,7 @@ class Connection:
         self.socket.setblocking(False)
         self.session = Session(node, places, time.monotonic(), idle)
         self.leaving: list[Session] = []  # sessions that were given up, whose daemon may still hear a goodbye
+        self.questions: list[Question] = []
 
     def begin_session(self, node: int, places: Sequence[Place]) -> None:
         """Begins a session, with a new key, in place of the one that is there."""
@@ -153,7 +157,10 @@ class Connection:
     @property
     def due(self) -> float:
         """When the next datagram is to go out."""
-        return min(it.due for it in (self.session, *self.leaving))
+        return min(sender.due for sender in self._senders())
+
+    def _senders(self) -> list[Session | Question]:
+        return [self.session, *self.leaving, *self.questions]
 
     def turn(self, seconds: float = 0) -> None:
         """Sends what is due, waits for at most so many seconds, and takes what came. Raises SessionLost or DaemonFull."""
@@ -167,21 +174,29 @@ class Connection:
 
     def send(self) -> None:
         now = time.monotonic()
-        for session in (self.session, *self.leaving):
-            for place, datagram in session.datagrams(now):
+        for sender in self._senders():
+            for place, datagram in sender.datagrams(now):
                 with suppress(OSError):  # then it is lost, as any datagram may be, and goes again
                     self.socket.sendto(datagram, (place.address, place.port))
 
-    def receive(self) -> bool:
-        """Takes what came. Did anything come?"""
+    def drop(self) -> None:
+        """Drops what came: it is lost, as any datagram may be, and comes again."""
+        with suppress(OSError):
+            while True:
+                self.socket.recv(65536)
+
+    def receive(self) -> None:
+        """Takes what came. Raises SessionLost or DaemonFull."""
         session = self.session
-        for count in range(64):
+        for _ in range(64):
             try:
                 datagram = self.socket.recv(65536)
             except OSError:
-                return count > 0
+                return
+            for question in self.questions:
+                question.take(datagram)
+            self.questions = [it for it in self.questions if not it.is_answered]
             for gone in self.leaving:
                 with suppress(SessionLost, DaemonFull):
                     gone.take(datagram, time.monotonic())
             session.take(datagram, time.monotonic())
-        return True
