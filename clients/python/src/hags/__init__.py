@@ -2,6 +2,7 @@
 what programs mostly build on them: a `Lock`, the election of a `Leader`, a `Barrier`, a `Value` that changes by vote, a
 `Watch`, and work in `Shares`. docs/clients/python.md has all of it, and docs/recipes.md how the recipes are used."""
 
+from .aio import AsyncClient
 from .calls import APPROVE, CONTINUE, REJECT, Attributes
 from .client import Client
 from .core import Membership
