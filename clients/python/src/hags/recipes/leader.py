@@ -49,6 +49,12 @@ class Leader(AbstractContextManager["Leader"]):
         return self._office.held() is not None
 
     @property
+    def own(self) -> Member | None:
+        """This candidate; None while it is no member."""
+        with self._client.locked():
+            return self._office.own
+
+    @property
     def leader(self) -> Member | None:
         """Who leads, as this one has heard last; None where it is no member."""
         with self._client.locked():
