@@ -57,6 +57,7 @@ class Session:
         self.is_settled, self.taken = True, False  # has the last call its answer, and was it taken?
         self.asked: Asked | None = None  # what the last call asked of a group
         self.why = ""  # the code by which it was refused
+        self.lines: list[str] | None = None  # where a list stands here, each line that is heard goes there as it came
         self.last = now  # when the daemon was heard last, or the session began
         self.due = now  # when the next datagram is to go out
         self._joiner, self._network = Joiner(node), self.places[0].network
@@ -124,6 +125,8 @@ class Session:
             self._pause, self.due = SHORTEST, 0.0 if count == MOST_EVENTS else now + SHORTEST
 
     def _hear(self, line: str) -> None:
+        if self.lines is not None:
+            self.lines.append(line)
         if line.startswith("refused "):
             self.why = line.split(" ", 2)[2]
             return
