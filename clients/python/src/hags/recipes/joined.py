@@ -33,7 +33,7 @@ class Joined:
         self.error: HagsError | None = None  #: why it cannot be a member
         self._attributes = attributes
         self._join_line = join_line(group, attributes, None)
-        self._is_wanted, self._is_asking, self._again = False, False, 0.0
+        self._is_wanted, self._is_leaving, self._is_asking, self._again = False, False, False, 0.0
         with client.locked() as core:
             self._core: Core = core
             core.claim(self)
@@ -67,8 +67,9 @@ class Joined:
 
     def unwant(self, seconds: float = LEAVING) -> None:
         """Leaves, and waits a while for that."""
-        with self.client.locked():
-            self._is_wanted, self._again = False, 0.0
+        with self.client.locked() as core:
+            self._is_wanted, self._is_leaving, self._again = False, core.is_member(self.group), 0.0
+            self.unwanted()
         with suppress(TimedOut, ClientClosed):
             self.client.wait_until("the leave", lambda: not self._core.is_member(self.group), seconds)
 
@@ -92,6 +93,7 @@ class Joined:
     def take(self, event: Event) -> None:
         membership = self._core.memberships.get(self.group)
         if membership and membership.ended:
+            self._is_leaving = False
             self._ended(membership.ended)
         elif isinstance(event, Heard) and membership:
             self.heard(event)
@@ -103,13 +105,13 @@ class Joined:
         if self._core.is_open and not self._is_asking and now >= self._again:
             if self._is_wanted and not is_member and self.error is None:
                 self._ask(self._join_line)
-            elif not self._is_wanted and self.membership:
+            elif (self._is_leaving or not self._is_wanted) and self.membership:
                 self._ask(leave_line(self.group, False))
         if self.membership:
             self.act(now)
 
     def lose(self, why: HagsError) -> None:
-        self._is_asking, self._again = False, time.monotonic() + AGAIN
+        self._is_leaving, self._is_asking, self._again = False, False, time.monotonic() + AGAIN
         self.gone(str(why))
         self.news()
 
@@ -144,6 +146,9 @@ class Joined:
 
     def gone(self, why: str) -> None:
         """It is no member any more."""
+
+    def unwanted(self) -> None:
+        """It is to leave."""
 
     def see_hosts(self) -> None:
         """The nodes of the view are others."""

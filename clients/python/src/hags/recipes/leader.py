@@ -41,12 +41,13 @@ class Leader(AbstractContextManager["Leader"]):
     @property
     def token(self) -> Token | None:
         """The fencing number of this leader; None where this one does not lead."""
-        return self._office.held()
+        with self._client.locked():
+            return self._office.held()
 
     @property
     def leads(self) -> bool:
         """Does this one lead, as far as is known here and now?"""
-        return self._office.held() is not None
+        return self.token is not None
 
     @property
     def own(self) -> Member | None:

@@ -15,7 +15,7 @@ class _Seat(Office):
     is_lost = False
 
     def may_hold(self) -> bool:
-        return self._is_wanted and not self.is_lost
+        return super().may_hold() and not self.is_lost
 
     def dropped(self) -> None:
         self.is_lost, self._is_wanted = True, False  # so that it is not held again without anybody noticing
@@ -46,10 +46,11 @@ class Lock(AbstractContextManager["Lock"]):
         seat = self._seat
         with self._client.locked():
             if seat.is_lost:
-                raise LockLost(f"the lock {self.name} was lost: {seat.why()}. Release it, and acquire it again")
+                raise LockLost(f"the lock {self.name} was lost: {seat.why}. Release it, and acquire it again")
         seat.want()
         try:
-            self._client.wait_until(f"the lock {self.name}", lambda: bool(seat.held() or seat.error), seconds)
+            what = f"the lock {self.name}"
+            self._client.wait_until(what, lambda: bool(seat.held() or seat.is_lost or seat.error), seconds)
         except BaseException:
             with suppress(ClientClosed):
                 self.release()
@@ -69,19 +70,20 @@ class Lock(AbstractContextManager["Lock"]):
         with self._client.locked():
             token = self._seat.held()
             if token is None:
-                why = self._seat.why()
+                why = self._seat.why
                 raise LockLost(f"the lock {self.name} is not held: {why}. Stop, and acquire it again")
             return token
 
     @property
     def is_held(self) -> bool:
         """Is it held, as far as is known here and now?"""
-        return self._seat.held() is not None
+        with self._client.locked():
+            return self._seat.held() is not None
 
     def wait_lost(self, seconds: float = FOREVER) -> bool:
         """Waits until the lock is lost, or for so long. Is it lost?"""
         with suppress(TimedOut):
-            self._client.wait_until("the lock's loss", lambda: not self.is_held, seconds)
+            self._client.wait_until("the lock's loss", lambda: self._seat.held() is None, seconds)
         return not self.is_held
 
     def close(self) -> None:

@@ -21,7 +21,7 @@ class Office(Joined):
     def __init__(self, client: Client, group: str, patience: float, data: bytes = b"") -> None:
         self._data = data
         self._token: Token | None = None
-        self._why = "it was never held"
+        self.why = "it was never held"  #: why it is not held
         self._before: tuple[Member, ...] = ()  # who was a member after the entry before
         self._beats, self._beat_at = 0, 0.0
         self._sign_at = time.monotonic()  # when a sign of life was heard
@@ -32,7 +32,9 @@ class Office(Joined):
 
     def held(self) -> Token | None:
         """The token, where the office is held now."""
-        return self._token if self._token and self._core.silence() <= self._lease else None
+        if self._token and self._core.silence() > self._lease:
+            self._drop(f"the daemon of node {self._core.node} is silent")
+        return self._token
 
     @property
     def first(self) -> Member | None:
@@ -57,14 +59,14 @@ class Office(Joined):
             self.news()
 
     def may_hold(self) -> bool:
-        return self._is_wanted
+        return self._is_wanted and not self._is_leaving
 
     def act(self, now: float) -> None:
+        self.held()
         if self._core.silence() > self._lease:
-            self._drop(f"the daemon of node {self._core.node} is silent")
             self._sign_at = now
         elif self.first == self.own:
-            if now >= self._beat_at and self._is_wanted:
+            if now >= self._beat_at and self.may_hold():
                 again = self.patience / BEATS if self._token else 2 * AGAIN
                 self._beats, self._beat_at = self._beats + 1, now + again
                 self.say(state_line(self.group, f"{self.own} {self._beats} ".encode() + self._data, False))
@@ -83,13 +85,12 @@ class Office(Joined):
         elif self._token is None:
             self._beat_at = 0.0
 
-    def why(self) -> str:
-        """Why it is not held."""
-        return f"the daemon of node {self._core.node} is silent" if self._token else self._why
+    def unwanted(self) -> None:
+        self._drop("it was released")
 
     def _drop(self, why: str) -> None:
         if self._token is not None:
-            self._token, self._why = None, why
+            self._token, self.why = None, why
             self.dropped()
             self.news()
 
