@@ -14,9 +14,9 @@ import signal
 import sys
 import time
 
-sys.path.insert(0, str(pathlib.Path(__file__).resolve().parents[2] / "clients" / "python"))
-import hags_client
-from hags_client import APPROVE, REJECT, Asked, CallRefused, Heard, NoReply, SessionLost, Told
+sys.path.insert(0, str(pathlib.Path(__file__).resolve().parents[2] / "clients" / "python" / "src"))
+import hags
+from hags import APPROVE, REJECT, Asked, CallRefused, Heard, NoReply, SessionLost, Told
 
 GROUP = "config"
 
@@ -27,14 +27,14 @@ class Voter:
 
     def __init__(self, client, nodes, never, wanted):
         self.client, self.nodes, self.never, self.wanted = client, nodes, never, wanted
-        self.is_refused = False
-        self.begin()
+        self.is_refused, self.is_to_join = False, True
 
     def begin(self):
         """Joins, at first and whenever the membership is gone."""
+        self.is_to_join = False
         self.me, self.request, self.is_member, self.has_proposed, self.has_asked = None, None, False, False, False
         self.now, self.next, self.proposer = "", None, None
-        self.client.join(GROUP, limit=100, default="reject")
+        self.client.start_join(GROUP, hags.Attributes(limit=100, default="reject"))
 
     def say(self, text):
         print(f"at node {self.client.node}: {text}\n", end="", flush=True)  # whole, also beside others
@@ -46,7 +46,7 @@ class Voter:
 
     def opinion(self, members):
         """The vote on what was proposed, where these are the members."""
-        here = {member.split(".")[0] for member in members}
+        here = {member.node for member in members}
         if self.next is None or 2 * len(here) <= self.nodes:
             return REJECT
         if self.has_asked and self.proposer != self.me:
@@ -93,7 +93,7 @@ class Voter:
         self.say(f"told {told.code}")
         if told.code == "DISSOLVED" or told.request == self.request:
             time.sleep(0.5)
-            self.begin()
+            self.is_to_join = True
         else:
             self.has_proposed = self.has_asked = False
 
@@ -102,8 +102,7 @@ def follow(voter, client):
     """Follows the group, to the end of the own proposal where there is one. Answers whether all agreed on that."""
     while True:
         try:
-            if not client.is_open:
-                client.open()
+            if voter.is_to_join:
                 voter.begin()
             event = client.next_event(1)
             if isinstance(event, Asked) and event.kind == "join":
@@ -115,11 +114,10 @@ def follow(voter, client):
                 if agreed is not None:
                     return agreed
         except CallRefused as refused:
-            if not client.is_open:
-                raise
             voter.say(str(refused))  # as of a vote that came too late, or a call while another one waits
         except (NoReply, SessionLost) as error:
             voter.say(str(error))
+            voter.is_to_join = voter.is_to_join or isinstance(error, SessionLost)
 
 
 def main():
@@ -131,10 +129,8 @@ def main():
     options = parser.parse_args()
     if options.propose and "|" in options.propose:
         parser.error("a value has no |")
-    settings = options.settings.read_text()
-    nodes = sum(line.startswith("node ") for line in settings.splitlines())
-    with hags_client.connect(settings, options.node, f"config-{os.getpid()}") as client:
-        return follow(Voter(client, nodes, options.never, options.propose), client)
+    with hags.Client(options.settings, options.node, f"config-{os.getpid()}") as client:
+        return follow(Voter(client, len(client.settings.nodes), options.never, options.propose), client)
 
 
 if __name__ == "__main__":
@@ -142,7 +138,7 @@ if __name__ == "__main__":
         signal.signal(number, lambda *_: sys.exit())  # so that it says goodbye
     try:
         sys.exit(0 if main() else 1)
-    except (hags_client.HagsError, OSError, UnicodeError) as error:
+    except (hags.HagsError, OSError) as error:
         sys.exit(f"config.py: {error}")
     except KeyboardInterrupt:
         pass

@@ -1,0 +1,27 @@
+"""Clients of hags, group membership for clusters. `Client` is for plain code and `AsyncClient` for asyncio; recipes are
+what programs mostly build on them: a `Lock`, the election of a `Leader`, a `Barrier`, a `Value` that changes by vote, a
+`Watch`, and work in `Shares`. docs/clients/python.md has all of it, and docs/recipes.md how the recipes are used."""
+
+from .aio import AsyncClient
+from .calls import APPROVE, CONTINUE, REJECT, Attributes
+from .client import Client
+from .core import Membership
+from .errors import (
+    BadArgument,
+    BadSettings,
+    BrokenBarrier,
+    CallRefused,
+    ClientClosed,
+    DaemonFull,
+    HagsError,
+    LockLost,
+    NoMajority,
+    NoReply,
+    Rejected,
+    SessionLost,
+    TimedOut,
+)
+from .events import HOSTS, Asked, Cast, Event, Heard, Hosts, Noted, Told
+from .ids import Host, Member, Token, View
+from .recipes import Barrier, Change, Leader, Lock, Share, Shares, Value, Watch
+from .settings import Adapter, Place, Settings
