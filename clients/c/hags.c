@@ -167,14 +167,20 @@ static bool protocol_of(char *word, hags_protocol *protocol) {
     return word && view_at(&word, &protocol->view) && byte_at(&word, '/') && word_at(&word, &protocol->place) && !*word;
 }
 
-static bool members_of(char *word, bool are_hosts, hags_provider *room, hags_members *members) {
+/* Providers, joined by commas. Behind each there may be a byte `mark` with letters. */
+static bool marked_members_of(char *word, bool are_hosts, char mark, hags_provider *room, hags_members *members) {
     if (!word) return false;
     *members = (hags_members){0, room};
     if (!strcmp(word, "-")) return true;
     do {
         if (!provider_at(&word, are_hosts, &room[members->count++])) return false;
+        if (mark && (!byte_at(&word, mark) || !(word += strspn(word, LETTERS)))) return false;
     } while (byte_at(&word, ','));
     return !*word;
+}
+
+static bool members_of(char *word, bool are_hosts, hags_provider *room, hags_members *members) {
+    return marked_members_of(word, are_hosts, 0, room, members);
 }
 
 static int digit_of(char byte) {
@@ -269,19 +275,87 @@ static bool read_noted(words *line, hags_provider *room, hags_noted *it) {
            value_of(next_word(line), &it->value) && !line->at;
 }
 
-static bool read_put(words *line, hags_put *it) {
+/* Words as `limit=20`, up to the line's end. What a later daemon may write besides is passed over. */
+static bool read_attributes(words *line, hags_attributes *it) {
+    static const char *const batches[] = {"none", "joins", "failures", "both"};
+    for (char *name; (name = next_word(line));) {
+        char *value = strchr(name, '=');
+        if (!value) return false;
+        *value++ = 0;
+        uint32_t number = 0;
+        bool is_limit = !strcmp(name, "limit") || !strcmp(name, "slimit");
+        if (is_limit && !number_of(value, UINT32_MAX, &number)) return false;
+        if (!strcmp(name, "phases")) it->by_vote = !strcmp(value, "n");
+        if (!strcmp(name, "sphases")) it->source_by_vote = !strcmp(value, "n");
+        if (!strcmp(name, "default")) it->rejects = !strcmp(value, "reject");
+        if (!strcmp(name, "limit")) it->limit = number;
+        if (!strcmp(name, "slimit")) it->source_limit = number;
+        if (!strcmp(name, "source")) it->source = value;
+        for (int batch = 0; !strcmp(name, "batch") && batch < 4; batch++)
+            if (!strcmp(value, batches[batch])) it->batch = (unsigned)batch;
+    }
+    return !line->at;
+}
+
+/* PROVIDER/NUMBER */
+static bool asker_of(char *word, hags_put *it) {
+    return word && provider_at(&word, false, &it->asker) && byte_at(&word, '/') && word_at(&word, &it->request) && !*word;
+}
+
+static bool read_proposal(words *line, hags_provider *room, hags_put *it) {
+    if (!kind_of(next_word(line), &it->kind)) return false;
+    switch (it->kind) {
+        case HAGS_JOIN: return members_of(next_word(line), false, room, &it->providers) && read_attributes(line, &it->attributes);
+        case HAGS_LEAVE: return asker_of(next_word(line), it) && !line->at;
+        case HAGS_FAIL:
+            it->detail = line->at;
+            return marked_members_of(next_word(line), false, ':', room, &it->providers) && !line->at;
+        case HAGS_EXPEL:
+            return asker_of(next_word(line), it) && members_of(next_word(line), false, room, &it->providers) && !line->at;
+        case HAGS_STATE:
+        case HAGS_MESSAGE: return asker_of(next_word(line), it) && value_of(next_word(line), &it->value) && !line->at;
+        case HAGS_ATTRIBUTES: return asker_of(next_word(line), it) && read_attributes(line, &it->attributes);
+        case HAGS_REFLECT:
+            return protocol_of(next_word(line), &it->protocol) && value_of(next_word(line), &it->value) && !line->at;
+        case HAGS_NO_KIND: break;
+    }
+    return false;
+}
+
+/* What closes a phase, or says who is late in it: the protocol and the phase, rows or providers, and a value. */
+static bool read_closed(words *line, hags_provider *room, hags_put *it) {
+    uint32_t phase;
+    if (!protocol_of(next_word(line), &it->protocol) || !number_of(next_word(line), UINT16_MAX, &phase)) return false;
+    it->phase = phase;
+    if (it->step == HAGS_LATE_VOTERS) return members_of(next_word(line), false, room, &it->providers) && !line->at;
+    it->detail = line->at;
+    if (!marked_members_of(next_word(line), false, '=', room, &it->providers)) return false;
+    if (it->step == HAGS_REJECT) return !line->at;
+    char *value = next_word(line);
+    return value && !line->at && (!strcmp(value, "-") || value_of(value, &it->value));
+}
+
+static bool read_put(words *line, hags_provider *room, hags_put *it) {
+    static const char *const steps[] = {"once", "begin", "phase", "approve", "reject", "late"};
     uint32_t node;
+    char *step;
+    *it = (hags_put){.kind = HAGS_NO_KIND};
     if (!number_of(next_word(line), MOST_NODES, &node) || !view_of(next_word(line), &it->view) ||
-        !(it->group = next_word(line)) || !number_of(next_word(line), UINT32_MAX, &it->place) || !line->at)
+        !(it->group = next_word(line)) || !number_of(next_word(line), UINT32_MAX, &it->place))
         return false;
     it->node = node;
     it->entry = line->at;
-    return true;
+    if (!(step = next_word(line))) return false;
+    for (int at = HAGS_ONCE; at <= HAGS_LATE_VOTERS; at++) {
+        it->step = (hags_step)at;
+        if (!strcmp(step, steps[at])) return at <= HAGS_BEGIN ? read_proposal(line, room, it) : read_closed(line, room, it);
+    }
+    return false;
 }
 
 static bool read_event(hags_event *event, words line, hags_provider *room) {
     static const char *const names[] = {"asked", "heard", "cast", "told", "noted", "put"};
-    const char *name = next_word(&line);
+    const char *start = line.at, *name = next_word(&line);
     int what = HAGS_ASKED;
     while (name && what < HAGS_OTHER && strcmp(name, names[what])) what++;
     event->what = (hags_what)what;
@@ -292,7 +366,10 @@ static bool read_event(hags_event *event, words line, hags_provider *room) {
         case HAGS_CAST: return read_cast(&line, &event->cast);
         case HAGS_TOLD: return read_told(&line, &event->told);
         case HAGS_NOTED: return read_noted(&line, room, &event->noted);
-        case HAGS_PUT: return read_put(&line, &event->put);
+        case HAGS_PUT:
+            if (!read_put(&line, room, &event->put)) return false;
+            event->put.entry = event->line + (event->put.entry - start); /* whole, and not cut into words */
+            return true;
         case HAGS_OTHER: break;
     }
     return false;

@@ -162,14 +162,35 @@ typedef struct {
     hags_bytes value;
 } hags_noted;
 
-/* The entry itself, as `once state 1.5.7.2/3 =red`, before it is heard. Daemons that tell clients of entries write it;
- * others do not. */
+/* Attributes of a group. All zero is what NULL stands for: one phase, no batch, approval by default, no limit, no source. */
+typedef struct {
+    bool by_vote;                                                     /* joins, and the removal of who failed */
+    enum { HAGS_SINGLY, HAGS_JOINS, HAGS_FAILURES, HAGS_BOTH } batch; /* which of these begin together */
+    bool rejects;                                                     /* the vote of who gives none */
+    unsigned limit;                                                   /* ticks that a phase may take, 0 any */
+    const char *source;                                               /* the group that this one follows, or NULL */
+    bool source_by_vote;
+    unsigned source_limit;
+} hags_attributes;
+
+/* The entry itself, as `once state 1.5.7.2/3 =red`, in the line before it is heard first. Daemons that tell clients of
+ * entries write it; others do not. What its step and kind have not is zero. */
 typedef struct {
     unsigned node;
     hags_view view;
     const char *group;
     uint32_t place;
-    const char *entry;
+    const char *entry; /* its text */
+    hags_step step;
+    hags_kind kind;             /* at HAGS_ONCE and HAGS_BEGIN */
+    hags_provider asker;        /* of a leave, expel, state, message, attributes */
+    uint32_t request;           /* and its number */
+    hags_members providers;     /* who joins, failed, is expelled, is late, or voted */
+    const char *detail;         /* those who failed, as `1.5.7.2:died,..`; votes, as `1.5.7.2=A,..`; else NULL */
+    hags_bytes value;           /* of a state, message or reflection; the value that a phase or approval brings, if any */
+    hags_attributes attributes; /* of a join or a change of attributes */
+    hags_protocol protocol;     /* which a phase, approval, rejection or late voters are of; of a reflection the source's place */
+    unsigned phase;             /* that closed, or in which they are late */
 } hags_put;
 
 /* HAGS_OTHER is a line that this client cannot take apart, as a later daemon may write one. */
@@ -192,17 +213,6 @@ typedef struct {
 
 /* The event that a line is, of so many bytes; NULL where memory has run out. */
 hags_event *hags_event_of(const char *line, size_t length);
-
-/* Attributes of a group. All zero is what NULL stands for: one phase, no batch, approval by default, no limit, no source. */
-typedef struct {
-    bool by_vote;                                                       /* joins, leaves of failed members and so on */
-    enum { HAGS_SINGLY, HAGS_JOINS, HAGS_FAILURES, HAGS_BOTH } batch;   /* which of them begin together */
-    bool rejects;                                                       /* the vote of who gives none */
-    unsigned limit;                                                     /* ticks that a phase may take, 0 any */
-    const char *source;                                                 /* the group that this one follows, or NULL */
-    bool source_by_vote;
-    unsigned source_limit;
-} hags_attributes;
 
 /* A client of the daemon of a node, without a session. `settings` is the text that the daemon reads. NULL where it has no
  * such node or no address of it (EINVAL), or where memory (ENOMEM) or the system failed; errno says so. */

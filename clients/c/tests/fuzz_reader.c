@@ -17,7 +17,13 @@ static void use(const hags_event *event) {
             break;
         case HAGS_ASKED: sum += strlen(event->asked.group); break;
         case HAGS_TOLD: sum += strlen(event->told.code) + strlen(event->told.detail); break;
-        case HAGS_PUT: sum += strlen(event->put.entry) + strlen(event->put.group); break;
+        case HAGS_PUT:
+            sum += strlen(event->put.entry) + strlen(event->put.group);
+            sum += event->put.detail ? strlen(event->put.detail) : 0;
+            sum += event->put.attributes.source ? strlen(event->put.attributes.source) : 0;
+            for (size_t at = 0; at < event->put.providers.count; at++) sum += event->put.providers.list[at].join;
+            for (size_t at = 0; at < event->put.value.length; at++) sum += (unsigned char)event->put.value.bytes[at];
+            break;
         case HAGS_CAST:
             for (size_t at = 0; at < event->cast.value.length; at++) sum += (unsigned char)event->cast.value.bytes[at];
             break;
@@ -62,6 +68,11 @@ static const char *const LINES[] = {
     "told 1.5.7.1 0 LIST_FULL 4096/12",
     "noted 2.bob 3.1.5 HostMembership - 1.5,2.9 =",
     "put 1 3.1.5 db 4 once message 1.5.7.1/3 =hello",
+    "put 1 3.1.5 db 4 begin join 1.5.7.1,2.5.8.2 phases=n batch=both default=reject limit=20 source=disk sphases=n slimit=7",
+    "put 1 3.1.5 db 4 once expel 1.5.7.1/3 2.5.8.2,3.5.9.1",
+    "put 1 3.1.5 db 4 once fail 1.5.7.1:died,2.5.8.2:gone",
+    "put 1 3.1.5 db 4 phase 3.1.5/2 1 1.5.7.1=A,2.5.8.2=LR =new%20one",
+    "put 1 3.1.5 db 4 late 3.1.5/2 9 1.5.7.1",
     "refused 1.a BAD_PARAMETER value",
     "refused 1.a",
 };

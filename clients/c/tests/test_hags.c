@@ -437,7 +437,38 @@ static void test_events(void) {
     it = event_of("put 1 3.1.5 db 4 once message 1.5.7.1/3 =hello");
     CHECK(it->what == HAGS_PUT && it->put.place == 4 && !strcmp(it->put.entry, "once message 1.5.7.1/3 =hello"));
     free(it);
+    it = event_of("put 1 3.1.5 db 4 begin join 1.5.7.1,2.5.8.2 phases=n batch=both default=reject limit=20 source=disk "
+                  "sphases=n slimit=7 src=3");
+    CHECK(it->what == HAGS_PUT && it->put.providers.count == 2 && it->put.attributes.by_vote && it->put.attributes.rejects);
+    CHECK(it->put.attributes.batch == HAGS_BOTH && it->put.attributes.limit == 20 && it->put.attributes.source_limit == 7);
+    CHECK(!strcmp(it->put.attributes.source, "disk") && it->put.attributes.source_by_vote && it->put.step == HAGS_BEGIN);
+    free(it);
+    it = event_of("put 1 3.1.5 db 4 once fail 1.5.7.1:died,2.5.8.2:gone");
+    CHECK(it->what == HAGS_PUT && it->put.kind == HAGS_FAIL && it->put.providers.list[1].node == 2);
+    free(it);
+    it = event_of("put 1 3.1.5 db 4 once expel 1.5.7.1/3 2.5.8.2,3.5.9.1");
+    CHECK(it->what == HAGS_PUT && it->put.request == 3 && it->put.asker.instance == 7 && it->put.providers.count == 2);
+    free(it);
+    it = event_of("put 1 3.1.5 db 4 phase 3.1.5/2 1 1.5.7.1=A,2.5.8.2=LR =new%20one");
+    CHECK(it->what == HAGS_PUT && it->put.phase == 1 && it->put.protocol.place == 2 && it->put.value.length == 7);
+    CHECK(!strcmp(it->put.detail, "1.5.7.1=A,2.5.8.2=LR") && it->put.providers.count == 2 && it->put.kind == HAGS_NO_KIND);
+    free(it);
+    it = event_of("put 1 3.1.5 db 4 reject 3.1.5/2 1 -");
+    CHECK(it->what == HAGS_PUT && it->put.step == HAGS_REJECT && !it->put.providers.count);
+    free(it);
+    it = event_of("put 1 3.1.5 db 4 approve 3.1.5/2 9 1.5.7.1=A -");
+    CHECK(it->what == HAGS_PUT && !it->put.value.bytes && it->put.phase == 9);
+    free(it);
+    it = event_of("put 1 3.1.5 db 4 late 3.1.5/2 9 1.5.7.1");
+    CHECK(it->what == HAGS_PUT && it->put.step == HAGS_LATE_VOTERS && it->put.providers.count == 1);
+    free(it);
+    it = event_of("put 1 3.1.5 db 4 begin reflect 2.1.5/9 =x");
+    CHECK(it->what == HAGS_PUT && it->put.protocol.place == 9 && it->put.value.length == 1);
+    free(it);
     static const char *const others[] = {
+        "put 1 3.1.5 db 4 once", "put 1 3.1.5 db 4 once state 1.5.7.1 =x", "put 1 3.1.5 db 4 once leave 1.5.7.1/3 x",
+        "put 1 3.1.5 db 4 phase 3.1.5/2 1 1.5.7.1 -", "put 1 3.1.5 db 4 approve 3.1.5/2 1 1.5.7.1=A", "put 1 3.1.5 db 4 new x",
+        "put 1 3.1.5 db 4 once join 1.5.7.1 limit=x", "put 1 3.1.5 db 4 once join 1.5.7.1 limit", "put 1 3.1.5 db 4 reject 3.1.5/2 1 - -",
         "", " ", "new", "asked", "asked 1.5.7.1 1 db", "asked 1.5.7.1 1 db join more", "asked 1.5.7 1 db join",
         "asked 1.5.7.1 01 db join", "asked 1.5.7.1 4294967296 db join", "asked 33.5.7.1 1 db join", "asked 1.5.7.1 1  join",
         "asked 1.5.65536.1 1 db join", "heard 1.5.7.1 3.1.5 db 0 once-new - =", "heard 1.5.7.1 3.1.5 db 0 once-join - ",
