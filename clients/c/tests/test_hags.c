@@ -173,8 +173,8 @@ static void test_repeats(void) {
     CHECK(hags_call(client, "join a db 7") == HAGS_LATE && hags_answer(client) == HAGS_LATE);
     CHECK(hags_call(client, "join a db 7") == HAGS_BUSY);
     for (int it = 0; it < 5; it++) {
-        take_up(client);
-        CHECK(up_number() == 2 && !strcmp(up_line(), "join a db 7"));
+        take_up_with(client, 2, 0);
+        CHECK(!strcmp(up_line(), "join a db 7"));
     }
     send_down(2, 1, 1, "asked 1.5.7.1 1 db join\nheard 1.5.7.1 1.1.5 db 0 once-join 1.5.7.1 =");
     take_up_with(client, 2, 2);
@@ -349,7 +349,7 @@ static void test_close(void) {
     hags *client = client_of("");
     open_client(client);
     CHECK(hags_close(client) == HAGS_LATE);
-    take_up(client);
+    take_up_with(client, 2, 0);
     CHECK(!strcmp(up_line(), "goodbye a"));
     send_down(2, 1, 1, "");
     settle(client);
