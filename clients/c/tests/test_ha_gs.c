@@ -16,7 +16,7 @@
 #include <unistd.h>
 
 #define CHECK(what) ((what) ? (void)0 : fail(__LINE__, #what))
-enum { HEAD = 25, TAKEN = 1, REFUSED = 2, LOSE = 9 };
+enum { LONGEST = 120 /* seconds */, HEAD = 25, TAKEN = 1, REFUSED = 2, LOSE = 9 };
 
 static void fail(int line, const char *what) {
     fprintf(stderr, "test_ha_gs.c:%d: %s\n", line, what);
@@ -318,6 +318,7 @@ int main(void) {
     ha_gs_descriptor_t descriptor;
     pthread_t daemon;
     int node;
+    alarm(LONGEST);
     write_settings();
     check_without_session();
     CHECK(!pthread_create(&daemon, NULL, serve, NULL));
