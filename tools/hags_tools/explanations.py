@@ -1,5 +1,5 @@
 """Plain sentences for refusals, `told` records and bad lines, which `tools/annotate --explain` prints."""
-import playing
+from hags_tools import playing, records
 
 # The form of each kind of line, and what its own words are.
 FORMS = {
@@ -61,13 +61,11 @@ class Names:
         self.kind_of = {}
 
     def learn(self, step, record):
-        words = record.split()
-        if words[0] == "asked":
-            provider, request, group, kind = words[1:5]
-            self.kind_of[provider, request] = kind
-            self.group_of[provider] = group
-            if kind == "join":
-                self.client_of[provider] = step.words()[1]
+        if isinstance(record, records.Asked):
+            self.kind_of[record.provider, record.request] = record.kind
+            self.group_of[record.provider] = record.group
+            if record.kind == "join":
+                self.client_of[record.provider] = step.words()[1]
 
     def client(self, provider):
         return self.client_of.get(provider, provider)
@@ -75,16 +73,15 @@ class Names:
 
 def of_record(step, record, names):
     """The sentence for a record of a step, empty for one that needs none."""
-    words = record.split()
-    if words[0] == "refused":
-        return _of_refusal(step.words(), words[1], words[2], words[3:])
-    if words[0] == "told":
-        return _of_telling(words[1], words[2], words[3], words[4:], names)
+    if isinstance(record, records.Refused):
+        return _of_refusal(step.words(), record)
+    if isinstance(record, records.Told):
+        return _of_telling(record, names)
     return ""
 
 
-def _of_refusal(call, client, code, rest):
-    node, name = client.split(".", 1)
+def _of_refusal(call, record):
+    node, name, code, rest = record.node, record.name, record.code, record.detail
     group = call[2] if len(call) > 2 else ""
     if code == "NO_INIT":
         return (
@@ -141,7 +138,8 @@ def _of_parameter(name, group, field):
     }[field]
 
 
-def _of_telling(provider, request, code, rest, names):
+def _of_telling(record, names):
+    provider, request, code, rest = record
     name = names.client(provider)
     group = names.group_of.get(provider, "its group")
     kind = names.kind_of.get((provider, request), "")
