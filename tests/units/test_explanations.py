@@ -1,10 +1,10 @@
-"""The sentences of tools/annotate --explain that need no program: each head of a line has a form, each code a sentence."""
+"""The sentences of tools/annotate --explain that need no program: each code has one."""
 import re
 import unittest
 
 import context
 from hags_tools import explanations, records
-from hags_tools.playing import Step, Steps
+from hags_tools.playing import Step
 
 MESSAGES = (context.TOP / "docs" / "messages.md").read_text()
 
@@ -29,16 +29,6 @@ class Sentences(unittest.TestCase):
         for code in codes:
             with self.subTest(code):
                 self.assertTrue(sentence("join a db 1", f"told 1.1.7.1 1 {code} 64"))
-
-    def test_each_reason_has_a_sentence(self):
-        part = MESSAGES.split("## Reasons of a bad line")[1].split("\n## ")[0]
-        reasons = re.findall(r"^\| `([a-z ]+)`", part, re.MULTILINE)
-        self.assertGreater(len(reasons), 11)
-        lines = {"bad byte": b"node\t1", "unknown client": b"join b db 1"}
-        for reason in reasons:
-            step = Step(1, lines.get(reason, b"node 33"))
-            with self.subTest(reason):
-                self.assertTrue(explanations.of_failure(Steps([], step, f"hags: line 1: {reason}", 2)))
 
 
 if __name__ == "__main__":

@@ -1,56 +1,5 @@
-"""Plain sentences for refusals, `told` records and bad lines, which `tools/annotate --explain` prints."""
-from hags_tools import playing, records
-
-# The form of each kind of line, and what its own words are.
-FORMS = {
-    "mode": ("mode fixed|asked|rings", ""),
-    "node": ("node N", "N is from 1 to 32"),
-    "adapter": ("adapter N NET A.B.C.D", "N is from 1 to 32, NET from 1 to 4, and the address is not 0.0.0.0"),
-    "hb": ("hb F S", "F is from 1 to 100 and S from 2 to 100"),
-    "port": ("port P", "P is from 1 to 65000"),
-    "level": ("level N J", "N is from 1 to 32, and J is at least 1"),
-    "domain": ("domain D", "D is at least 1"),
-    "begin": ("begin", ""),
-    "start": ("start N", "N is from 1 to 32"),
-    "stop": ("stop N", "N is from 1 to 32"),
-    "ask": ("ask N M..", "N and each M are from 1 to 32"),
-    "tick": ("tick N", "N is from 1 to 32"),
-    "run": ("run K", "K is from 1 to 10000"),
-    "deliver": ("deliver A B K", "A and B are from 1 to 32, and K is a number"),
-    "drop": ("drop A B", "A and B are from 1 to 32"),
-    "flow": ("flow", ""),
-    "cut": ("cut A B [NET]", "A and B are from 1 to 32, NET from 1 to 4"),
-    "heal": ("heal A B [NET]", "A and B are from 1 to 32, NET from 1 to 4"),
-    "garbage": ("garbage N HEX", "N is from 1 to 32, and HEX is pairs of hex digits"),
-    "show": ("show N WHAT", "N is from 1 to 32, and WHAT is hats, hagsns, hagsgr or hagsvote"),
-    "client": ("client N NAME VOTES", "N is from 1 to 32, and VOTES is words like V and - joined by commas"),
-    "join": ("join NAME GROUP INSTANCE ATTR..", "INSTANCE is from 0 to 65535"),
-    "leave": ("leave NAME GROUP PH", ""),
-    "expel": ("expel NAME GROUP PH P..", "each P is a provider as 1.1.7.1"),
-    "state": ("state NAME GROUP PH TEXT", ""),
-    "message": ("message NAME GROUP PH TEXT", ""),
-    "attrs": ("attrs NAME GROUP PH ATTR..", ""),
-    "vote": ("vote NAME GROUP V", ""),
-    "subscribe": ("subscribe NAME GROUP", ""),
-    "unsubscribe": ("unsubscribe NAME GROUP", ""),
-    "goodbye": ("goodbye NAME", ""),
-}
-# What a word is that stands in many forms.
-PLACES = {
-    "NAME": "NAME has 1 to 16 letters, digits, `_`, `-` and `.`",
-    "GROUP": "GROUP has 1 to 64 letters, digits, `_`, `-` and `.`",
-    "PH": "PH is 1 (at once) or n (by votes)",
-    "TEXT": "in TEXT, %XX stands for any byte, and ~ alone is the empty text",
-    "VOTES": "V is A, C or R, with =TEXT behind it or not",
-    "V": "V is A, C or R, with =TEXT behind it or not",
-    "ATTR..": (
-        "each ATTR, at most once, is phases=1|n, batch=none|joins|failures|both, default=approve|reject, limit=T, "
-        "source=GROUP, sphases=1|n or slimit=T"
-    ),
-}
-# How many words of a form may be left out.
-OPTIONAL = {"cut": 1, "heal": 1, "join": 1, "attrs": 1}
-
+"""Plain sentences for refusals, `told` records and the end of a play, which `tools/annotate --explain` prints."""
+from hags_tools import playing, reading, records
 
 class Names:
     """What is known of the providers and requests of a run, so that a sentence can name them."""
@@ -179,8 +128,8 @@ def _of_telling(record, names):
     return ""
 
 
-def of_failure(played):
-    """The sentence for the line at which a play ended."""
+def of_failure(played, script):
+    """The sentence for the line of a script at which its play ended."""
     if played.status != playing.BAD_LINE:
         return {
             3: "Memory ran out here; what stands above was written.",
@@ -188,75 +137,4 @@ def of_failure(played):
             5: "The transcript could not be written to its end.",
             7: "The packets of a run have at most 536870912 bytes, and pass that here. Play a shorter script.",
         }[played.status]
-    begun = any(step.words() == ["begin"] for step in played.steps)
-    return _of_bad_line(played.failed, played.said.split(": ", 2)[2], begun)
-
-
-def _form_of(word):
-    form, own = FORMS[word]
-    notes = [own] if own else []
-    notes += [PLACES[place] for place in form.split() if place in PLACES]
-    return f"Write `{form}`" + (f", where {'; '.join(notes)}." if notes else ".")
-
-
-def _of_bad_line(step, reason, begun):
-    words = step.words()
-    head = words[0] if words else ""
-    if reason == "long":
-        return "A script has at most 16777216 bytes, and passes them in this line."
-    if reason == "bad byte":
-        return _of_bad_byte(step)
-    if reason == "unknown word" and head.startswith("#"):
-        return "A comment has its # as the first byte of the line."
-    if reason == "unknown word":
-        return f"No line begins with `{head}`. A line begins with one of: {' '.join(FORMS)}; or with # for a comment."
-    if reason == "missing word":
-        least = len(FORMS[head][0].split()) - 1 - OPTIONAL.get(head, 0)
-        if len(words) - 1 >= least:
-            return "The line has its words, but the script ends without a line feed behind them. End the line with one."
-        return f"{len(words) - 1} words follow `{head}`, and {least} are wanted. {_form_of(head)}"
-    if reason == "extra word":
-        return _form_of(head)
-    if reason == "bad word":
-        return f"{_form_of(head)} A number is digits without a zero in front."
-    if reason == "unknown node":
-        return "A node that this line names has no `node` line above. Add one before `begin`."
-    if reason == "unknown client":
-        return f"No line above makes the client {words[1]}. Write `client N {words[1]} VOTES` before."
-    if reason == "out of place":
-        return _of_misplaced(head, words, begun)
-    if reason == "no shared network":
-        return "Two nodes have adapters on no network in common. Each two nodes need one: add `adapter` lines."
-    if reason == "is a packet":
-        return "These bytes spell a packet, and `garbage` takes none. Use `deliver` for packets that were sent."
-    if reason == "boxed client":
-        return "A script cannot play a boxed client. Say how it votes, as A or C,A or -."
-    return ""
-
-
-def _of_bad_byte(step):
-    if step.line.endswith(b"\r"):
-        return "The line ends with a carriage return (CR LF, as of Windows). End each line with a line feed alone."
-    for byte in step.line:
-        if byte == 0x09:
-            return "There is a tab in the line. Part words by spaces."
-        if not 0x20 <= byte < 0x7F:
-            return (
-                f"The byte {byte:02X} (hex) stands in the line. A script is printable ASCII, spaces and line feeds; in a text "
-                f"write %{byte:02X}."
-            )
-    return ""
-
-
-def _of_misplaced(head, words, begun):
-    if head in playing.SETTINGS or head == "begin":
-        return "Settings come before `begin`, and each line of them is given once, as `begin` is."
-    if not begun:
-        return "Events and calls come after `begin`."
-    if head in ("start", "stop"):
-        return "In mode fixed all nodes are up from the start and stay. Use mode asked or rings."
-    if head == "ask":
-        return "Views are ordered in mode asked alone, and the node asks for a view that it is in: `ask 1 1 2`."
-    if head == "client":
-        return f"An earlier line has {words[2]} at another node. In a script each name has one node."
-    return ""
+    return reading.read(script, reading.SCRIPT)[1].advice
