@@ -2,13 +2,10 @@
 rise. A case has a play that only gets ready, and one that then does its units of work too: the difference is what the
 work costs."""
 import os
-import pathlib
 import subprocess
 import sys
 import tempfile
 from dataclasses import dataclass
-
-PROGRAM = pathlib.Path(__file__).resolve().parent.parent / "crates" / "hags" / "out" / "hags"
 
 
 @dataclass(frozen=True)

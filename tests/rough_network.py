@@ -9,7 +9,7 @@ import select
 import time
 from dataclasses import dataclass
 
-import daemons
+from hags_tools import daemons
 
 MOST_BYTES = 65_536
 

@@ -9,7 +9,6 @@ import sys
 from concurrent.futures import ThreadPoolExecutor
 from dataclasses import dataclass, field
 
-HAGS = pathlib.Path(__file__).resolve().parent.parent / "hags"
 SETTINGS = {"mode", "node", "adapter", "hb", "port", "level", "domain"}
 DONE, BAD_LINE = 0, 2
 

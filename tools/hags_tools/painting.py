@@ -6,8 +6,8 @@ import math
 import textwrap
 from dataclasses import dataclass
 
-import chart as model
-import svg
+from hags_tools import chart as model
+from hags_tools import svg
 
 # Neighbours in this list are far apart; any two of it differ.
 SHADES = (

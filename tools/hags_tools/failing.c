@@ -1,6 +1,6 @@
 /* Lets calls of a program to the C library fail. FAIL_CALLS is a kind of call, and the numbers, from 1, of the first and the
    last of them that fail, as "recv 20 35". At the program's end the count of each kind is written to the file that
-   COUNT_CALLS names, a line each. tools/failing.py builds this, and has it loaded before the C library. */
+   COUNT_CALLS names, a line each. failing.py builds this, and has it loaded before the C library. */
 #define _GNU_SOURCE
 #include <dlfcn.h>
 #include <errno.h>

@@ -1,4 +1,4 @@
-"""Runs a command while calls of it to the C library fail (tools/failing.c): requests for memory, takes of standard input,
+"""Runs a command while calls of it to the C library fail (failing.c): requests for memory, takes of standard input,
 puts to standard output, what it says on standard error, and the opens, sends and receives of its sockets. Wants a C
 compiler and Linux."""
 import os

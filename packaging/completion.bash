@@ -1,0 +1,24 @@
+# Completion of hags in bash.
+_hags() {
+    local word=${COMP_WORDS[COMP_CWORD]} before=${COMP_WORDS[COMP_CWORD - 1]} command=${COMP_WORDS[1]} words=
+    if [ "$COMP_CWORD" = 1 ]; then
+        words='run load daemon status client --help --version'
+    else
+        case $before in
+            --kinds) words='up down ring in base put heard cast asked told noted refused show' ;;
+            --node) words=$(seq 1 32) ;;
+            --inc | --turns) return ;;
+            *)
+                case $command in
+                    run) words='--kinds' ;;
+                    daemon) words='--node --inc --turns --remote' ;;
+                    status) words='hats hagsns hagsgr hagsvote --node --turns' ;;
+                    client) words='--node --turns' ;;
+                esac
+                [ "$COMP_CWORD" != 2 ] || words="$words --help --version"
+                ;;
+        esac
+    fi
+    mapfile -t COMPREPLY < <(compgen -W "$words" -- "$word")
+}
+complete -o default -F _hags hags

@@ -1,0 +1,218 @@
+"""Daemons on this machine, at loopback addresses: their settings, their ports, each one's lives, and what they answer.
+
+Node N has 127.0.0.N on network 1, 127.0.1.N on network 2 and so on."""
+import ctypes
+import signal
+import socket
+import subprocess
+import time
+from dataclasses import dataclass
+
+from hags_tools import records
+from hags_tools.programs import TOP
+
+LAST_PORT = 65_000
+LINK_FAULT, NO_REPLY = 6, 9
+STARTS = 5
+DIE_WITH_PARENT = 1  # PR_SET_PDEATHSIG of Linux
+libc = ctypes.CDLL(None)
+
+
+class DaemonError(Exception):
+    """A daemon did what it should not."""
+
+
+def bound(port):
+    """A UDP socket at this port on all addresses; at any free one for 0."""
+    opened = socket.socket(socket.AF_INET, socket.SOCK_DGRAM)
+    try:
+        opened.bind(("0.0.0.0", port))
+    except OSError:
+        opened.close()
+        raise
+    return opened
+
+
+def row_of_sockets(count):
+    """Sockets at so many ports in a row that are free."""
+    for _ in range(1000):
+        row = [bound(0)]
+        first = row[0].getsockname()[1]
+        try:
+            if 2 <= first <= LAST_PORT - count:
+                row += [bound(port) for port in range(first + 1, first + count)]
+                return row
+        except OSError:
+            pass
+        for one in row:
+            one.close()
+    raise DaemonError(f"the system has no {count} free ports in a row")
+
+
+def free_port(nodes):
+    """What the settings can have as `port`, so that the ports of nodes 1 to so many are free."""
+    row = row_of_sockets(nodes)
+    port = row[0].getsockname()[1] - 1
+    for one in row:
+        one.close()
+    return port
+
+
+@dataclass(frozen=True)
+class Plan:
+    """What the settings of all daemons have in common."""
+
+    nodes: int
+    networks: int = 1
+    heartbeat: tuple = (1, 4)
+    levels: tuple = ()
+    calls: tuple = ()
+
+    def settings(self, port):
+        numbers = range(1, self.nodes + 1)
+        lines = [f"node {node}" for node in numbers]
+        for network in range(1, self.networks + 1):
+            lines += [f"adapter {node} {network} 127.0.{network - 1}.{node}" for node in numbers]
+        lines += ["hb {} {}".format(*self.heartbeat), f"port {port}"]
+        lines += [f"level {node} 1" for node in self.levels]
+        return "".join(f"{line}\n" for line in [*lines, "begin", *self.calls])
+
+
+class Daemon:
+    """The daemon of a node. `lives` are the transcripts of its starts, in their order; all of its files are in `folder`.
+    `words` are words more for each start, as --remote."""
+
+    def __init__(self, program, node, settings, folder, turns=None, words=()):
+        self.program, self.node, self.folder = str(program), node, folder
+        self.settings = folder / f"settings-{node}"
+        self.settings.write_text(settings)
+        self.turns, self.words = turns, words
+        self.process = None
+        self.lives = []
+
+    def start(self):
+        """Starts it by tools/hags-daemon, which raises its incarnation. It ends where this process ends."""
+        life = len(self.lives) + 1
+        transcript = self.folder / f"node-{self.node}-life-{life}"
+        kept = self.folder / f"incarnation-{self.node}"
+        words = [TOP / "tools" / "hags-daemon", "--kept", kept, "--program", self.program, "--node", str(self.node)]
+        words += [*self.words, *(["--turns", str(self.turns)] if self.turns else [])]
+        said = transcript.with_suffix(".said")
+        with self.settings.open() as settings, transcript.open("w") as out, said.open("w") as err:
+            self.process = subprocess.Popen(words, stdin=settings, stdout=out, stderr=err, preexec_fn=die_with_parent)
+        self.lives.append(transcript)
+
+    def end(self):
+        """How its last life ended."""
+        said = self.lives[-1].with_suffix(".said").read_text(errors="replace").strip()
+        return f"the daemon of node {self.node} has ended with status {self.process.returncode}: {said}"
+
+    def is_alive(self):
+        return self.process is not None and self.process.poll() is None
+
+    def member(self):
+        """The node with its incarnation, once its last life has written it."""
+        with self.lives[-1].open() as transcript:
+            first = transcript.readline()
+        words = first.split()
+        return f"{words[1]}.{words[2]}" if first.endswith("\n") and words[0] == "up" else None
+
+    def signal(self, number):
+        self.process.send_signal(number)
+
+    def kill(self):
+        if self.process is not None:
+            self.process.kill()
+            self.process.wait()
+
+    def ask(self, what, turns=50):
+        """Begins to ask it, by `hags status`, and waits so many turns of 20 milliseconds for what it answers."""
+        words = [self.program, "status", what, "--node", str(self.node), "--turns", str(turns)]
+        pipe = subprocess.PIPE
+        with self.settings.open() as settings:
+            return subprocess.Popen(words, stdin=settings, stdout=pipe, stderr=pipe, preexec_fn=die_with_parent)
+
+    def answer(self, asking):
+        """The lines of its answer to a question that has ended; None where there was no reply."""
+        lines, said = asking.communicate()
+        if asking.returncode not in (0, NO_REPLY):
+            said = said.decode(errors="replace").strip()
+            raise DaemonError(f"hags status of node {self.node}: status {asking.returncode}: {said}")
+        return None if asking.returncode else lines.decode("ascii").splitlines()
+
+
+def die_with_parent():
+    libc.prctl(DIE_WITH_PARENT, signal.SIGKILL)
+
+
+class Cluster:
+    """Daemons by their nodes, ended at the end of a `with`. Whatever is waited for is waited for by `pause`, which is a
+    function of seconds as time.sleep."""
+
+    def __init__(self, daemons, pause=time.sleep):
+        self.daemons = {daemon.node: daemon for daemon in daemons}
+        self.pause = pause
+
+    def __enter__(self):
+        return self
+
+    def __exit__(self, *_):
+        for daemon in self.daemons.values():
+            daemon.kill()
+
+    def start(self, nodes=None, seconds=120):
+        """Starts these daemons, all where none is named, and waits until each has written that it is up."""
+        starting = [self.daemons[node] for node in nodes or self.daemons]
+        tries = dict.fromkeys(starting, 1)
+        for daemon in starting:
+            daemon.start()
+
+        def are_up():
+            for daemon in starting:
+                if not daemon.is_alive():
+                    # Another program may have got its port between two of its lives.
+                    if daemon.process.returncode != LINK_FAULT or tries[daemon] == STARTS:
+                        raise DaemonError(daemon.end())
+                    tries[daemon] += 1
+                    daemon.start()
+            return all(daemon.member() for daemon in starting)
+
+        self.wait_for("the first lines", seconds, are_up)
+
+    def ask(self, what, nodes):
+        """What each of these nodes answers, None where it does not."""
+        askings = {node: self.daemons[node].ask(what) for node in nodes}
+        while any(asking.poll() is None for asking in askings.values()):
+            self.pause(0.001)
+        return {node: self.daemons[node].answer(asking) for node, asking in askings.items()}
+
+    def wait_for(self, what, seconds, found):
+        """Waits until this function finds something, and answers that. `what` says for what is waited."""
+        end = time.monotonic() + seconds
+        while True:
+            thing = found()
+            if thing:
+                return thing
+            if time.monotonic() > end:
+                raise DaemonError(f"waited {seconds} s for {what}")
+            self.pause(0.01)
+
+    def views(self, nodes):
+        """The view of each of these nodes, None where it does not answer."""
+        return [records.read_status(lines[0]) if lines else None for lines in self.ask("hagsns", nodes).values()]
+
+    def view_of(self, nodes):
+        """The view in which these nodes are, they alone, each in its last incarnation and none frozen; None where there
+        is no such view."""
+        for node in nodes:
+            daemon = self.daemons[node]
+            if not daemon.is_alive():
+                raise DaemonError(daemon.end())
+        view, *others = self.views(nodes)
+        if not view or view.frozen or any(other != view for other in others):
+            return None
+        return view if view.members == tuple(self.daemons[node].member() for node in sorted(nodes)) else None
+
+    def wait_for_view(self, nodes, seconds=120):
+        names = ", ".join(map(str, sorted(nodes)))
+        return self.wait_for(f"one view of nodes {names}", seconds, lambda: self.view_of(nodes))

@@ -1,0 +1,134 @@
+"""Stays beside a daemon: tells systemd that it is ready and alive, hands signals on, and says what to do where it ends."""
+import ctypes
+import os
+import select
+import signal
+import socket
+import subprocess
+import sys
+
+from hags_tools import asking, checking, reading
+
+DIE_WITH_PARENT = 1  # PR_SET_PDEATHSIG of Linux
+SOON, SELDOM = 0.2, 10  # seconds from one question to the next, until it is ready and then
+TURNS = 50  # of 20 milliseconds, for an answer
+TOLD = {signal.SIGTERM, signal.SIGINT, signal.SIGHUP}
+ENDS = {
+    3: "Memory has run out, or the limit of its memory (MemoryMax= of the unit). What it knew of groups is gone with it; it may start again.",
+    4: "Standard input could not be read: is it a folder?",
+    5: "What it writes finds no place: the disk is full, or the reader of its pipe is gone.",
+}
+libc = ctypes.CDLL(None)
+
+
+def tell_systemd(text):
+    """Sends this to systemd, where that started us and wants to be told."""
+    name = os.environ.get("NOTIFY_SOCKET")
+    if name:
+        with socket.socket(socket.AF_UNIX, socket.SOCK_DGRAM) as told:
+            told.connect("\0" + name[1:] if name.startswith("@") else name)
+            told.sendall(text.encode())
+
+
+def before_start():
+    """In the daemon, before it is one: it ends with us, and a terminal that closes is ours to hear of."""
+    libc.prctl(DIE_WITH_PARENT, signal.SIGKILL)
+    signal.signal(signal.SIGHUP, signal.SIG_IGN)
+
+
+class Supervisor:
+    """Beside the daemon that these words start, of a node in this incarnation."""
+
+    def __init__(self, words, node, incarnation):
+        self.words, self.node, self.member = words, node, f"{node}.{incarnation}"
+        self.program = words[0]
+        self.is_ready = self.is_ending = False
+        self.view = None  # as it was told last
+        watchdog = int(os.environ.get("WATCHDOG_USEC", 0)) / 1_000_000
+        self.pause = min(SELDOM, watchdog / 4) if watchdog else SELDOM
+
+    def run(self):
+        """Runs the daemon to its end, and answers its status; of one that a signal has ended 128 and the signal's number."""
+        self.settings = sys.stdin.buffer.read()
+        wake, wakes = socket.socketpair()
+        for end in (wake, wakes):
+            end.setblocking(False)
+        signal.set_wakeup_fd(wakes.fileno(), warn_on_full_buffer=False)
+        for number in TOLD:
+            signal.signal(number, lambda *_: None)
+        with subprocess.Popen(self.words, stdin=self.input(), preexec_fn=before_start) as self.daemon:
+            end = os.pidfd_open(self.daemon.pid)
+            while True:
+                ready, _, _ = select.select([end, wake], [], [], self.pause if self.is_ready else SOON)
+                if end in ready:
+                    break
+                if wake in ready:
+                    self.hear(wake.recv(4096))
+                elif not self.is_ending:
+                    self.look()
+            os.close(end)
+        return self.end(self.daemon.returncode)
+
+    def input(self):
+        """The settings as a file that can be read again."""
+        file = os.memfd_create("settings")
+        os.write(file, self.settings)
+        os.lseek(file, 0, os.SEEK_SET)
+        return file
+
+    def hear(self, signals):
+        for number in signals:
+            if number == signal.SIGHUP:
+                self.say("settings are read at a start alone: start it anew to change them")
+            else:
+                self.stop()
+
+    def stop(self):
+        """Ends the daemon. No packet of hags says farewell in a node's name, so the others miss it as they miss a dead one."""
+        if self.is_ending:
+            return
+        self.is_ending = True
+        tell_systemd("STOPPING=1")
+        settings, _ = reading.read(self.settings, reading.DAEMON, self.node)
+        every, misses = settings.heartbeat
+        self.say(f"it was told to end; the other nodes miss it after {every * misses / 10:.1f} s, and its members with it")
+        self.daemon.terminate()
+
+    def look(self):
+        """Asks the daemon for its view, and tells systemd of it."""
+        view = asking.view(self.program, self.node, self.settings, TURNS)
+        if view is None or self.member not in view.members:
+            return
+        if not self.is_ready and not view.frozen:
+            self.is_ready = True
+            tell_systemd("READY=1")
+        if self.is_ready:
+            tell_systemd("WATCHDOG=1")
+        if view != self.view:
+            self.view = view
+            nodes = ", ".join(member.split(".")[0] for member in view.members)
+            tell_systemd(f"STATUS=view {view.view} of nodes {nodes}{', frozen' if view.frozen else ''}")
+
+    def end(self, status):
+        if self.is_ending:
+            return 0
+        if status < 0:
+            self.say(f"the daemon was ended by {signal.Signals(-status).name}")
+            return 128 - status
+        for sentence in self.sentences(status):
+            self.say(sentence)
+        return status
+
+    def sentences(self, status):
+        """What to do about a daemon that has ended with this status."""
+        if status == 2:
+            yield checking.of_settings(self.settings, reading.DAEMON, self.node)[1]
+        elif status == 6:
+            settings, _ = reading.read(self.settings, reading.DAEMON, self.node)
+            found = list(checking.of_port(settings, self.node))
+            yield from found or ["Its UDP socket failed 16 times in a row. The port is free now; it may start again."]
+        elif status in ENDS:
+            yield ENDS[status]
+
+    def say(self, text):
+        print(f"hags-daemon: {text}", file=sys.stderr, flush=True)
