@@ -4,10 +4,10 @@ ghost use Rattle.std.specs.List.{list_all};
 ghost use Rattle.client_callbacks.specs.Votes.{vote_letter, vote_word, vote_item, with_item, votes_end, votes_byte, is_word, votes_word};
 ghost use Rattle.client_callbacks.specs.Handed.{item_at};
 
-use crate::texts::text_word;
 use proposal_core::Vote;
 use rsct_packet::{List, NoMemory};
 use std::alloc::Global;
+use value_words::text_word;
 
 /// How a client votes in one phase: its vote, and the state value that it proposes, of any length.
 #[derive(Drop)]

@@ -3,18 +3,18 @@ ghost use Rattle.std.specs.Prelude.{◌≡◌, ◌++◌, IfOk, OnOk, Some};
 ghost use Rattle.value_words.specs.Wording.{word};
 ghost use Rattle.node_state.specs.Status.{ring_line, yes_or_no, view_line, leader_text, list_line, group_line, waiting_text, vote_line};
 
-use crate::words::{
-    kind_of, put_escaped, put_mask_word, put_members_word, put_number, put_number_word,
-    put_proto_word, put_providers, put_providers_word, put_ring_word, put_text, put_view_word,
-    put_word,
-};
 use adapter_ring::Ring;
+use entry_words::kind_of;
 use node_groups::{leader_in, leads_in};
 use node_sending::is_frozen;
 use node_state::{Core, GroupRow};
 use proposal_core::{GroupList, Running};
 use rsct_packet::{List, Name, NoMemory};
 use std::alloc::Global;
+use value_words::{
+    put_escaped, put_mask_word, put_members_word, put_number, put_number_word, put_proto_word,
+    put_providers, put_providers_word, put_ring_word, put_text, put_view_word, put_word,
+};
 use vote_phases::Tally;
 
 /// The line of a ring.

@@ -6,11 +6,11 @@ ghost use Rattle.node_state.specs.State.{held_rows};
 ghost use Rattle.node_state.specs.Status.{ring_line, view_line, group_line, vote_lines, status_of, status_text};
 
 use crate::lines;
-use crate::words::put_text;
 use adapter_ring::Ring;
 use node_state::{Core, GroupRow, Happened, Records, What};
 use rsct_packet::{List, NoMemory};
 use std::alloc::Global;
+use value_words::put_text;
 
 /// A line for each ring.
 #[tactic(auto, using(std::proofs::lemmas::List::map_more, std::proofs::lemmas::Grind::common_steps))]

@@ -5,7 +5,7 @@ ghost use Rattle.value_words.specs.Words.{chosen};
 ghost use Rattle.world_model.specs.Lines.{forms};
 ghost use Rattle.script_words.specs.Heads.{head_seen, form_seen, frequent_forms, node_forms, group_forms, setting_forms};
 
-use crate::words::is_word;
+use value_words::is_word;
 
 /// What the first word of a line says that the line is.
 #[derive(Clone, Copy)]

@@ -2,7 +2,7 @@
 ghost use Rattle.std.specs.Prelude.{◌≡◌, ◌++◌, OnOk, IfOk, codes, decimal};
 ghost use Rattle.node_state.specs.declared.happened.Happened.TheVariants as happened;
 ghost use Rattle.value_words.specs.Wording.{word, provider_text, providers_text};
-ghost use Rattle.entry_words.specs.Wording.{phase_text, vote_text};
+ghost use Rattle.entry_words.specs.Wording.{phase_text, vote_text, running_text};
 ghost use Rattle.world_model.specs.Text.{state_text, cast_value_text, place_text, client_text, record_text, line_of};
 
 use crate::notes::{put_note, put_state};
