@@ -63,8 +63,8 @@ fn send_each_cast(
     to: Option<u8>,
     casts: &[Cast],
 ) -> Result<(), NoMemory>
-    ensures { OnOk result
-        (core.new ≡ fold (λ t c. cast_sent_of t group.now to c.provider c.cast) core.old casts.now) }
+    ensures { OnOk result (core.new
+        ≡ fold (λ t c. cast_sent_of t group.now to c.provider c.cast) core.old casts.now) }
 {
     for c in casts {
         send_cast(core, alloc, group, to, c)?;

@@ -62,7 +62,8 @@ fn record_filled(
 /// Records what a provider casts.
 #[tactic(auto, unfolding(node_state::specs::HandOn::cast_records))]
 fn record_cast(alloc: Global, records: &mut Records, cast: &Cast) -> Result<(), NoMemory>
-    ensures { OnOk result (records.new ≡ records.old ++ cast_records cast.now.provider cast.now.cast) }
+    ensures { OnOk result (records.new
+        ≡ records.old ++ cast_records cast.now.provider cast.now.cast) }
 {
     match &cast.cast {
         None => Ok(()),

@@ -112,8 +112,8 @@ fn grant<C: Callbacks>(
     ensures scripts { OnOk result (KeepsScripts C.script clients.old.items clients.new.items) }
     ensures does { OnOk result (RuleDoes C.script C.stands_for clients.old.items clients.new.items
         core.old core.new (λ f. begins f
-        (keep_decision core.old asked.now.group asked.now.provider asked.now.request None) asked.now.group
-        asked.now.proposal asked.now.phases)) }
+        (keep_decision core.old asked.now.group asked.now.provider asked.now.request None)
+        asked.now.group asked.now.proposal asked.now.phases)) }
 {
     keep_decision(
         core,
@@ -145,8 +145,8 @@ pub(crate) fn decide_change<C: Callbacks>(
     ensures work { OnOk result (AtWork core.new clients.new.items) }
     ensures scripts { OnOk result (KeepsScripts C.script clients.old.items clients.new.items) }
     ensures does { OnOk result (RuleDoes C.script C.stands_for clients.old.items clients.new.items
-        core.old core.new (λ f. decide_change f core.old asked.now.group asked.now.provider asked.now.request
-        asked.now.phases asked.now.proposal
+        core.old core.new (λ f. decide_change f core.old asked.now.group asked.now.provider
+        asked.now.request asked.now.phases asked.now.proposal
         (other_refusal core.old asked.now.group asked.now.provider asked.now.proposal))) }
 {
     match other_refusal(

@@ -26,8 +26,8 @@ pub fn decide<C: Callbacks>(
     ensures work { OnOk result (AtWork core.new clients.new.items) }
     ensures scripts { OnOk result (KeepsScripts C.script clients.old.items clients.new.items) }
     ensures does { OnOk result (RuleDoes C.script C.stands_for clients.old.items clients.new.items
-        core.old core.new (λ f. decided f core.old asked.now.group asked.now.provider asked.now.request
-        asked.now.phases asked.now.proposal)) }
+        core.old core.new (λ f. decided f core.old asked.now.group asked.now.provider
+        asked.now.request asked.now.phases asked.now.proposal)) }
 {
     match &asked.proposal {
         Proposal::Join { attrs, .. } => {

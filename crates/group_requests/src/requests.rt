@@ -58,8 +58,8 @@ fn decide_new<C: Callbacks>(
     ensures work { OnOk result (AtWork core.new clients.new.items) }
     ensures scripts { OnOk result (KeepsScripts C.script clients.old.items clients.new.items) }
     ensures does { OnOk result (RuleDoes C.script C.stands_for clients.old.items clients.new.items
-        core.old core.new (λ f. decide_new f core.old asked.now.group asked.now.provider asked.now.request
-        asked.now.phases asked.now.proposal)) }
+        core.old core.new (λ f. decide_new f core.old asked.now.group asked.now.provider
+        asked.now.request asked.now.phases asked.now.proposal)) }
 {
     set_leader(core, alloc, &asked.group, core.views.me)?;
     decide(core, clients, alloc, asked)

@@ -71,7 +71,8 @@ fn client_of<C: Made>(alloc: Global, votes: &[u8]) -> Result<C, NoMemory>
 
 /// Has a session the token that the next one is to have?
 fn has_next<C: Callbacks>(node: &Node<C>) -> bool
-    ensures { result ≡ list_any (is_session (record { number = node.now.core.sessions.last_client + 1 }))
+    ensures { result
+        ≡ list_any (is_session (record { number = node.now.core.sessions.last_client + 1 }))
         node.now.core.sessions.sessions }
 {
     let sessions = &node.core().sessions;

@@ -21,7 +21,8 @@ use std::alloc::Global;
 #[tactic(auto, unfolding(node_state::specs::State::recorded), using(crate::proofs::CallLaws::recorded_keeps))]
 fn record_asked(core: &mut Core, alloc: Global, request: &Request) -> Result<(), NoMemory>
     ensures rule { OnOk result (core.new ≡ recorded core.old
-        (happened.Asked request.now.provider request.now.request request.now.group request.now.proposal)) }
+        (happened.Asked request.now.provider request.now.request request.now.group
+        request.now.proposal)) }
     ensures keeps { OnOk result (Stays core.old core.new) }
 {
     core.records.push(Happened::Asked {

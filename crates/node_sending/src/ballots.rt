@@ -91,8 +91,8 @@ fn lookup(alloc: Global, view: ViewId, group: &Name) -> Result<Body, NoMemory>
 
 /// The packet of a request.
 fn request(alloc: Global, view: ViewId, request: &Request) -> Result<Body, NoMemory>
-    ensures { IfOk result (λ b. b ≡ body.Request view request.now.group request.now.provider request.now.request
-        request.now.phases request.now.proposal) }
+    ensures { IfOk result (λ b. b ≡ body.Request view request.now.group request.now.provider
+        request.now.request request.now.phases request.now.proposal) }
 {
     Ok(Body::Request {
         view,

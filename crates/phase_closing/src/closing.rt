@@ -49,7 +49,8 @@ fn rows_of(alloc: Global, voters: &[Voter]) -> Result<Rows, NoMemory>
 
 /// The ballot of a provider.
 fn ballot_of(given: &[Given], provider: ProviderId) -> Option<&Given>
-    ensures { option_copied result ≡ find (λ (y : Given). same_provider y.provider provider) given.now }
+    ensures { option_copied result
+        ≡ find (λ (y : Given). same_provider y.provider provider) given.now }
 {
     given.iter().find(|x| x.provider == provider)
 }
