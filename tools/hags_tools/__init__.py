@@ -8,5 +8,6 @@
   daemons         daemons on this machine, at loopback addresses
   programs        the word --program of every tool
   chart, painting, svg    pictures of runs
+  rooms           what each file of the repository is
   packets, random_scripts, failing    packets by hand, scripts by a seed, calls of the C library that fail
 """

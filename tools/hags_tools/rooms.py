@@ -3,7 +3,7 @@ import pathlib
 import re
 import subprocess
 
-TOP = pathlib.Path(__file__).resolve().parent.parent
+TOP = pathlib.Path(__file__).resolve().parents[2]
 
 # Code, definitions and proofs of the product; what tests it, its tools and clients, and pages. The others are wrong bodies,
 # stored scripts and pictures, which are no text that one reads.
@@ -32,8 +32,10 @@ def kind_of(path: pathlib.PurePath) -> str:
         return "pages"
     if first == "crates" and len(path.parts) > 3 and path.parts[2] in IN_CRATE:
         return "tests" if is_test(path) else IN_CRATE[path.parts[2]]
-    if first == "tests" and path.parts[1] != "cases":
+    if path.parts[:2] in (("tests", "cases"), ("tools", "edits")):
+        return "other"
+    if "tests" in path.parts:
         return "tests"
-    if first in TOOLS and path.parts[:2] != ("tools", "edits"):
+    if first in TOOLS:
         return "tools"
     return "other"
