@@ -214,7 +214,7 @@ def test_another_daemon_is_tried() -> None:
             pytest.skip("the port beside it is taken")
         stack.callback(second.close)
         settings = settings_of(first.port, nodes=2)
-        with Client(settings, patience=0.3, seconds=5) as client:
+        with Client(settings, patience=1.5, seconds=20) as client:
             client.join("db", instance=7)
             assert client.node == 1
             first.is_silent = True

@@ -50,6 +50,8 @@ def test_tokens_rise_as_their_numbers_do() -> None:
     assert tokens == sorted(tokens)
     numbers = list(map(int, tokens))
     assert numbers == sorted(set(numbers)) and max(numbers) < 2**104
+    keys = [token.key for token in tokens]
+    assert keys == sorted(set(keys)) and {len(key) for key in keys} == {26}
 
 
 def test_settings_are_read() -> None:

@@ -338,7 +338,7 @@ def command_of(options: argparse.Namespace) -> list[str]:
 def run_while(command: list[str], token: Token, is_held: Callable[[float], bool]) -> int | None:
     """Runs a command, which has the token in its environment, while something is held. Gives its status, None where
     it had to be ended."""
-    environment = {**os.environ, "HAGS_TOKEN": str(token), "HAGS_TOKEN_NUMBER": str(int(token))}
+    environment = {**os.environ, "HAGS_TOKEN": str(token), "HAGS_TOKEN_KEY": token.key}
     process = subprocess.Popen(command, env=environment)
     try:
         while process.poll() is None:
