@@ -15,7 +15,7 @@ from typing import NoReturn
 
 from .calls import PLAIN, Attributes
 from .client import FOREVER, Client
-from .errors import BadArgument, CallRefused, HagsError, LockLost, NoReply, SessionLost, TimedOut
+from .errors import CallRefused, HagsError, NoReply, SessionLost, TimedOut
 from .events import HOSTS
 from .ids import Member, Token
 from .recipes import Change, Leader, Lock, Value, Watch
@@ -113,7 +113,8 @@ def see_status(options: argparse.Namespace) -> int:
         if status == WHOLE or time.monotonic() >= end:
             break
         time.sleep(0.2)
-    groups = {node: groups_of(lines) for node, lines in ask(settings, "hagsgr", settings.nodes, ASKING).items() if lines}
+    said = ask(settings, "hagsgr", [node for node, view in views.items() if view], ASKING)
+    groups = {node: groups_of(lines) for node, lines in said.items() if lines}
     if options.json:
         print(json.dumps(status_json(status, sentence, views, groups)))
     else:
@@ -207,11 +208,16 @@ def faults_of_ring(settings: Settings, node: int, ring: Network) -> list[str]:
 def see_members(options: argparse.Namespace) -> int:
     if options.group is None:
         hosts = nodes_of(asked_of_one(options, "hagsns")).hosts
-        print(json.dumps([list(host) for host in hosts]) if options.json else "\n".join(map(str, hosts)))
+        print_list(list(map(str, hosts)), options.json)
         return WHOLE
     members = group_named(options, options.group).members
-    print(json.dumps(list(map(str, members))) if options.json else "\n".join(map(str, members)))
+    print_list(list(map(str, members)), options.json)
     return WHOLE
+
+
+def print_list(words: list[str], as_json: bool) -> None:
+    for line in [json.dumps(words)] if as_json else words:
+        print(line)
 
 
 def group_named(options: argparse.Namespace, name: str) -> Group:
@@ -283,7 +289,8 @@ def set_value(options: argparse.Namespace) -> int:
 def expel(options: argparse.Namespace) -> int:
     attributes = next((it for start, it in OF_RECIPES.items() if options.group.startswith(start)), PLAIN)
     if options.limit is not None or options.default or options.by_vote or options.batch:
-        attributes = Attributes(options.by_vote, options.batch or "none", options.default or "approve", options.limit or 0)
+        batch, default = options.batch or "none", options.default or "approve"
+        attributes = Attributes(options.by_vote, batch, default, options.limit or 0)
     there = group_named(options, options.group).members
     wanted = [it for it in there if options.member in (str(it), str(it.node))]
     if not wanted:
@@ -310,11 +317,11 @@ def wait_gone(client: Client, group: str, wanted: list[Member], seconds: float) 
     try:
         client.wait_until("the expulsion", are_gone, seconds)
     except TimedOut:
-        runs = f"a vote runs in {group}, which nobody can end" if group_votes(client, group) else "no answer of the leader"
+        runs = f"a vote runs in {group}" if has_vote(client, group) else "no answer of the group's leader"
         raise Said(PARTED, f"not expelled: {runs}. Start the daemon of the member's node anew") from None
 
 
-def group_votes(client: Client, group: str) -> bool:
+def has_vote(client: Client, group: str) -> bool:
     return any(line.split(" ")[1] == group for line in client.status("hagsvote"))
 
 
@@ -322,7 +329,7 @@ def group_votes(client: Client, group: str) -> bool:
 
 
 def command_of(options: argparse.Namespace) -> list[str]:
-    command: list[str] = options.command[1:] if options.command[:1] == ["--"] else options.command
+    command: list[str] = options.command
     if not command:
         raise Said(PARTED, f"no command: write `hagsctl {options.verb} {options.name} -- COMMAND ..`")
     return command
@@ -331,7 +338,7 @@ def command_of(options: argparse.Namespace) -> list[str]:
 def run_while(command: list[str], token: Token, is_held: Callable[[float], bool]) -> int | None:
     """Runs a command, which has the token in its environment, while something is held. Gives its status, None where
     it had to be ended."""
-    environment = {**os.environ, "HAGS_TOKEN": str(token), "HAGS_TOKEN_NUMBER": str(int(token))}
+    environment = {**os.environ, "HAGS_TOKEN": str(token), "HAGS_TOKEN_KEY": token.key}
     process = subprocess.Popen(command, env=environment)
     try:
         while process.poll() is None:
@@ -362,16 +369,9 @@ def lock(options: argparse.Namespace) -> int:
             raise Said(NOT_HELD, f"the lock {options.name} did not come in {options.wait:g} s") from None
         status = run_while(command, token, lambda seconds: not held.wait_lost(seconds))
         if status is None:
-            raise Said(LOST, f"the lock {options.name} was lost, and the command ended: {why_lost(held)}")
+            raise Said(LOST, f"the lock {options.name} was lost, so the command was ended: {held.why_lost}")
         held.close()
         return status
-
-
-def why_lost(held: Lock) -> str:
-    try:
-        return str(held.token)
-    except LockLost as lost:
-        return str(lost)
 
 
 def elect(options: argparse.Namespace) -> int:
@@ -394,16 +394,27 @@ def elect(options: argparse.Namespace) -> int:
 # words
 
 
+class Parser(argparse.ArgumentParser):
+    """One whose faulty words end with status 1, since 2 says that nobody answers."""
+
+    def error(self, message: str) -> NoReturn:
+        self.print_usage(sys.stderr)
+        self.exit(PARTED, f"{self.prog}: {message}\n")
+
+
 def parser_of() -> argparse.ArgumentParser:
     about = "What a cluster of hags does, and what can be done with it, from the command line."
     ends = "Status: 0 done (of `status`: whole), 1 refused, not found, or not whole, 2 no daemon answers."
-    parser = argparse.ArgumentParser(prog="hagsctl", description=about, epilog=ends)
-    parser.add_argument("--settings", metavar="FILE", help="the daemons' settings (HAGS_SETTINGS, then " + ", then ".join(PLACES) + ")")
+    parser = Parser(prog="hagsctl", description=about, epilog=ends)
+    places = ", then ".join(("$HAGS_SETTINGS", *PLACES))
+    parser.add_argument("--settings", metavar="FILE", help=f"the daemons' settings ({places})")
     parser.add_argument("--node", metavar="N,..", type=nodes_from, help="use the daemons of these nodes (all, in turn)")
-    parser.add_argument("--seconds", metavar="S", type=float, default=10.0, help="how long an answer is waited for (10)")
+    parser.add_argument("--seconds", metavar="S", type=float, default=10.0, help="so long an answer may take (10)")
     verbs = parser.add_subparsers(dest="verb", metavar="COMMAND", required=True)
 
-    def verb(name: str, what: str, act: Callable[[argparse.Namespace], int], *, json: bool = False) -> argparse.ArgumentParser:
+    def verb(
+        name: str, what: str, act: Callable[[argparse.Namespace], int], *, json: bool = False
+    ) -> argparse.ArgumentParser:
         added = verbs.add_parser(name, help=what, description=what)
         added.set_defaults(act=act)
         if json:
@@ -411,7 +422,7 @@ def parser_of() -> argparse.ArgumentParser:
         return added
 
     status = verb("status", "all nodes in one table: 0 whole, 1 not, 2 no answer", see_status, json=True)
-    status.add_argument("--wait", metavar="S", type=float, default=0.0, help="until it is whole, at most so many seconds")
+    status.add_argument("--wait", metavar="S", type=float, default=0.0, help="so many seconds for it to be whole")
     verb("check", "whether what the daemons say fits these settings", check)
     members = verb("members", "the nodes of the view, or the members of a group", see_members, json=True)
     members.add_argument("group", metavar="GROUP", nargs="?")
@@ -427,11 +438,10 @@ def parser_of() -> argparse.ArgumentParser:
     electing = verb("elect", "runs COMMAND while this one leads; `elect NAME -- COMMAND ..`", elect)
     electing.add_argument("--data", metavar="TEXT", default="", help="what the others are told of this leader")
     locking = verb("lock", "runs COMMAND under the lock of this name; `lock NAME -- COMMAND ..`", lock)
-    locking.add_argument("--wait", metavar="S", type=float, default=FOREVER, help="at most so many seconds for the lock")
+    locking.add_argument("--wait", metavar="S", type=float, default=FOREVER, help="so many seconds at most")
     for added in (electing, locking):
         added.add_argument("--patience", metavar="S", type=float, default=3.0, help="seconds until one is missed (3)")
         added.add_argument("name", metavar="NAME")
-        added.add_argument("command", metavar="-- COMMAND ..", nargs=argparse.REMAINDER)
     expelling = verb("expel", "removes a member, or those of a node, from a group", expel)
     expelling.add_argument("group", metavar="GROUP")
     expelling.add_argument("member", metavar="MEMBER", help="as 2.1795943417.35066.1, or a node")
@@ -444,8 +454,13 @@ def parser_of() -> argparse.ArgumentParser:
 
 def main(words: Sequence[str] | None = None) -> int:
     """Does what the words say, and gives the status."""
-    options = parser_of().parse_args(words)
+    given = list(sys.argv[1:] if words is None else words)
+    at = given.index("--") if "--" in given else len(given)
+    options = parser_of().parse_args(given[:at])
+    options.command = given[at + 1 :]
     try:
+        if options.command and options.verb not in ("lock", "elect"):
+            raise Said(PARTED, f"`{options.verb}` runs no command: leave out what stands behind `--`")
         status: int = options.act(options)
         return status
     except Said as said:
@@ -471,8 +486,6 @@ def run() -> NoReturn:
         signal.signal(number, end_by_signal)  # so that it says goodbye
     sys.exit(main())
 
-
-__all__ = ["BadArgument", "main", "run"]
 
 if __name__ == "__main__":
     run()

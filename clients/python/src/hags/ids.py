@@ -63,8 +63,7 @@ class View(NamedTuple):
 
 class Token(NamedTuple):
     """A fencing number: the view, and the place in the group's list there, of the entry that gave an office, a lock or
-    a part to somebody. No two entries have the same one. Tokens compare as they rise; `int` gives one number of at most
-    104 bits that rises with them, for resources that keep a number."""
+    a part to somebody. No two entries have the same one. Tokens compare as they rise; docs/recipes.md says when they do."""
 
     view: View
     place: int
@@ -80,8 +79,14 @@ class Token(NamedTuple):
         return f"{self.view}/{self.place}"
 
     def __int__(self) -> int:
+        """One number of at most 104 bits, which rises as tokens do."""
         view = self.view
         return (view.number << 72) | (view.coordinator << 64) | (view.incarnation << 32) | self.place
+
+    @property
+    def key(self) -> str:
+        """26 hexadecimal digits, which compare as tokens do: for resources that keep a text, as a database's column."""
+        return f"{int(self):026x}"
 
 
 @lru_cache(1024)

@@ -80,6 +80,11 @@ class Lock(AbstractContextManager["Lock"]):
         with self._client.locked():
             return self._seat.held() is not None
 
+    @property
+    def why_lost(self) -> str:
+        """Why it is not held."""
+        return self._seat.why
+
     def wait_lost(self, seconds: float = FOREVER) -> bool:
         """Waits until the lock is lost, or for so long. Is it lost?"""
         with suppress(TimedOut):
