@@ -36,6 +36,7 @@ enum {
     OTHER_NETWORK_AFTER = 8,   /* Ups without an answer */
     SHORTEST = 1000,           /* microseconds from one Up to the next, while something happens */
     LONGEST = 20000,           /* and while nothing does */
+    RECEIVE_BUFFER = 1 << 20,  /* bytes */
     PATIENCE = 10000,          /* milliseconds */
     TAKEN = 1, FULL = 3        /* answers of a Down */
 };
@@ -659,6 +660,9 @@ static bool open_descriptors(hags *client) {
     client->timer = timerfd_create(CLOCK_MONOTONIC, TFD_NONBLOCK | TFD_CLOEXEC);
     client->poll = epoll_create1(EPOLL_CLOEXEC);
     struct epoll_event readable = {.events = EPOLLIN};
+    /* As much of it as the system gives: many events come as many pieces at once. */
+    int room = RECEIVE_BUFFER;
+    if (client->socket >= 0) setsockopt(client->socket, SOL_SOCKET, SO_RCVBUF, &room, sizeof room);
     return client->socket >= 0 && client->timer >= 0 && client->poll >= 0 &&
            !epoll_ctl(client->poll, EPOLL_CTL_ADD, client->socket, &readable) &&
            !epoll_ctl(client->poll, EPOLL_CTL_ADD, client->timer, &readable);

@@ -1,0 +1,3 @@
+module hags
+
+go 1.19
