@@ -134,7 +134,10 @@ class Watch:
 
 
 def process_of(port, node):
-    """The folder under /proc of the process that has the port, or else that was started as the daemon of the node."""
+    """The folder under /proc of the process that has the port; where one may not see whose that is, of one that was started as
+    the daemon of the node."""
+    if not sockets.at_port(port):
+        return None
     holder = sockets.holder(port)
     if holder:
         return PROC / str(holder.process)
