@@ -55,11 +55,13 @@ def pages():
     running += [Part("operating.md", "Receive buffers"), Part("operating.md", "Ports and networks")]
     settings = Part("operating.md", "Settings"), Part("formats.md", "Settings of a node")
     reading = Part("formats.md", "The input of a client"), Part("messages.md", "Reasons of a bad line")
+    told = Part("metrics.md", "What is told"), Part("metrics.md", "Alerts")
     everything = ("hags(1)", "hags-settings(5)", "hags-daemon(8)", "hags-metrics(8)", "hags-annotate(1)", "hags-view(1)")
     return [
         Page("hags", 1, "group membership for clusters", own, (*words, Part("messages.md", "Exit statuses of `hags`")), everything),
         Page("hags-settings", 5, "the settings of a cluster of hags daemons", (), (*settings, *reading), everything),
         Page("hags-daemon", 8, "starts and watches the daemon of a node", (("hags-daemon", "--help"),), tuple(running), everything),
+        Page("hags-metrics", 8, "metrics of hags daemons for Prometheus", (("hags-metrics", "--help"),), told, everything),
         *(Page(f"hags-{it}", 1, what, ((f"hags-{it}", "--help"),), (), everything) for it, what in TOOLS.items()),
     ]
 

@@ -1,0 +1,184 @@
+"""What Prometheus is told of the daemons of this machine, from `hags status` and /proc alone.
+
+A `Watch` looks at one daemon again and again, since how long something lasts, and how often something changed, is seen in no
+single answer. What a daemon does not say of itself today (its turns, keys, unread events and strays) is not told; it has a
+place in `of_daemon`."""
+import os
+import pathlib
+import time
+from typing import NamedTuple
+
+from hags_tools import asking, sockets
+
+TURNS = 50  # of 20 milliseconds, for an answer
+PROC = pathlib.Path("/proc")
+TICKS, PAGE = os.sysconf("SC_CLK_TCK"), os.sysconf("SC_PAGE_SIZE")
+
+
+class Metric(NamedTuple):
+    """A name, its kind for Prometheus, and what it is."""
+
+    name: str
+    kind: str
+    help: str
+
+
+METRICS = (
+    Metric("hags_up", "gauge", "1 where the daemon answers hags status, else 0"),
+    Metric("hags_answer_seconds", "gauge", "how long its answers to the four questions took"),
+    Metric("hags_nodes", "gauge", "nodes in the settings"),
+    Metric("hags_view_number", "gauge", "the number of its view"),
+    Metric("hags_view_members", "gauge", "members of its view"),
+    Metric("hags_view_info", "gauge", "1; its view is a label, so that the views of nodes can be compared"),
+    Metric("hags_view_frozen_seconds", "gauge", "for how long it has been seen frozen, 0 where it is not"),
+    Metric("hags_view_apart_seconds", "gauge", "for how long its view has lacked a node that a ring of it has, 0 where it lacks none"),
+    Metric("hags_views_entered_total", "counter", "views that it was seen to enter, at least"),
+    Metric("hags_ring_members", "gauge", "nodes in its ring of a network"),
+    Metric("hags_rings_formed_total", "counter", "rings that it was seen in, at least, by the numbers of rings"),
+    Metric("hags_groups", "gauge", "groups of which it holds a list"),
+    Metric("hags_group_members", "gauge", "members of a group"),
+    Metric("hags_group_entries", "gauge", "entries of a group's list in this view; at 4,096 the list is full"),
+    Metric("hags_group_value_bytes", "gauge", "bytes of a group's value"),
+    Metric("hags_vote_seconds", "gauge", "for how long this phase of a vote has been seen"),
+    Metric("hags_socket_dropped_total", "counter", "datagrams for which its socket had no room"),
+    Metric("hags_socket_waiting_bytes", "gauge", "bytes that its socket holds and it has not taken yet"),
+    Metric("hags_process_up", "gauge", "1 where there is a process of the daemon, else 0"),
+    Metric("hags_process_cpu_seconds_total", "counter", "processor time of the process"),
+    Metric("hags_process_resident_bytes", "gauge", "memory of the process"),
+    Metric("hags_process_start_seconds", "gauge", "when the process began, in seconds since 1970"),
+    Metric("hags_receive_buffer_errors_total", "counter", "datagrams for which a UDP socket of this machine had no room"),
+)
+
+
+class Lasting:
+    """Since when a thing is as it is, by its name."""
+
+    def __init__(self):
+        self.since = {}
+
+    def seconds(self, names, now):
+        """For how long each of these has been there without a break."""
+        self.since = {name: self.since.get(name, now) for name in names}
+        return {name: now - since for name, since in self.since.items()}
+
+
+class Watch:
+    """Looks at the daemon of a node on this machine."""
+
+    def __init__(self, program, settings, data, node):
+        self.program, self.settings, self.data, self.node = program, settings, data, node
+        self.view, self.entered = None, 0
+        self.rings, self.formed = {}, {}
+        self.lasting = Lasting()
+        self.samples = []
+
+    def look(self):
+        """Looks once, and keeps what is told: a name, labels and a number each."""
+        began = time.monotonic()
+        answers = {what: asking.ask(self.program, what, self.node, self.data, TURNS) for what in ("hagsns", "hats")}
+        is_up = None not in answers.values() and bool(answers["hagsns"])
+        if is_up:
+            answers |= {what: asking.ask(self.program, what, self.node, self.data, TURNS) or [] for what in ("hagsgr", "hagsvote")}
+        now = time.monotonic()
+        found = [("hags_up", {}, int(is_up)), ("hags_nodes", {}, len(self.settings.nodes))]
+        found += self.of_machine()
+        if is_up:
+            found.append(("hags_answer_seconds", {}, now - began))
+            found += self.of_daemon(answers, now)
+        self.samples = [(name, {"node": str(self.node), **labels}, number) for name, labels, number in found]
+
+    def of_daemon(self, answers, now):
+        view, rings = answers["hagsns"][0], answers["hats"]
+        self.entered += view.view != self.view
+        self.view = view.view
+        in_rings = {node for ring in rings for node in ring.members}
+        in_view = {int(member.split(".")[0]) for member in view.members}
+        phases = {(vote.group, vote.protocol, vote.phase) for vote in answers["hagsvote"]}
+        states = {"frozen": view.frozen, "apart": bool(in_rings - in_view)}
+        lasts = self.lasting.seconds({name for name, holds in states.items() if holds} | phases, now)
+        yield "hags_view_number", {}, int(view.view.split(".")[0])
+        yield "hags_view_members", {}, len(view.members)
+        yield "hags_view_info", {"view": view.view}, 1
+        yield "hags_view_frozen_seconds", {}, lasts.get("frozen", 0)
+        yield "hags_view_apart_seconds", {}, lasts.get("apart", 0)
+        yield "hags_views_entered_total", {}, self.entered
+        for ring in rings:
+            self.note_ring(ring)
+            yield "hags_ring_members", {"network": str(ring.network)}, len(ring.members)
+            yield "hags_rings_formed_total", {"network": str(ring.network)}, self.formed[ring.network]
+        yield "hags_groups", {}, len(answers["hagsgr"])
+        for group in answers["hagsgr"]:
+            yield "hags_group_members", {"group": group.group}, len(group.members)
+            yield "hags_group_entries", {"group": group.group}, group.length
+            yield "hags_group_value_bytes", {"group": group.group}, len(group.value) - 2 * group.value.count("%")
+        for group, protocol, phase in phases:
+            yield "hags_vote_seconds", {"group": group}, lasts[group, protocol, phase]
+
+    def note_ring(self, ring):
+        """Counts the rings since the last look: those of one leader are numbered one after another."""
+        leader, number = ring.ring.rsplit(".", 1)
+        before = self.rings.get(ring.network)
+        more = int(number) - before[1] if before and before[0] == leader else 1
+        self.formed[ring.network] = self.formed.get(ring.network, 0) + max(more, 0)
+        self.rings[ring.network] = leader, int(number)
+
+    def of_machine(self):
+        port = self.settings.port + self.node
+        for socket in sockets.at_port(port)[:1]:
+            yield "hags_socket_dropped_total", {}, socket.dropped
+            yield "hags_socket_waiting_bytes", {}, socket.waiting
+        process = process_of(port, self.node)
+        yield "hags_process_up", {}, int(process is not None)
+        if process:
+            yield from of_process(process)
+
+
+def process_of(port, node):
+    """The folder under /proc of the process that has the port; where one may not see whose that is, of one that was started as
+    the daemon of the node."""
+    if not sockets.at_port(port):
+        return None
+    holder = sockets.holder(port)
+    if holder:
+        return PROC / str(holder.process)
+    for folder in PROC.iterdir():
+        if folder.name.isdigit() and is_daemon(folder, node):
+            return folder
+    return None
+
+
+def is_daemon(folder, node):
+    try:
+        words = (folder / "cmdline").read_bytes().split(b"\0")
+    except OSError:
+        return False
+    return words[1:2] == [b"daemon"] and any(pair == (b"--node", b"%d" % node) for pair in zip(words, words[1:]))
+
+
+def of_process(folder):
+    try:
+        words = (folder / "stat").read_text().rsplit(")", 1)[1].split()
+        booted = next(int(line.split()[1]) for line in (PROC / "stat").read_text().splitlines() if line.startswith("btime"))
+    except OSError:
+        return
+    yield "hags_process_cpu_seconds_total", {}, (int(words[11]) + int(words[12])) / TICKS
+    yield "hags_process_resident_bytes", {}, int(words[21]) * PAGE
+    yield "hags_process_start_seconds", {}, booted + int(words[19]) / TICKS
+
+
+def receive_buffer_errors():
+    names, numbers = [line.split() for line in (PROC / "net" / "snmp").read_text().splitlines() if line.startswith("Udp:")]
+    return int(dict(zip(names, numbers))["RcvbufErrors"])
+
+
+def text_of(samples):
+    """The text of Prometheus: each metric with what it is, and its samples."""
+    lines = []
+    for metric in METRICS:
+        own = [(labels, number) for name, labels, number in samples if name == metric.name]
+        if own:
+            lines += [f"# HELP {metric.name} {metric.help}", f"# TYPE {metric.name} {metric.kind}"]
+        for labels, number in own:
+            shown = ",".join(f'{name}="{value}"' for name, value in labels.items())
+            lines.append(f"{metric.name}{{{shown}}} {round(number, 3)}" if shown else f"{metric.name} {number}")
+    return "\n".join(lines) + "\n"
