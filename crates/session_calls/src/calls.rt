@@ -24,9 +24,9 @@ pub fn put_request(sessions: &mut SessionState, request: Request) -> Result<(), 
         }) }
     ensures err { OnErr result (sessions.new ≡ sessions.old) }
 {
-    let request = request.request;
+    let number = request.request;
     sessions.requests.push(request)?;
-    sessions.last_request = request;
+    sessions.last_request = number;
     Ok(())
 }
 

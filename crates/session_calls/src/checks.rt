@@ -181,7 +181,7 @@ pub fn member(sessions: &SessionState, member: MemberToken) -> Option<&Provider>
         .providers
         .as_slice()
         .iter()
-        .find(|x| x.provider.join == member.n)
+        .find(|x| x.provider.join == member.number)
 }
 
 /// Is a ballot of the provider kept for this phase?
