@@ -1,3 +1,4 @@
 pub mod Pieces
 pub mod ValueLaws
 pub mod AttributeLaws
+pub mod EntryLaws
