@@ -2,3 +2,4 @@ pub mod Pieces
 pub mod ValueLaws
 pub mod AttributeLaws
 pub mod EntryLaws
+pub mod RefusalLaws

@@ -4,12 +4,14 @@ ghost use Rattle.group_attr.specs.declared.attrs.Attrs.{Attrs};
 ghost use Rattle.proposal_core.specs.declared.entry.Entry.{Entry};
 ghost use Rattle.proposal_core.specs.declared.entry.Vote.{Vote};
 ghost use Rattle.proposal_core.specs.declared.proposal.Proposal.{Proposal};
+ghost use Rattle.client_callbacks.specs.declared.told.Why.{Why};
+ghost use Rattle.session_state.specs.declared.fault.GsFault.{GsFault};
 ghost use Rattle.value_words.specs.Words.{split_on, words_in};
 ghost use Rattle.value_words.specs.Wording.{value_text};
 ghost use Rattle.entry_words.specs.Words.{attr_words};
-ghost use Rattle.entry_words.specs.Wording.{attrs_text, entry_text, kind_text, proposal_text, vote_text};
-ghost use Rattle.word_laws.specs.Entries.{ballot_read, entry_read, kind_of, kind_read, proposal_read, vote_letter};
-ghost use Rattle.word_laws.specs.Ranges.{are_attrs, is_entry, is_proposal, is_value};
+ghost use Rattle.entry_words.specs.Wording.{attrs_text, entry_text, fault_text, kind_text, proposal_text, vote_text, why_text};
+ghost use Rattle.word_laws.specs.Entries.{ballot_read, entry_read, fault_read, kind_of, kind_read, proposal_read, vote_letter, why_read};
+ghost use Rattle.word_laws.specs.Ranges.{are_attrs, is_entry, is_fault, is_proposal, is_value, is_why};
 
 /// The attributes of a group, among them those that are left out as they are in a group that nobody has joined.
 #[tactic(auto, using(crate::proofs::AttributeLaws::attrs_back))]
@@ -43,4 +45,12 @@ pub fn votes_are_read_back()
 #[tactic(auto, using(crate::proofs::EntryLaws::entry_back))]
 pub fn entries_are_read_back()
     ensures { (e : Entry) → is_entry e ≡ true → entry_read (split_on 32 (entry_text e)) ≡ Some e }
+{}
+
+/// Why a request and why a call is refused, from its words. A line does not say how great a bad limit is.
+#[tactic(auto, using(crate::proofs::RefusalLaws::why_back, crate::proofs::RefusalLaws::fault_back))]
+pub fn refusals_are_read_back()
+    ensures request { (x : Why) → is_why x ≡ true → why_read (split_on 32 (why_text x)) ≡ Some x }
+    ensures call { (x : GsFault) → is_fault x ≡ true
+        → fault_read (split_on 32 (fault_text x)) ≡ Some x }
 {}
