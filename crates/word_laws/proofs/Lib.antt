@@ -1,0 +1,5 @@
+pub mod Pieces
+pub mod ValueLaws
+pub mod AttributeLaws
+pub mod EntryLaws
+pub mod RefusalLaws
