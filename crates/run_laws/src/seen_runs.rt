@@ -1,6 +1,6 @@
 //! What the records of every run show by themselves, one after another.
 
-ghost use Rattle.run_laws.specs.seen_runs.Once.{EveryRequestBeginsOnce};
+ghost use Rattle.run_laws.specs.seen_runs.Once.{EveryRequestBeginsOnce, SafeEntriesWereAsked};
 ghost use Rattle.run_laws.specs.seen_runs.Law.{EveryTraceIsSeen, EveryHeardIsFold, EveryRingIsSeen, EveryTraceIsSeenWithRings};
 
 /// Whatever starts, stops and steps, the records show all that records alone can show of a safe run, but for its rings: they are
@@ -14,6 +14,13 @@ pub fn every_trace_is_seen()
 #[tactic(auto, using(crate::proofs::seen_runs::Once::requests_once))]
 pub fn requests_begin_once()
     ensures { EveryRequestBeginsOnce }
+{}
+
+/// Where the lines of each group are safe, as they are in every run, whoever an entry names asked in that group for what it
+/// begins, at whatever node the entry is put.
+#[tactic(auto, using(crate::proofs::seen_runs::Once::safe_entries_asked))]
+pub fn entries_were_asked()
+    ensures { SafeEntriesWereAsked }
 {}
 
 /// What a provider hears carries the members and the value that the records of its node make of the list up to its place: the

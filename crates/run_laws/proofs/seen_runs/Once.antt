@@ -8,8 +8,10 @@ use Rattle.node_state.specs.declared.happened.Happened.{Happened}
 use Rattle.node_state.specs.declared.happened.Happened.TheVariants as happened
 use Rattle.run_safety.specs.Past.{records_of}
 use Rattle.run_safety.specs.Requests.{carried}
+use Rattle.run_safety.proofs.SightLaws.{put_seen}
+use Rattle.row_laws.proofs.failed_rows.Asked.{asked_back}
 use Rattle.run_laws.specs.seen_runs.Seen.{Seen, OnceSeen}
-use Rattle.run_laws.specs.seen_runs.Once.{EveryRequestBeginsOnce}
+use Rattle.run_laws.specs.seen_runs.Once.{EveryRequestBeginsOnce, SafeEntriesWereAsked}
 use Rattle.run_laws.proofs.seen_runs.Law.{traces_seen}
 use Rattle.run_laws.proofs.failed_causes.Renamed.{asked_in_one}
 
@@ -35,3 +37,9 @@ once_of p r g k u v i j e f (q ∷ rs) s a c b d = by a b (λ x y. once_of p r g
 pub requests_once : EveryRequestBeginsOnce
 requests_once c w reached =
     record { group = asked_in_one c w reached; once = λ p r g k u v i j e f a d b q. once_of p r g k u v i j e f (records_of w.before) (traces_seen c w reached) a d b q }
+
+-- by the lines of its group
+pub safe_entries_asked : SafeEntriesWereAsked
+safe_entries_asked o h safe n v g i e p r there names =
+    let a = (safe g).requests.were_asked n v i e p r (put_seen n v g i e h there) names in
+    (a.0, asked_back p r g a.0 h a.1, a.2)
