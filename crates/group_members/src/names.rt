@@ -106,7 +106,8 @@ fn refuse_requests<C: Callbacks>(
     ensures scripts { OnOk result (KeepsScripts C.script clients.old.items clients.new.items) }
     ensures does { OnOk result (RuleDoes C.script C.stands_for clients.old.items clients.new.items
         core.old core.new (λ f. fold
-        (λ t (q : Request). take_tell t q.provider q.request (GroupsFull 64)) core.old (requests_of core.old group.now))) }
+        (λ t (q : Request). take_tell t q.provider q.request (GroupsFull 64)) core.old
+        (requests_of core.old group.now))) }
 {
     let requests = requests_of(core, alloc, group)?;
     tell_each(core, clients, requests.as_slice(), Why::GroupsFull(64))
