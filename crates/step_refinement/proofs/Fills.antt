@@ -93,14 +93,14 @@ module _ (g : List ℕ) (w : Scene) (n : ℕ) (x : Ghost) (s : Core) where
   -- a provider of the node heard an entry that was filled in, at its place
   pub record HeardIn (es : List Entry) (y : Note) : Type 0 where
     pub provider : ProviderId
-    pub own : p.node ≡ n
+    pub own : provider.node ≡ n
     pub front : List Entry
     pub e : Entry
     pub rest : List Entry
     pub split : es ≡ front ++ e ∷ rest
     pub state : GroupState
     pub state_is : state ≡ state_of_list x.bases s.views.view (full ++ (front ++ e ∷ []))
-    pub is : y ≡ Heard p s.views.view (length full + length front) e state.members state.value
+    pub is : y ≡ Heard provider s.views.view (length full + length front) e state.members state.value
 
   heard_more : (es more : List Entry) (y : Note) → HeardIn es y → HeardIn (es ++ more) y
   heard_more es more y h =

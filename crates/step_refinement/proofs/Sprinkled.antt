@@ -50,9 +50,9 @@ pub record Hearing (bases : Bases) (tr : List Record) (x : Note) : Type 0 where
   pub i : ℕ
   pub e : Entry
   pub s : GroupState
-  pub is : x ≡ Heard p v i e s.members s.value
-  pub put : Has (Put p.node v i e) tr
-  pub state : s ≡ state_of_list bases v (take (i + 1) (puts_of p.node v tr))
+  pub is : x ≡ Heard provider v i e s.members s.value
+  pub put : Has (Put provider.node v i e) tr
+  pub state : s ≡ state_of_list bases v (take (i + 1) (puts_of provider.node v tr))
 
 -- a life goes on to be one with such notes
 pub sprinkled_lives : (o : Opening) (nodes : ℕ → Standing) (ps : List Packet) (leads : Leads) (bases : Bases) (tr : List Record) (front all more : List Line) → Sprinkled (Hearing bases tr) all more → kept (front ++ all) ≡ tr → Life o nodes ps (front ++ all) leads bases → Life o nodes ps (front ++ more) leads bases
