@@ -9,6 +9,8 @@ mod bodies;
 #[cfg(test)]
 mod entries;
 #[cfg(test)]
+mod envelopes;
+#[cfg(test)]
 mod exchanges;
 #[cfg(test)]
 mod heads;

@@ -1,0 +1,2 @@
+pub mod EnvelopeLaws
+pub mod NetworkLaws
