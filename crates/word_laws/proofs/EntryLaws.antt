@@ -26,7 +26,9 @@ use Rattle.value_words.specs.Wording.{word, view_text, provider_text, proto_text
 use Rattle.value_words.specs.Words.{◌>>=◌, split_on, provider_word, chosen}
 use Rattle.entry_words.specs.Words.{before_equals, after_equals, attr_words}
 use Rattle.entry_words.specs.Wording.{kind_text, value_option_text, attrs_text, source_len_text, cause_text, failure_text, asker_text, proposal_text, vote_text, default_letter, row_vote_text, row_text, phase_text, closed_text, entry_text}
-use Rattle.word_laws.specs.Entries.{Kind, KJoin, KLeave, KFail, KExpel, KState, KMessage, KAttributes, KReflect, kind_read, kind_of, cause_word, failure_word, asker_word, is_source_len, source_len_of, valued_words, proposed_words, proposal_read, vote_letter, ballot_read, row_vote_word, row_word, closed_words, EntryHead, HOnce, HBegin, HPhase, HApprove, HReject, HLate, entry_head, valued_closed, said_entry, entry_read}
+use Rattle.word_laws.specs.declared.kind.Kind.{Kind}
+use Rattle.word_laws.specs.declared.kind.Kind.TheVariants as kind
+use Rattle.word_laws.specs.Entries.{kind_read, kind_of, cause_word, failure_word, asker_word, is_source_len, source_len_of, valued_words, proposed_words, proposal_read, vote_letter, ballot_read, row_vote_word, row_word, closed_words, EntryHead, HOnce, HBegin, HPhase, HApprove, HReject, HLate, entry_head, valued_closed, said_entry, entry_read}
 use Rattle.word_laws.specs.Ranges.{is_u32, is_u16, is_view, is_proto, is_provider, is_value, is_value_option, are_attrs, is_failure, is_row, is_len_option, is_proposal, is_none_text, is_closed, is_entry}
 use Rattle.word_laws.specs.Spelled.{behind, attrs_words, source_len_words, proposed_spelled, closed_spelled, entry_first, entry_spelled}
 use Rattle.word_laws.specs.Values.{u32_word, u16_word, two_word, proto_word, list_word, value_word, value_or_none}
@@ -287,19 +289,19 @@ len_read None e = refl
 len_read (Some n) e = let r = u32_read n e in rw r refl
 
 join_says : (ps : List ProviderId) (a : Attrs) (n : Option ℕ) (w : List ℕ) (ws : List (List ℕ)) → list_word provider_word w ≡ Some ps → attr_words (filter (λ w. not (is_source_len w)) ws) ≡ Some a → source_len_of (filter is_source_len ws) ≡ Some n
-    → proposed_words KJoin (w ∷ ws) ≡ Some (proposal.Join ps a n)
+    → proposed_words kind.Join (w ∷ ws) ≡ Some (proposal.Join ps a n)
 unfolding proposed_words ◌>>=◌
 join_says ps a n w ws e f g = rw (e, f, g) refl
 
-leave_says : (p : ProviderId) (r : ℕ) (w : List ℕ) → asker_word w ≡ Some (p, r) → proposed_words KLeave (w ∷ []) ≡ Some (proposal.Leave p r)
+leave_says : (p : ProviderId) (r : ℕ) (w : List ℕ) → asker_word w ≡ Some (p, r) → proposed_words kind.Leave (w ∷ []) ≡ Some (proposal.Leave p r)
 unfolding proposed_words ◌>>=◌
 leave_says p r w e = rw e refl
 
-fail_says : (out : List Failure) (w : List ℕ) → list_word failure_word w ≡ Some out → proposed_words KFail (w ∷ []) ≡ Some (proposal.Fail out)
+fail_says : (out : List Failure) (w : List ℕ) → list_word failure_word w ≡ Some out → proposed_words kind.Fail (w ∷ []) ≡ Some (proposal.Fail out)
 unfolding proposed_words ◌>>=◌
 fail_says out w e = rw e refl
 
-expel_says : (p : ProviderId) (r : ℕ) (out : List ProviderId) (w t : List ℕ) → asker_word w ≡ Some (p, r) → list_word provider_word t ≡ Some out → proposed_words KExpel (w ∷ t ∷ []) ≡ Some (proposal.Expel p r out)
+expel_says : (p : ProviderId) (r : ℕ) (out : List ProviderId) (w t : List ℕ) → asker_word w ≡ Some (p, r) → list_word provider_word t ≡ Some out → proposed_words kind.Expel (w ∷ t ∷ []) ≡ Some (proposal.Expel p r out)
 unfolding proposed_words ◌>>=◌
 expel_says p r out w t e f = rw (e, f) refl
 
@@ -307,19 +309,19 @@ valued_says : (make : ProviderId → ℕ → List ℕ → Proposal) (p : Provide
 unfolding valued_words ◌>>=◌
 valued_says make p r value w t e f = rw (e, f) refl
 
-attrs_says : (p : ProviderId) (r : ℕ) (a : Attrs) (w : List ℕ) (ws : List (List ℕ)) → asker_word w ≡ Some (p, r) → attr_words ws ≡ Some a → proposed_words KAttributes (w ∷ ws) ≡ Some (proposal.Attributes p r a)
+attrs_says : (p : ProviderId) (r : ℕ) (a : Attrs) (w : List ℕ) (ws : List (List ℕ)) → asker_word w ≡ Some (p, r) → attr_words ws ≡ Some a → proposed_words kind.Attributes (w ∷ ws) ≡ Some (proposal.Attributes p r a)
 unfolding proposed_words ◌>>=◌
 attrs_says p r a w ws e f = rw (e, f) refl
 
-reflect_says : (v : ViewId) (i : ℕ) (value w t : List ℕ) → proto_word w ≡ Some (record { view = v; place = i }) → value_word t ≡ Some value → proposed_words KReflect (w ∷ t ∷ []) ≡ Some (proposal.Reflect v i value)
+reflect_says : (v : ViewId) (i : ℕ) (value w t : List ℕ) → proto_word w ≡ Some (record { view = v; place = i }) → value_word t ≡ Some value → proposed_words kind.Reflect (w ∷ t ∷ []) ≡ Some (proposal.Reflect v i value)
 unfolding proposed_words ◌>>=◌
 reflect_says v i value w t e f = rw (e, f) refl
 
-said_state : (w t : List ℕ) → proposed_words KState (w ∷ t ∷ []) ≡ valued_words proposal.State w t
+said_state : (w t : List ℕ) → proposed_words kind.State (w ∷ t ∷ []) ≡ valued_words proposal.State w t
 unfolding proposed_words
 said_state w t = refl
 
-said_message : (w t : List ℕ) → proposed_words KMessage (w ∷ t ∷ []) ≡ valued_words proposal.Message w t
+said_message : (w t : List ℕ) → proposed_words kind.Message (w ∷ t ∷ []) ≡ valued_words proposal.Message w t
 unfolding proposed_words
 said_message w t = refl
 

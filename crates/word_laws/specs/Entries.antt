@@ -27,42 +27,34 @@ use Rattle.session_state.specs.declared.fault.GsFault.{GsFault}
 use Rattle.session_state.specs.declared.fault.GsFault.TheVariants as fault
 use Rattle.value_words.specs.Words.{◌>>=◌, split_on, provider_word, chosen}
 use Rattle.entry_words.specs.Words.{before_equals, after_equals, attr_words}
+use Rattle.word_laws.specs.declared.kind.Kind.{Kind}
+use Rattle.word_laws.specs.declared.kind.Kind.TheVariants as kind
 use Rattle.word_laws.specs.Values.{u32_word, u16_word, two_word, proto_word, list_word, value_word, value_or_none}
 
--- what a proposal is
-pub data Kind : Type 0 where
-  KJoin : Kind
-  KLeave : Kind
-  KFail : Kind
-  KExpel : Kind
-  KState : Kind
-  KMessage : Kind
-  KAttributes : Kind
-  KReflect : Kind
-
+-- what a proposal is, by the word of its kind
 unfoldable pub kind_read : List ℕ → Option Kind
 kind_read w =
     chosen
-    (record { word = codes "join"; means = KJoin }
-    ∷ record { word = codes "leave"; means = KLeave }
-    ∷ record { word = codes "fail"; means = KFail }
-    ∷ record { word = codes "expel"; means = KExpel }
-    ∷ record { word = codes "state"; means = KState }
-    ∷ record { word = codes "message"; means = KMessage }
-    ∷ record { word = codes "attrs"; means = KAttributes }
-    ∷ record { word = codes "reflect"; means = KReflect }
+    (record { word = codes "join"; means = kind.Join }
+    ∷ record { word = codes "leave"; means = kind.Leave }
+    ∷ record { word = codes "fail"; means = kind.Fail }
+    ∷ record { word = codes "expel"; means = kind.Expel }
+    ∷ record { word = codes "state"; means = kind.State }
+    ∷ record { word = codes "message"; means = kind.Message }
+    ∷ record { word = codes "attrs"; means = kind.Attributes }
+    ∷ record { word = codes "reflect"; means = kind.Reflect }
     ∷ [])
     w
 
 unfoldable pub kind_of : Proposal → Kind
-kind_of (proposal.Join ps a n) = KJoin
-kind_of (proposal.Leave p r) = KLeave
-kind_of (proposal.Fail out) = KFail
-kind_of (proposal.Expel p r out) = KExpel
-kind_of (proposal.State p r value) = KState
-kind_of (proposal.Message p r bytes) = KMessage
-kind_of (proposal.Attributes p r a) = KAttributes
-kind_of (proposal.Reflect v i value) = KReflect
+kind_of (proposal.Join ps a n) = kind.Join
+kind_of (proposal.Leave p r) = kind.Leave
+kind_of (proposal.Fail out) = kind.Fail
+kind_of (proposal.Expel p r out) = kind.Expel
+kind_of (proposal.State p r value) = kind.State
+kind_of (proposal.Message p r bytes) = kind.Message
+kind_of (proposal.Attributes p r a) = kind.Attributes
+kind_of (proposal.Reflect v i value) = kind.Reflect
 
 -- ---- proposals
 
@@ -98,28 +90,28 @@ valued_words make w t = do
 
 -- the words behind the word of the kind
 unfoldable pub proposed_words : Kind → List (List ℕ) → Option Proposal
-proposed_words KJoin (w ∷ ws) = do
+proposed_words kind.Join (w ∷ ws) = do
   ps ← list_word provider_word w
   a ← attr_words (filter (λ w. not (is_source_len w)) ws)
   n ← source_len_of (filter is_source_len ws)
   Some (proposal.Join ps a n)
-proposed_words KLeave (w ∷ []) = do
+proposed_words kind.Leave (w ∷ []) = do
   x ← asker_word w
   Some (proposal.Leave x.0 x.1)
-proposed_words KFail (w ∷ []) = do
+proposed_words kind.Fail (w ∷ []) = do
   out ← list_word failure_word w
   Some (proposal.Fail out)
-proposed_words KExpel (w ∷ t ∷ []) = do
+proposed_words kind.Expel (w ∷ t ∷ []) = do
   x ← asker_word w
   out ← list_word provider_word t
   Some (proposal.Expel x.0 x.1 out)
-proposed_words KState (w ∷ t ∷ []) = valued_words proposal.State w t
-proposed_words KMessage (w ∷ t ∷ []) = valued_words proposal.Message w t
-proposed_words KAttributes (w ∷ ws) = do
+proposed_words kind.State (w ∷ t ∷ []) = valued_words proposal.State w t
+proposed_words kind.Message (w ∷ t ∷ []) = valued_words proposal.Message w t
+proposed_words kind.Attributes (w ∷ ws) = do
   x ← asker_word w
   a ← attr_words ws
   Some (proposal.Attributes x.0 x.1 a)
-proposed_words KReflect (w ∷ t ∷ []) = do
+proposed_words kind.Reflect (w ∷ t ∷ []) = do
   x ← proto_word w
   value ← value_word t
   Some (proposal.Reflect x.view x.place value)
