@@ -12,7 +12,7 @@ HERE = pathlib.Path(__file__).resolve().parent
 TOP = HERE.parent.parent
 C = TOP / "clients" / "c"
 WAIT = 120  # seconds that a client waits for an answer: longer than any daemon is away
-ASKING = ("join", "leave", "state", "message")  # the commands made here that ask something of a group
+ASKING = ("join", "leave", "expel", "state", "message", "attrs")  # the commands that ask something of a group
 OWN = ("heard", "cast", "asked", "told")
 STRICT = ["-std=c11", "-Wall", "-Wextra", "-Werror", "-g", "-O1"]
 SANE = ["-fsanitize=address,undefined", "-fno-sanitize-recover=all"]
