@@ -35,7 +35,8 @@ enum {
     RECEIVES = 64,             /* of one hags_dispatch */
     OTHER_NETWORK_AFTER = 8,   /* Ups without an answer */
     SHORTEST = 1000,           /* microseconds from one Up to the next, while something happens */
-    LONGEST = 20000,           /* and while nothing does */
+    LONGEST = 20000,           /* and while nothing does, unless hags_idle says otherwise */
+    MOST_IDLE = 10000,         /* milliseconds */
     RECEIVE_BUFFER = 1 << 20,  /* bytes */
     PATIENCE = 10000,          /* milliseconds */
     TAKEN = 1, FULL = 3        /* answers of a Down */
@@ -70,6 +71,7 @@ struct hags {
     char name[HAGS_MOST_NAME + 1];
     int patience;
     int64_t due, pause, last; /* when the next Up is due, how long to wait after it, when the daemon was heard */
+    int64_t longest;          /* how long it may be to the next Up */
 
     /* of this session */
     bool is_active, is_open, is_closing;
@@ -495,7 +497,7 @@ static void send_up(hags *client) {
     (void)!sendto(client->socket, datagram, (size_t)(to - datagram), 0, (struct sockaddr *)&client->place[client->at].at,
                   sizeof client->place[client->at].at);
     client->due = now() + client->pause;
-    client->pause = client->pause * 2 < LONGEST ? client->pause * 2 : LONGEST;
+    client->pause = client->pause * 2 < client->longest ? client->pause * 2 : client->longest;
 }
 
 static void forget_message(message *it) {
@@ -678,6 +680,7 @@ hags *hags_new(const char *settings, int node) {
     }
     client->node = node;
     client->patience = PATIENCE;
+    client->longest = LONGEST;
     client->is_settled = true;
     client->socket = client->timer = client->poll = -1;
     client->last_link = &client->first;
@@ -1011,6 +1014,9 @@ const char *hags_text(hags_result result) {
 
 bool hags_is_open(const hags *client) { return client->is_open; }
 void hags_patience(hags *client, int milliseconds) { client->patience = milliseconds; }
+void hags_idle(hags *client, int milliseconds) {
+    client->longest = 1000 * (int64_t)(milliseconds < 1 ? 1 : milliseconds > MOST_IDLE ? MOST_IDLE : milliseconds);
+}
 hags_result hags_answer(const hags *client) { return client->is_settled ? client->answer : HAGS_LATE; }
 const char *hags_refusal(const hags *client) { return client->refusal; }
 hags_provider hags_asker(const hags *client) { return client->asker; }

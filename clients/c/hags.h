@@ -234,6 +234,10 @@ bool hags_is_open(const hags *client);
  * it was made, hags_answer says what became of it, and the next call is HAGS_BUSY until then. */
 void hags_patience(hags *client, int milliseconds);
 
+/* How long at most the client waits before it asks the daemon for news, while nothing happens, in milliseconds from 1 to
+ * 10,000; 20 at first, which is 50 datagrams a second. An event may be so late. */
+void hags_idle(hags *client, int milliseconds);
+
 /* The calls. Each waits for the daemon's answer. A group's leader may refuse later what the daemon took: then HAGS_TOLD is
  * heard, with the number of hags_request. `by_vote` is whether the members vote on it.
  *

@@ -35,11 +35,12 @@ import (
 
 const (
 	shortest          = time.Millisecond      // from one Up to the next, while something happens
-	longest           = 20 * time.Millisecond // and while nothing does
-	goodbye           = time.Second           // how long Close waits for the daemon
-	room              = 1024                  // events in the channel
-	otherNetworkAfter = 8                     // Ups without an answer
-	receiveBuffer     = 1 << 20               // bytes
+	longest           = 20 * time.Millisecond // and while nothing does, unless SetIdle says otherwise
+	mostIdle          = 10 * time.Second
+	goodbye           = time.Second // how long Close waits for the daemon
+	room              = 1024        // events in the channel
+	otherNetworkAfter = 8           // Ups without an answer
+	receiveBuffer     = 1 << 20     // bytes
 )
 
 var (
@@ -93,6 +94,7 @@ type Client struct {
 	closeOnce sync.Once
 	closeErr  error
 
+	idle        atomic.Int64 // the longest wait, in nanoseconds
 	incarnation atomic.Uint32
 	last        atomic.Int64 // when the daemon was heard, in nanoseconds since `began`
 	began       time.Time
@@ -121,6 +123,7 @@ func Open(ctx context.Context, settings string, node int, name string) (*Client,
 	conn.SetReadBuffer(receiveBuffer) // as much of it as the system gives: many events come as many pieces at once
 	c := &Client{name: name, conn: conn, places: places, calls: make(chan *call, 1), events: make(chan Event, room),
 		ended: make(chan struct{}), began: time.Now()}
+	c.SetIdle(longest)
 	c.ending, c.end = context.WithCancel(context.Background())
 	go c.run(&session{node: node, key: binary.BigEndian.Uint32(key)})
 	if _, err := c.Call(ctx, fmt.Sprintf("client %d %s -", node, name)); err != nil {
@@ -150,6 +153,18 @@ func (c *Client) Incarnation() uint32 { return c.incarnation.Load() }
 // Silence is for how long the daemon has not been heard. One that lives answers many times a second.
 func (c *Client) Silence() time.Duration {
 	return time.Since(c.began) - time.Duration(c.last.Load())
+}
+
+// SetIdle says how long at most the client waits before it asks the daemon for news, while nothing happens: from a
+// millisecond to ten seconds, and 20 milliseconds at first, which is 50 datagrams a second. An event may be so late.
+func (c *Client) SetIdle(idle time.Duration) {
+	if idle < shortest {
+		idle = shortest
+	}
+	if idle > mostIdle {
+		idle = mostIdle
+	}
+	c.idle.Store(int64(idle))
 }
 
 // Call makes a call, a line of docs/formats.md with the client's name in it, and waits for its answer: what it asked of a
@@ -319,8 +334,8 @@ func (s *server) send() {
 	to := s.places[s.at]
 	s.conn.WriteToUDP(s.up(to.network), to.at) // one that fails is a lost one, and goes again
 	s.due = time.Now().Add(s.pause)
-	if s.pause *= 2; s.pause > longest {
-		s.pause = longest
+	if s.pause *= 2; s.pause > time.Duration(s.idle.Load()) {
+		s.pause = time.Duration(s.idle.Load())
 	}
 }
 

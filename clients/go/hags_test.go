@@ -287,6 +287,21 @@ func TestLostAndFull(t *testing.T) {
 	}
 }
 
+// A client at rest asks as seldom as it was told, and a call goes out at once all the same.
+func TestIdle(t *testing.T) {
+	p, settings := newPlayed(t)
+	c := opened(t, p, settings)
+	c.SetIdle(time.Hour)
+	for c.Silence() < 3*time.Second {
+		time.Sleep(10 * time.Millisecond)
+	}
+	began := time.Now()
+	if _, err := c.Leave(soon(t), "db", false); err != nil || time.Since(began) > 2*time.Second {
+		t.Error(err, time.Since(began))
+	}
+	c.SetIdle(0)
+}
+
 func TestClose(t *testing.T) {
 	p, settings := newPlayed(t)
 	c := opened(t, p, settings)

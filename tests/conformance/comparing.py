@@ -87,9 +87,9 @@ def compare_places(session, places):
     """All clients heard the same at a place, and each provider hears the places of a view one after another."""
     last = {}
     for line in session.lines:
-        kind, provider, view, group, place, *said = line.split(" ")
-        if kind != "heard":
+        if not line.startswith("heard "):
             continue
+        _, provider, view, group, place, *said = line.split(" ")
         known = places.setdefault((view, group, place), (session.name, said))
         if known[1] != said:
             raise Fault(f"{session.name}: {line}\n  {known[0]} heard {known[1]} there")

@@ -12,7 +12,7 @@ HERE = pathlib.Path(__file__).resolve().parent
 TOP = HERE.parent.parent
 C = TOP / "clients" / "c"
 WAIT = 120  # seconds that a client waits for an answer: longer than any daemon is away
-ASKING = ("join", "leave", "state", "message")  # the commands made here that ask something of a group
+ASKING = ("join", "leave", "expel", "state", "message", "attrs")  # the commands that ask something of a group
 OWN = ("heard", "cast", "asked", "told")
 STRICT = ["-std=c11", "-Wall", "-Wextra", "-Werror", "-g", "-O1"]
 SANE = ["-fsanitize=address,undefined", "-fno-sanitize-recover=all"]
@@ -188,7 +188,6 @@ class Driver:
         if command.startswith("open ") and answer.startswith("taken "):
             self.session.incarnation = int(answer.split(" ")[1])
         elif answer == "lost" or command == "close":
-            self.session.is_closed = command == "close"
             self.open()
         elif answer in ("late", "full", "bad") or command.startswith("open "):
             raise DriverError(f"the driver of {self.language} answered {command} with {answer}")
@@ -234,6 +233,7 @@ class Driver:
         if kind == 20:
             return f"expel {group} 1 1.1.1.1"
         if kind == 21:
+            self.session.is_closed = True  # by the daemon too, whether it answers or not
             return "close"
         return self.chance.one_of(("raw flow", "raw state nobody db 1 x", f"vote {group} A", f"join {group} {self.session.instance}"))
 

@@ -347,6 +347,21 @@ static void test_second_network(void) {
     end(client);
 }
 
+/* A client at rest asks as seldom as it was told, and a call goes out at once all the same. */
+static void test_idle(void) {
+    hags *client = client_of("");
+    open_client(client);
+    hags_idle(client, 100000);
+    for (int it = 0; it < 11; it++) take_up(client); /* some 2 seconds of waits that double */
+    hags_wait(client, 100);
+    socklen_t size = sizeof played.client;
+    ssize_t length = recvfrom(played.socket, played.up, sizeof played.up, MSG_DONTWAIT, (struct sockaddr *)&played.client, &size);
+    CHECK(length < 0);
+    CHECK(hags_call(client, "leave a db 1") == HAGS_LATE);
+    take_up_with(client, 2, 0);
+    end(client);
+}
+
 static void test_close(void) {
     hags *client = client_of("");
     open_client(client);
@@ -515,6 +530,7 @@ int main(void) {
     test_lost();
     test_full();
     test_second_network();
+    test_idle();
     test_close();
     test_calls();
     puts("the C client is as it should be");
