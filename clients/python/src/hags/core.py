@@ -1,5 +1,5 @@
-"""What a Client and an AsyncClient have in common: the calls that wait for their turn, the groups of which the client is a
-member, the recipes that look after theirs, and which daemon is used. It is for one thread at a time."""
+"""What a Client and an AsyncClient have in common: the calls that wait for their turn, the groups of which the client
+is a member, the recipes that look after theirs, and which daemon is used. It is for one thread at a time."""
 
 from __future__ import annotations
 
@@ -184,8 +184,8 @@ class Core:
             self._lose(error, self._next_node() if isinstance(error, DaemonFull) else self.node)
         if len(self.nodes) > 1 and self.session.silence(now) > self.patience and not self.over:
             after = self._next_node()
-            silent = f"the daemon of node {self.node} is silent for {self.patience:g} s, so that of node {after} is tried"
-            self._lose(SessionLost(f"{silent}. Join again"), after)
+            silent = f"the daemon of node {self.node} is silent for {self.patience:g} s"
+            self._lose(SessionLost(f"{silent}, so that of node {after} is tried. Join again"), after)
         self._say_farewell(now)
         for recipe in list(self._recipes.values()):
             recipe.tick(now)
@@ -207,7 +207,9 @@ class Core:
         if call is None or not session.is_settled:
             return
         self._current, self.has_news = None, True
-        refused = None if session.taken else CallRefused(f"the daemon of node {self.node}", call.line_of(self.name), session.why)
+        refused = None
+        if not session.taken:
+            refused = CallRefused(f"the daemon of node {self.node}", call.line_of(self.name), session.why)
         if call is self._opening:
             self._opening = None
             self._opened(refused)

@@ -7,7 +7,7 @@ from urllib.parse import quote_from_bytes, unquote_to_bytes
 
 from .ids import Host, Member, View, hosts_of, member_of, members_of, view_of
 
-HOSTS = "HostMembership"  #: the group whose members are the nodes of the view; one subscribes to it, and nobody joins it
+HOSTS = "HostMembership"  #: the group whose members are the nodes of the view, to which one subscribes
 TEXT = "!\"#$&'()*+,/:;<=>?@[\\]^`{|}"  # bytes that stand for themselves, besides letters, digits and _.-~
 
 
