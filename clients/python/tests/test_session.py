@@ -72,6 +72,14 @@ def test_an_answer_waits_for_the_events_of_its_call() -> None:
     assert len(session.events) == 16
 
 
+def test_lines_of_daemons_to_come_are_borne() -> None:
+    session = opened()
+    known = "heard 1.5.7.1 3.1.5 db 0 once-state 1.5.7.1 =red"
+    session.take(down(session, 2, 1, 1, ["entirely new", f"{known} once state 1.5.7.1/2 =red", known]), 0.0)
+    first, second = session.events
+    assert first == second and first[-1] == b"red"
+
+
 def test_a_daemon_that_was_started_anew_is_told() -> None:
     session = opened()
     with pytest.raises(SessionLost, match="5 is 6 now"):

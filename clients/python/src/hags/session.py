@@ -133,7 +133,10 @@ class Session:
         if line.startswith("refused "):
             self.why = line.split(" ", 2)[2]
             return
-        event = event_of(line)
+        try:
+            event = event_of(line)
+        except ValueError:
+            return  # of a kind that daemons to come may have
         self.events.append(event)
         if isinstance(event, Asked):
             self.asked = event
