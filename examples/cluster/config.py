@@ -49,7 +49,7 @@ class Voter:
         here = {member.node for member in members}
         if self.next is None or 2 * len(here) <= self.nodes:
             return REJECT
-        if self.has_asked and self.proposer != self.me:
+        if self.has_asked and self.proposer != str(self.me):
             return REJECT  # what the others have heard is not what this one asked for
         return REJECT if self.never and self.never in self.next else APPROVE
 
@@ -74,7 +74,7 @@ class Voter:
                 self.is_refused = True
         elif heard.what == "once-state" and self.is_refused:
             return False
-        elif heard.what == "once-state" and self.proposer == self.me:
+        elif heard.what == "once-state" and self.proposer == str(self.me):
             self.client.state(GROUP, self.next, by_vote=True)
             self.has_asked = True
         if self.is_member and self.wanted and not (self.has_proposed or self.is_refused):
@@ -84,7 +84,7 @@ class Voter:
 
     def ends_own(self, proposer):
         """A vote has ended, on what this proposer had proposed. Was it the one that this voter asked for?"""
-        is_own = self.has_asked and proposer == self.me
+        is_own = self.has_asked and proposer == str(self.me)
         self.has_proposed = self.has_asked = False
         return is_own
 

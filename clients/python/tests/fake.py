@@ -64,7 +64,12 @@ class FakeDaemon:
         if message.startswith(b"RG\1\x16"):
             question, what = struct.unpack(">IB", message[16:21])
             hosts = "1.5,2.5,3.5"
-            text = [f"hats 1 3.5.1 members=1,2,3 neighbour=2", f"hagsns 3.1.5 coord=1 members={hosts} frozen=no", "", ""]
+            text = [
+                f"hats 1 3.5.1 members=1,2,3 neighbour=2",
+                f"hagsns 3.1.5 coord=1 members={hosts} frozen=no",
+                "",
+                "",
+            ]
             head = struct.pack(">3sBBBBBIII", b"RG\1", 23, datagram[0], self.node, 0, 0, self.incarnation, 0, question)
             self._send(datagram[0], head + f"{text[what - 1]}\n".encode(), whom)
             return

@@ -66,7 +66,11 @@ def test_a_dissolved_join_is_made_again(daemon: FakeDaemon) -> None:
     ("lines", "error", "said"),
     [
         (["told 1.5.7.1 1 BAD_GROUP_ATTRIBUTES"], CallRefused, "All members give the same ones"),
-        (["heard 1.5.7.1 3.1.5 db 0 begin-join - =", "heard 1.5.7.1 3.1.5 db 1 reject - ="], Rejected, "rejected the join"),
+        (
+            ["heard 1.5.7.1 3.1.5 db 0 begin-join - =", "heard 1.5.7.1 3.1.5 db 1 reject - ="],
+            Rejected,
+            "rejected the join",
+        ),
         ([], TimedOut, "the join of db to be decided"),
     ],
 )
@@ -113,7 +117,12 @@ def test_a_closed_client_says_so(daemon: FakeDaemon) -> None:
     client = Client(settings_of(daemon.port), 1)
     client.close()
     client.close()
-    for use in (lambda: client.next_event(0), lambda: client.join("db"), client.fileno, lambda: client.status("hagsns")):
+    for use in (
+        lambda: client.next_event(0),
+        lambda: client.join("db"),
+        client.fileno,
+        lambda: client.status("hagsns"),
+    ):
         with pytest.raises(ClientClosed, match="Make another one"):
             use()
     assert not client.is_open
@@ -191,14 +200,20 @@ def test_lost_datagrams_come_again(daemon: FakeDaemon) -> None:
         for count in range(5):
             daemon.lose = count
             client.subscribe(f"g{count}")
-    assert [line.split(" ")[2] for line in daemon.calls if line.startswith("subscribe")] == [f"g{it}" for it in range(5)]
+    assert [line.split(" ")[2] for line in daemon.calls if line.startswith("subscribe")] == [
+        f"g{it}" for it in range(5)
+    ]
 
 
 def test_the_second_network_is_tried(daemon: FakeDaemon) -> None:
     settings = settings_of(daemon.port, "adapter 1 2 127.0.0.1").places(1)
     assert [place.network for place in settings] == [1, 2]
     away = settings_of(daemon.port, "adapter 1 2 127.0.0.1", nodes=1)
-    moved = type(away)(away.nodes, tuple(it._replace(address="127.0.0.99") if it.network == 1 else it for it in away.adapters), away.port)
+    moved = type(away)(
+        away.nodes,
+        tuple(it._replace(address="127.0.0.99") if it.network == 1 else it for it in away.adapters),
+        away.port,
+    )
     with Client(moved, 1, seconds=5) as client:
         client.subscribe("db")
     assert set(daemon.networks) == {2}
@@ -233,7 +248,9 @@ def test_another_daemon_is_tried() -> None:
 def test_threads_share_a_client(daemon: FakeDaemon) -> None:
     daemon.answer = joins
     with Client(settings_of(daemon.port), 1) as client:
-        threads = [threading.Thread(target=lambda at=at: [client.subscribe(f"g{at}") for _ in range(20)]) for at in range(8)]
+        threads = [
+            threading.Thread(target=lambda at=at: [client.subscribe(f"g{at}") for _ in range(20)]) for at in range(8)
+        ]
         for thread in threads:
             thread.start()
         for thread in threads:

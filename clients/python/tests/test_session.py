@@ -12,11 +12,14 @@ from hags.settings import Place
 from hags.wire import Joiner, datagram_of, message_of, up_of
 
 PLACES = [Place(1, "127.0.0.1", 1), Place(2, "127.0.1.1", 1)]
-UP = "01 5250 00 00 00000000 0000000000000001 00000000 00000001 52530100 00000007 00000001 00000000 000C 636C69656E7420312061202D"
+HEAD = "01 5250 00 00 00000000 0000000000000001 00000000 00000001 "
+UP = HEAD + "52530100 00000007 00000001 00000000 000C 636C69656E7420312061202D"
 DOWN = "01 5250 01 00 00000005 0000000000000001 00000000 00000001 52530200 00000007 00000005 00000001 01 00000001 00"
 
 
-def down(session: Session, number: int, done: int, first: int, events: list[str], answer: int = 1, incarnation: int = 5) -> bytes:
+def down(
+    session: Session, number: int, done: int, first: int, events: list[str], answer: int = 1, incarnation: int = 5
+) -> bytes:
     """A Down as a datagram, the message of this number of node 1."""
     message = b"RS\2\0" + session.key + struct.pack(">IIBIB", incarnation, done, answer, first, len(events))
     message += b"".join(struct.pack(">H", len(it)) + it.encode() for it in events)
@@ -45,11 +48,15 @@ def test_events_are_heard_once_and_in_order() -> None:
     session = opened()
     lines = [f"told 1.5.7.1 {number} DISSOLVED" for number in range(40)]
     chance = random.Random(1)
-    downs = [down(session, number, 1, first, lines[first - 1 : first + 15]) for number, first in enumerate(range(1, 26), 2)]
+    downs = [
+        down(session, number, 1, first, lines[first - 1 : first + 15]) for number, first in enumerate(range(1, 26), 2)
+    ]
     for _ in range(200):
         for number, datagram in enumerate(chance.sample(downs, len(downs))):
             # each as a newer message, as daemons number them
-            session.take(datagram[:9] + struct.pack(">Q", 1000 + chance.randrange(10**9) + number) + datagram[17:], 0.0)
+            session.take(
+                datagram[:9] + struct.pack(">Q", 1000 + chance.randrange(10**9) + number) + datagram[17:], 0.0
+            )
     assert [event[1] for event in session.events] == sorted(event[1] for event in session.events)
     assert len({event[1] for event in session.events}) == len(session.events)
 
@@ -63,6 +70,14 @@ def test_an_answer_waits_for_the_events_of_its_call() -> None:
     session.take(down(session, 3, 2, 17, ["refused 1.a UNKNOWN_GROUP"], answer=2), 0.0)
     assert session.is_settled and not session.taken and session.why == "UNKNOWN_GROUP"
     assert len(session.events) == 16
+
+
+def test_lines_of_daemons_to_come_are_borne() -> None:
+    session = opened()
+    known = "heard 1.5.7.1 3.1.5 db 0 once-state 1.5.7.1 =red"
+    session.take(down(session, 2, 1, 1, ["entirely new", f"{known} once state 1.5.7.1/2 =red", known]), 0.0)
+    first, second = session.events
+    assert first == second and first[-1] == b"red"
 
 
 def test_a_daemon_that_was_started_anew_is_told() -> None:

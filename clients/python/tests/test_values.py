@@ -6,7 +6,8 @@ import pytest
 from hags import Attributes, BadArgument, BadSettings, Host, Hosts, Member, Settings, Token, View, calls
 from hags.events import event_of, line_of
 
-THREE = "# three\nnode 1\nnode 2\nadapter 1 1 10.0.0.1\nadapter 2 1 10.0.0.2\nadapter 2 2 10.2.0.2\nhb 2 5\nport 400\nbegin\nx"
+ADAPTERS = "adapter 1 1 10.0.0.1\nadapter 2 1 10.0.0.2\nadapter 2 2 10.2.0.2\n"
+THREE = f"# three\nnode 1\nnode 2\n{ADAPTERS}hb 2 5\nport 400\nbegin\nx"
 
 EVENTS = [
     "asked 1.5.7.1 1 db join",
@@ -46,7 +47,11 @@ def test_ids_are_read_as_they_are_written() -> None:
 
 
 def test_tokens_rise_as_their_numbers_do() -> None:
-    tokens = [Token(View(*view), place) for view in ((1, 1, 1), (1, 1, 9), (1, 2, 1), (2, 1, 1)) for place in (0, 1, 2**32 - 1)]
+    tokens = [
+        Token(View(*view), place)
+        for view in ((1, 1, 1), (1, 1, 9), (1, 2, 1), (2, 1, 1))
+        for place in (0, 1, 2**32 - 1)
+    ]
     assert tokens == sorted(tokens)
     numbers = list(map(int, tokens))
     assert numbers == sorted(set(numbers)) and max(numbers) < 2**104

@@ -2,7 +2,10 @@
 what programs mostly build on them: a `Lock`, the election of a `Leader`, a `Barrier`, a `Value` that changes by vote, a
 `Watch`, and work in `Shares`. docs/clients/python.md has all of it, and docs/recipes.md how the recipes are used."""
 
-from .aio import AsyncClient
+from __future__ import annotations
+
+from typing import TYPE_CHECKING
+
 from .calls import APPROVE, CONTINUE, REJECT, Attributes
 from .client import Client
 from .core import Membership
@@ -25,6 +28,9 @@ from .events import HOSTS, Asked, Cast, Event, Heard, Hosts, Noted, Told
 from .ids import Host, Member, Token, View
 from .recipes import Barrier, Change, Leader, Lock, Share, Shares, Value, Watch
 from .settings import Adapter, Place, Settings
+
+if TYPE_CHECKING:
+    from .aio import AsyncClient
 
 __all__ = [
     "APPROVE",
@@ -71,3 +77,12 @@ __all__ = [
     "View",
     "Watch",
 ]
+
+
+def __getattr__(name: str) -> object:
+    """Reads `AsyncClient` where it is used first, since asyncio takes as long to load as all the rest."""
+    if name == "AsyncClient":
+        from .aio import AsyncClient
+
+        return AsyncClient
+    raise AttributeError(f"module {__name__!r} has no attribute {name!r}")

@@ -44,8 +44,8 @@ class AsyncClient(AbstractAsyncContextManager["AsyncClient"]):
             async for event in client.events():
                 print(event)
 
-    It has no thread: the loop sends and receives for it, and is not to be blocked for long. It is for the loop that runs
-    when it is entered, and for no other thread. The recipes take a plain `Client`.
+    It has no thread: the loop sends and receives for it, and is not to be blocked for long. It is for the loop that
+    runs when it is entered, and for no other thread. The recipes take a plain `Client`.
     """
 
     def __init__(
@@ -181,8 +181,8 @@ class AsyncClient(AbstractAsyncContextManager["AsyncClient"]):
             await self.call(line)
 
     async def call(self, line: str) -> Asked | None:
-        """Makes a call, a line of docs/formats.md, in which `{}` as the second word is this client's name, and waits for
-        its answer. Gives what it asked of a group, if anything."""
+        """Makes a call, a line of docs/formats.md, in which `{}` as the second word is this client's name, and waits
+        for its answer. Gives what it asked of a group, if anything."""
         core = self._core
         future: Future[Answer] = core.post(line)
         self._act()

@@ -1,5 +1,5 @@
-"""The lines of calls, as docs/formats.md has them, from values that are looked at first. `{}` stands for the name of the
-client."""
+"""The lines of calls, as docs/formats.md has them, from values that are looked at first. `{}` stands for the name of
+the client."""
 
 from __future__ import annotations
 

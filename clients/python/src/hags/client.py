@@ -59,7 +59,8 @@ def own_name(name: str | None) -> str:
 
 def no_reply(core: Core, more: str = "") -> NoReply:
     places = ", ".join(str(place) for place in core.places[core.node])
-    others = f"; the daemons of nodes {', '.join(map(str, core.nodes))} are tried in turn" if len(core.nodes) > 1 else ""
+    nodes = ", ".join(map(str, core.nodes))
+    others = f"; the daemons of nodes {nodes} are tried in turn" if len(core.nodes) > 1 else ""
     return NoReply(f"no daemon of node {core.node} with --remote answers at {places}{others}{more}")
 
 
@@ -84,7 +85,8 @@ def is_decided(core: Core, asked: Asked) -> bool:
 
 
 class Client(AbstractContextManager["Client"]):
-    """A client of a cluster: it joins groups, sets their values, votes, and hears what every member hears, in one order.
+    """A client of a cluster: it joins groups, sets their values, votes, and hears what every member hears, in one
+    order.
 
         with hags.Client("settings", node=1, name="web") as client:
             client.join("db")
@@ -194,8 +196,8 @@ class Client(AbstractContextManager["Client"]):
     def join(
         self, group: str, attributes: Attributes = PLAIN, *, instance: int | None = None, seconds: float | None = None
     ) -> Member:
-        """Joins a group, and returns once this client is a member: that membership. Where two sides of a partition merge
-        meanwhile it joins again. All members give the same attributes; those of one node have different instance
+        """Joins a group, and returns once this client is a member: that membership. Where two sides of a partition
+        merge meanwhile it joins again. All members give the same attributes; those of one node have different instance
         numbers, 1 to 65,535, and None takes one that is free. Raises CallRefused where the join is refused, Rejected
         where it is voted down, and TimedOut where it is not decided in so many seconds (None: as many as an answer may
         take): then it may be decided yet."""
@@ -261,8 +263,8 @@ class Client(AbstractContextManager["Client"]):
             self.call(line)
 
     def call(self, line: str) -> Asked | None:
-        """Makes a call, a line of docs/formats.md, in which `{}` as the second word is this client's name, and waits for
-        its answer. Gives what it asked of a group, if anything."""
+        """Makes a call, a line of docs/formats.md, in which `{}` as the second word is this client's name, and waits
+        for its answer. Gives what it asked of a group, if anything."""
         with self.locked() as core:
             future = core.post(line)
         return self._answer(future)
@@ -330,7 +332,8 @@ class Client(AbstractContextManager["Client"]):
     # The end
 
     def open(self) -> None:
-        """Begins a session where the last one was lost and the client has `reopen=False`, and waits until it is there."""
+        """Begins a session where the last one was lost and the client has `reopen=False`, and waits until it is
+        there."""
         with self.locked() as core:
             core.open()
         self._wait_open(self.seconds)

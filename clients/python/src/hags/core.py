@@ -1,5 +1,5 @@
-"""What a Client and an AsyncClient have in common: the calls that wait for their turn, the groups of which the client is a
-member, the recipes that look after theirs, and which daemon is used. It is for one thread at a time."""
+"""What a Client and an AsyncClient have in common: the calls that wait for their turn, the groups of which the client
+is a member, the recipes that look after theirs, and which daemon is used. It is for one thread at a time."""
 
 from __future__ import annotations
 
@@ -18,6 +18,7 @@ from .session import Connection, Question, Session
 from .settings import Settings
 
 FAREWELL = 10.0  # seconds for which a daemon that was given up is told goodbye
+AT_REST = 1.0  # seconds from one step to the next without a session
 PAUSED = 0.2  # seconds without a step, after which the process was paused
 Answer = Optional[Asked]
 
@@ -171,6 +172,8 @@ class Core:
     def step(self) -> float:
         """Sends, receives, and does what is due. Answers when the next step is due."""
         now = time.monotonic()
+        if self.over:
+            return now + AT_REST
         if now - self._stepped > max(PAUSED, 3 * self.session.idle):
             self.connection.drop()  # what came while this process was paused says nothing of how it stands now
         self._stepped = now
@@ -184,8 +187,8 @@ class Core:
             self._lose(error, self._next_node() if isinstance(error, DaemonFull) else self.node)
         if len(self.nodes) > 1 and self.session.silence(now) > self.patience and not self.over:
             after = self._next_node()
-            silent = f"the daemon of node {self.node} is silent for {self.patience:g} s, so that of node {after} is tried"
-            self._lose(SessionLost(f"{silent}. Join again"), after)
+            silent = f"the daemon of node {self.node} is silent for {self.patience:g} s"
+            self._lose(SessionLost(f"{silent}, so that of node {after} is tried. Join again"), after)
         self._say_farewell(now)
         for recipe in list(self._recipes.values()):
             recipe.tick(now)
@@ -207,7 +210,9 @@ class Core:
         if call is None or not session.is_settled:
             return
         self._current, self.has_news = None, True
-        refused = None if session.taken else CallRefused(f"the daemon of node {self.node}", call.line_of(self.name), session.why)
+        refused = None
+        if not session.taken:
+            refused = CallRefused(f"the daemon of node {self.node}", call.line_of(self.name), session.why)
         if call is self._opening:
             self._opening = None
             self._opened(refused)
@@ -256,7 +261,7 @@ class Core:
     def _lose(self, error: HagsError, node: int) -> None:
         """The session is over. All that hung on it is told, and the next one begins, with the daemon of this node."""
         old, was_open = self.session, self.is_open
-        self.is_open, self.hosts, self.has_news = False, None, True
+        self.is_open, self.hosts, self.wants_hosts, self.has_news = False, None, False, True
         for membership in self.memberships.values():
             membership.is_member, membership.ended = False, membership.ended or "SessionLost"
         failed = [call for call in (self._current,) if call and call is not self._opening]
@@ -336,7 +341,7 @@ class Core:
         recipe = self._recipes.get(group)
         if recipe:
             recipe.take(event)
-        elif self.wants_hosts or not isinstance(event, Hosts):
+        elif self.wants_hosts or not (self.follows_hosts and isinstance(event, Hosts)):
             self.events.append(event)
 
     def _group_of(self, event: Event) -> str:

@@ -5,7 +5,7 @@ from __future__ import annotations
 WHAT_TO_DO = {
     "EXISTS": "there is one already: a client of this name, a membership of this group, or a subscription to it. "
     "Use that one, or take another name",
-    "COLLIDE": "a call of this membership is not decided yet, or a vote runs in the group. Ask again when it is decided",
+    "COLLIDE": "a call of this membership is not decided yet, or a vote runs in the group. Ask again after that",
     "VOTE_NOT_EXPECTED": "no vote is open here, or this vote is cast. Vote once after a begin- or a phase was heard",
     "BAD_MEMBER_TOKEN": "this client is no member of the group. Join it first",
     "UNKNOWN_GROUP": "nobody has joined the group yet in this view. Subscribe after the first join",

@@ -7,7 +7,7 @@ from urllib.parse import quote_from_bytes, unquote_to_bytes
 
 from .ids import Host, Member, View, hosts_of, member_of, members_of, view_of
 
-HOSTS = "HostMembership"  #: the group whose members are the nodes of the view; one subscribes to it, and nobody joins it
+HOSTS = "HostMembership"  #: the group whose members are the nodes of the view, to which one subscribes
 TEXT = "!\"#$&'()*+,/:;<=>?@[\\]^`{|}"  # bytes that stand for themselves, besides letters, digits and _.-~
 
 
@@ -81,10 +81,11 @@ def value_of(word: str) -> bytes:
 
 
 def event_of(line: str) -> Event:
-    """The event that a line of a transcript is."""
+    """The event that a line of a transcript is. Words behind those that it has are left out, as daemons to come may have
+    more to tell. Raises ValueError where it is no line of an event."""
     kind, *words = line.split(" ")
     if kind == "heard":
-        provider, view, group, place, what, members, value = words
+        provider, view, group, place, what, members, value, *_ = words
         return Heard(member_of(provider), view_of(view), group, int(place), what, members_of(members), value_of(value))
     if kind == "asked":
         return Asked(member_of(words[0]), int(words[1]), words[2], words[3])
@@ -95,7 +96,7 @@ def event_of(line: str) -> Event:
         return Cast(member_of(words[0]), words[1], int(words[2]), words[3][0], value_of(value) if value else None)
     if kind != "noted":
         raise ValueError(f"no line of an event: {line}")
-    client, view, group, place, members, value = words
+    client, view, group, place, members, value, *_ = words
     if group == HOSTS:
         return Hosts(client, view_of(view), hosts_of(members))
     at = None if place == "-" else int(place)

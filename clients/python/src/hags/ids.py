@@ -63,7 +63,8 @@ class View(NamedTuple):
 
 class Token(NamedTuple):
     """A fencing number: the view, and the place in the group's list there, of the entry that gave an office, a lock or
-    a part to somebody. No two entries have the same one. Tokens compare as they rise; docs/recipes.md says when they do."""
+    a part to somebody. No two entries have the same one. Tokens compare as they rise; docs/recipes.md says when they
+    do."""
 
     view: View
     place: int

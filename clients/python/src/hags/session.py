@@ -23,7 +23,8 @@ ASK_AGAIN = 0.1  # seconds until a question is asked again
 
 
 class Question:
-    """A question of `hags status` to the daemon of a node, asked on all of its networks in turn until it is answered."""
+    """A question of `hags status` to the daemon of a node, asked on all of its networks in turn until it is
+    answered."""
 
     def __init__(self, node: int, places: Sequence[Place], what: str, answer: Callable[[list[str]], None]) -> None:
         self.node, self.places, self.what, self.answer = node, tuple(places), what, answer
@@ -47,8 +48,8 @@ class Question:
 
 
 class Session:
-    """Makes calls, one at a time, and hears events, each once and in order. Of the daemon's networks the one that answered
-    last is used, and all of them in turn while none does."""
+    """Makes calls, one at a time, and hears events, each once and in order. Of the daemon's networks the one that
+    answered last is used, and all of them in turn while none does."""
 
     def __init__(self, node: int, places: Sequence[Place], now: float, idle: float = IDLE) -> None:
         self.node, self.places, self.idle = node, tuple(places), idle
@@ -91,7 +92,8 @@ class Session:
         return next(place for place in self.places if place.network == self._network)
 
     def take(self, datagram: bytes, now: float) -> None:
-        """Takes a datagram that came, whatever it is. Raises SessionLost or DaemonFull, and then the session is over."""
+        """Takes a datagram that came, whatever it is. Raises SessionLost or DaemonFull, and then the session is
+        over."""
         message = self._joiner.take(datagram[1:])
         said = message_of(message) if message else None
         if isinstance(said, Down) and said.key == self.key:
@@ -119,7 +121,8 @@ class Session:
             self._line, self.taken = b"", down.answer == TAKEN
         # An answer may come before the events of its call, where more of them wait than a Down can carry.
         count = len(down.events)
-        if not self._line and down.done == self._number and count < MOST_EVENTS and down.first + count <= self._heard + 1:
+        has_all = count < MOST_EVENTS and down.first + count <= self._heard + 1
+        if not self._line and down.done == self._number and has_all:
             self.is_settled = True
         if self._heard > before:
             self._pause, self.due = SHORTEST, 0.0 if count == MOST_EVENTS else now + SHORTEST
@@ -130,15 +133,19 @@ class Session:
         if line.startswith("refused "):
             self.why = line.split(" ", 2)[2]
             return
-        event = event_of(line)
+        try:
+            event = event_of(line)
+        except ValueError:
+            return  # of a kind that daemons to come may have
         self.events.append(event)
         if isinstance(event, Asked):
             self.asked = event
 
 
 class Connection:
-    """A socket, and the session that is held over it. `turn` sends and receives; nothing else waits. It is for one thread,
-    and what a Client and an AsyncClient are built on; programs that have a loop of their own may use it as it is."""
+    """A socket, and the session that is held over it. `turn` sends and receives; nothing else waits. It is for one
+    thread, and what a Client and an AsyncClient are built on; programs that have a loop of their own may use it as it
+    is."""
 
     def __init__(self, node: int, places: Sequence[Place], idle: float = IDLE) -> None:
         self.socket = socket.socket(socket.AF_INET, socket.SOCK_DGRAM)
@@ -166,7 +173,8 @@ class Connection:
         return [self.session, *self.leaving, *self.questions]
 
     def turn(self, seconds: float = 0) -> None:
-        """Sends what is due, waits for at most so many seconds, and takes what came. Raises SessionLost or DaemonFull."""
+        """Sends what is due, waits for at most so many seconds, and takes what came. Raises SessionLost or
+        DaemonFull."""
         self.send()
         if seconds > 0:
             wait = max(0.0, min(seconds, self.due - time.monotonic()))

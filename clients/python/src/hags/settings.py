@@ -165,7 +165,8 @@ class _Reading:
             raise BadSettings("the settings name no node. Write a line `node N` for each")
         for adapter in self.adapters:
             if adapter.node not in self.nodes:
-                raise BadSettings(f"the settings have an adapter of node {adapter.node}, and no line `node {adapter.node}`")
+                node = adapter.node
+                raise BadSettings(f"the settings have an adapter of node {node}, and no line `node {node}`")
         port = DEFAULT_PORT if self.port is None else self.port
         heartbeat = (1, 4) if self.heartbeat is None else self.heartbeat
         domain = 1 if self.domain is None else self.domain

@@ -15,7 +15,8 @@ from .voter import LIMIT, Voter
 
 
 class _Party(Voter):
-    """A member of the group, which proposes the number of the next opening once it has arrived, and approves it then."""
+    """A member of the group, which proposes the number of the next opening once it has arrived, and approves it
+    then."""
 
     def __init__(self, client: Client, name: str, parties: int) -> None:
         self.parties, self.has_arrived, self.is_broken = parties, False, False

@@ -1,9 +1,9 @@
 """What recipes have in common: to be a member of a group for as long as that is wanted.
 
-**Members that are dead.** A daemon keeps a client that was killed as a member, for as long as the daemon lives. So members
-here find out who is silent, by signs of life (`office.py`) or by votes that do not come (`voter.py`), and expel it after
-`patience` seconds. Daemons that end the sessions of silent clients themselves make that needless; then `expel_silent` is
-the one place to change."""
+**Members that are dead.** A daemon keeps a client that was killed as a member, for as long as the daemon lives. So
+members here find out who is silent, by signs of life (`office.py`) or by votes that do not come (`voter.py`), and expel
+it after `patience` seconds. Daemons that end the sessions of silent clients themselves make that needless; then
+`expel_silent` is the one place to change."""
 
 from __future__ import annotations
 

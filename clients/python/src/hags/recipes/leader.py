@@ -23,8 +23,9 @@ class Leader(AbstractContextManager["Leader"]):
                 while election.token == token:
                     work(token)
 
-    It stands for election until it is closed: one that has lost its office goes to the end of the line. `data`, of up to
-    180 bytes, is what the others are told of who leads. A leader that is killed is expelled after `patience` seconds.
+    It stands for election until it is closed: one that has lost its office goes to the end of the line. `data`, of up
+    to 180 bytes, is what the others are told of who leads. A leader that is killed is expelled after `patience`
+    seconds.
 
     **Leadership is no lock**: for a moment the old leader may not know that there is a new one. What leaders act on has
     to check `token`, as with a `Lock`.

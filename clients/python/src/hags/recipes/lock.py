@@ -27,13 +27,13 @@ class Lock(AbstractContextManager["Lock"]):
         with hags.Lock(client, "reports") as lock:
             write(report, lock.token)
 
-    Who waits stands in line, in one order for all. A holder that is killed, or hangs with its whole process, is expelled
-    after `patience` seconds; one whose daemon dies loses the lock as soon as the other daemons miss that. It is held on
-    the side of more than half of the nodes alone.
+    Who waits stands in line, in one order for all. A holder that is killed, or hangs with its whole process, is
+    expelled after `patience` seconds; one whose daemon dies loses the lock as soon as the other daemons miss that. It
+    is held on the side of more than half of the nodes alone.
 
-    **The lock can be lost while it is held**, and whoever pauses cannot know that in time. So what it guards has to check
-    `token`, which is a greater one for each later holder, and refuse one that is less than the greatest it has seen:
-    docs/recipes.md says how. A client holds a lock of one name once; its threads share it.
+    **The lock can be lost while it is held**, and whoever pauses cannot know that in time. So what it guards has to
+    check `token`, which is a greater one for each later holder, and refuse one that is less than the greatest it has
+    seen: docs/recipes.md says how. A client holds a lock of one name once; its threads share it.
     """
 
     def __init__(self, client: Client, name: str, *, patience: float = 3.0) -> None:

@@ -14,9 +14,9 @@ BEATS = 3  # signs of life in the time after which one is expelled
 
 
 class Office(Joined):
-    """A member that holds the office where it is the first one. It holds it from an entry on that it has heard in a view of
-    more than half of the nodes, and that entry is its token. As it holds the office it gives a sign of life by the group's
-    value, which has its id, a count and `data`; the others expel who gives none for `patience` seconds."""
+    """A member that holds the office where it is the first one. It holds it from an entry on that it has heard in a
+    view of more than half of the nodes, and that entry is its token. As it holds the office it gives a sign of life by
+    the group's value, which has its id, a count and `data`; the others expel who gives none for `patience` seconds."""
 
     def __init__(self, client: Client, group: str, patience: float, data: bytes = b"") -> None:
         self._data = data

@@ -95,10 +95,10 @@ class Shares(AbstractContextManager["Shares"]):
                 work(share.part, share.token)
 
     The loop goes through this worker's own parts again and again, and waits where it has none. Each part is some
-    worker's, and no two workers have one: where a worker comes, it is voted on, and each worker approves only once it has
-    finished the turn of the loop that it is in. Where one goes, or its node dies, its parts alone go to others. On a side
-    of half of the nodes or fewer nobody works. Let all workers give the same `parts`, and make turns of the loop short
-    against ten seconds or so, since newcomers wait for them.
+    worker's, and no two workers have one: where a worker comes, it is voted on, and each worker approves only once it
+    has finished the turn of the loop that it is in. Where one goes, or its node dies, its parts alone go to others. On
+    a side of half of the nodes or fewer nobody works. Let all workers give the same `parts`, and make turns of the loop
+    short against ten seconds or so, since newcomers wait for them.
 
     A worker whose daemon has died, or whose process was paused, may still be in a turn while another one has its part
     already: what the work acts on checks `share.token`, as with a `Lock`.

@@ -51,8 +51,8 @@ class _Change:
 
 
 class _Keeper(Voter):
-    """A member that keeps the value. It approves each change, where its node is in a view of more than half of the nodes;
-    its own one where the value is still the one that it expects. While a vote runs the value does not change."""
+    """A member that keeps the value. It approves each change, where its node is in a view of more than half of the
+    nodes; its own one where the value is still the one that it expects. While a vote runs the value does not change."""
 
     def __init__(self, client: Client, name: str) -> None:
         self.change: _Change | None = None
@@ -192,7 +192,8 @@ class Value(AbstractContextManager["Value"]):
         return now.data if now else None
 
     def get_versioned(self, seconds: float | None = None) -> Versioned | None:
-        """The same, with how often it was set. That falls only where the group went on from a side with fewer changes."""
+        """The same, with how often it was set. That falls only where the group went on from a side with fewer
+        changes."""
         self._wait_member(seconds)
         with self._client.locked():
             return self._keeper.now()

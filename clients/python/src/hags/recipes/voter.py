@@ -1,5 +1,5 @@
-"""What recipes that vote have in common. A voter that is not ready yet votes CONTINUE, and so begins another phase, once a
-second: so who does not vote for longer is silent. Who that is the daemon of the group's leader says."""
+"""What recipes that vote have in common. A voter that is not ready yet votes CONTINUE, and so begins another phase,
+once a second: so who does not vote for longer is silent. Who that is the daemon of the group's leader says."""
 
 from __future__ import annotations
 

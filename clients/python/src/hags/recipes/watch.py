@@ -12,7 +12,7 @@ from typing import NamedTuple
 from ..calls import group_name, subscribe_line, unsubscribe_line
 from ..client import FOREVER, Client
 from ..core import Core
-from ..errors import ClientClosed, HagsError, TimedOut
+from ..errors import CallRefused, ClientClosed, HagsError, TimedOut
 from ..events import HOSTS, Event, Noted
 from ..ids import Host, Member, View
 from ..status import groups_of, nodes_of
@@ -71,8 +71,8 @@ class _Follower:
 
     def _subscribed(self, error: HagsError | None) -> None:
         self._is_asking = False
-        self._is_subscribed = error is None
-        if error:
+        self._is_subscribed = error is None or (isinstance(error, CallRefused) and error.code == "EXISTS")
+        if not self._is_subscribed:
             self._look_at = time.monotonic() + LOOK  # nobody has joined it yet
 
     def _asked_view(self, lines: list[str]) -> None:
