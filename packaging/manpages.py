@@ -66,7 +66,12 @@ def pages():
     ]
 
 
-TOOLS = {"explain": "says what is wrong with a call of hags, and what to write", "annotate": "shows which line of a script caused what", "draw": "draws a run of hags as a picture"}
+TOOLS = {
+    "explain": "says what is wrong with a call of hags, and what to write",
+    "annotate": "shows which line of a script caused what",
+    "draw": "draws a run of hags as a picture",
+    "view": "makes of a run of hags a page to look at",
+}
 
 
 # ---- Markdown as the pages have it
