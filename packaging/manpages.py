@@ -7,14 +7,13 @@ import argparse
 import pathlib
 import re
 import subprocess
-import sys
 from dataclasses import dataclass
 
 TOP = pathlib.Path(__file__).resolve().parent.parent
 DOCS = "/usr/share/doc/hags"
 BULLET = r"\(bu"
 COMMANDS = ("run", "load", "daemon", "status", "client")
-INSTALLED = (("./hags ", "hags "), ("tools/hags-", "hags-"), ("tools/", "hags-"), ("clients/python/hags_client.py", "hags_client"))
+INSTALLED = (("./hags ", "hags "), ("tools/hags-", "hags-"), ("tools/", "hags-"), ("clients/python/hagsctl", "hagsctl"))
 
 
 @dataclass(frozen=True)
@@ -56,9 +55,10 @@ def pages():
     settings = Part("operating.md", "Settings"), Part("formats.md", "Settings of a node")
     reading = Part("formats.md", "The input of a client"), Part("messages.md", "Reasons of a bad line")
     told = Part("metrics.md", "What is told"), Part("metrics.md", "Alerts")
-    everything = ("hags(1)", "hags-settings(5)", "hags-daemon(8)", "hags-metrics(8)", "hags-annotate(1)", "hags-view(1)")
+    everything = ("hags(1)", "hagsctl(1)", "hags-settings(5)", "hags-daemon(8)", "hags-metrics(8)", "hags-annotate(1)", "hags-view(1)")
     return [
         Page("hags", 1, "group membership for clusters", own, (*words, Part("messages.md", "Exit statuses of `hags`")), everything),
+        Page("hagsctl", 1, "looks at a cluster of hags, and uses it", (("hagsctl", "--help"),), (Part("clients/python.md", "hagsctl"),), everything),
         Page("hags-settings", 5, "the settings of a cluster of hags daemons", (), (*settings, *reading), everything),
         Page("hags-daemon", 8, "starts and watches the daemon of a node", (("hags-daemon", "--help"),), tuple(running), everything),
         Page("hags-metrics", 8, "metrics of hags daemons for Prometheus", (("hags-metrics", "--help"),), told, everything),
@@ -66,7 +66,12 @@ def pages():
     ]
 
 
-TOOLS = {"explain": "says what is wrong with a call of hags, and what to write", "annotate": "shows which line of a script caused what", "draw": "draws a run of hags as a picture"}
+TOOLS = {
+    "explain": "says what is wrong with a call of hags, and what to write",
+    "annotate": "shows which line of a script caused what",
+    "draw": "draws a run of hags as a picture",
+    "view": "makes of a run of hags a page to look at",
+}
 
 
 # ---- Markdown as the pages have it
@@ -178,12 +183,12 @@ def roff_table(rows):
 
 def help_text(words, program):
     """What a call says of itself, at the width of a page."""
-    command = {"hags": [program], "hags-daemon": [TOP / "tools" / "hags-daemon"], "hags-metrics": [TOP / "tools" / "hags-metrics"]}
-    start = command.get(words[0]) or [TOP / "tools" / words[0].removeprefix("hags-")]
-    if words[0] == "hagsctl":
-        start = [sys.executable, "-m", "hags.ctl"]
-    ran = subprocess.run([*start, *words[1:]], capture_output=True, text=True, check=True, env={"COLUMNS": "80", "PATH": "/usr/bin:/bin"})
-    return ran.stdout.replace("usage: " + pathlib.Path(str(start[-1])).name + " ", f"usage: {words[0]} ").rstrip()
+    places = {"hags": program, "hagsctl": TOP / "clients" / "python" / "hagsctl"}
+    places |= {it: TOP / "tools" / it for it in ("hags-daemon", "hags-metrics")}
+    start = places.get(words[0]) or TOP / "tools" / words[0].removeprefix("hags-")
+    environment = {"COLUMNS": "80", "PATH": "/usr/bin:/bin"}
+    ran = subprocess.run([start, *words[1:]], capture_output=True, text=True, check=True, env=environment)
+    return ran.stdout.replace(f"usage: {start.name} ", f"usage: {words[0]} ").rstrip()
 
 
 def roff_page(page, program):

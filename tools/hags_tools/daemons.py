@@ -216,3 +216,13 @@ class Cluster:
     def wait_for_view(self, nodes, seconds=120):
         names = ", ".join(map(str, sorted(nodes)))
         return self.wait_for(f"one view of nodes {names}", seconds, lambda: self.view_of(nodes))
+
+
+def call(daemon, calls, turns=5_000):
+    """Makes these calls at a daemon with --remote, by `hags client`, and answers its status and what it wrote. The client, and
+    what it joined, stays there when the program has ended."""
+    settings = daemon.settings.read_text().split("begin\n")[0]
+    given = "".join(f"{line}\n" for line in [*settings.splitlines(), "begin", *calls])
+    words = [daemon.program, "client", "--node", str(daemon.node), "--turns", str(turns)]
+    ran = subprocess.run(words, input=given, capture_output=True, text=True, check=False, preexec_fn=die_with_parent)
+    return ran.returncode, ran.stdout.splitlines()
