@@ -19,7 +19,7 @@ use Rattle.remote_session.specs.Messages.{down_text}
 use Rattle.remote_session.specs.Daemon.{SeenUp, NotUp, KeysFull, KnownKey, CallMade, up_seen, up_taken, down_for}
 use Rattle.remote_clients.specs.declared.sessions.Sessions.{Sessions}
 use Rattle.remote_clients.specs.Sessions.{sessions_new, noted_all, call_for, is_refused, finished, turned_down}
-use Rattle.daemon_model.specs.Sent.{Exchange, plain, as_sent, number_if, message_calls, sent_calls, number_after}
+use Rattle.daemon_model.specs.Sent.{Exchange, plain, said, as_sent, number_if, message_calls, sent_calls, number_after}
 
 -- Where a daemon stands, and what it did: which node it is, in which incarnation; its node, at work; the moment of its
 -- last tick, or of its start; what it joins; the number of the next message that it cuts; how many receives failed in a
@@ -184,7 +184,7 @@ down_in (Some s) key = down_text (down_for s.remote key)
 unfoldable pub down_sent : ℕ → ℕ → Daemon → Daemon
 down_sent key network d = record d {
   number = number_if (can_cut (down_in d.sessions key)) d.number;
-  calls = d.calls ++ map plain (message_calls d.me d.incarnation d.number 0 network (down_in d.sessions key));
+  calls = d.calls ++ map (said d.number) (message_calls d.me d.incarnation d.number 0 network (down_in d.sessions key));
 }
 
 -- what an Up brings, and then one Down of its key; every other message is the node's

@@ -62,16 +62,27 @@ pub record Numbered : Type 0 where
   pub number : ℕ
   pub packet : Packet
 
--- a receive or a send, and of which packet it is a piece, if it is of one
+-- what is received or sent is of nothing that the daemon cut, where it is received; a piece of a packet; or a piece of a
+-- message of this number that is no packet
+pub data Of : Type 0 where
+  OfNothing : Of
+  OfPacket : (numbered : Numbered) → Of
+  OfMessage : (number : ℕ) → Of
+
+-- a receive or a send, and of what it is
 pub record Exchange : Type 0 where
   pub call : LinkCall
-  pub of : Option Numbered
+  pub of : Of
 
 abbrev pub plain : LinkCall → Exchange
-plain c = record { call = c; of = None }
+plain c = record { call = c; of = OfNothing }
 
 abbrev pub piece_of : Numbered → LinkCall → Exchange
-piece_of n c = record { call = c; of = Some n }
+piece_of n c = record { call = c; of = OfPacket n }
+
+-- a piece of a message of this number that is no packet
+abbrev pub said : ℕ → LinkCall → Exchange
+said number c = record { call = c; of = OfMessage number }
 
 abbrev pub call_of : Exchange → LinkCall
 call_of x = x.call
@@ -122,16 +133,17 @@ pub record IsSpelled (n : Numbered) : Type 0 where
   pub fits : n.number < 2 ^ 64
   pub read : packet_of (bytes_of n.packet) ≡ Some n.packet
 
--- a piece of a packet is of one that is spelled
-abbrev pub IsSpelledIf : Option Numbered → Type 0
-IsSpelledIf None = Unit {0}
-IsSpelledIf (Some n) = IsSpelled n
+-- a piece of a packet is of one that is spelled, and the number of every other message fits its field
+abbrev pub IsSpelledIf : Of → Type 0
+IsSpelledIf OfNothing = Unit {0}
+IsSpelledIf (OfPacket n) = IsSpelled n
+IsSpelledIf (OfMessage number) = number < 2 ^ 64
 
 abbrev pub AllSpelled : List Exchange → Type 0
 AllSpelled [] = Unit {0}
 AllSpelled (x ∷ xs) = IsSpelledIf x.of × AllSpelled xs
 
--- the link's list grew by these, whether the sends among them went out or not; and each packet among them is spelled
+-- the link's list grew by these, whether the sends among them went out or not; and each message among them is spelled
 pub record Made (before after : Option (List LinkCall)) (more : List Exchange) : Type 0 where
   pub went : Went before after (map call_of more)
   pub spelled : AllSpelled more

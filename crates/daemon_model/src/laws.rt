@@ -4,6 +4,7 @@ ghost use Rattle.hags_io.specs.declared.link.LinkCall.{LinkCall};
 ghost use Rattle.node_state.specs.declared.config.Config.{Config};
 ghost use Rattle.node_state.specs.HandOn.{Answering};
 ghost use Rattle.daemon_model.specs.Daemon.{Daemon, Life, joined_by, received, given, heard, lived};
+ghost use Rattle.daemon_model.specs.Actions.{LivesAreActions};
 
 /// A daemon that serves no clients on other machines never has a session of one, and a message is one for its node.
 #[tactic(auto, using(crate::proofs::AloneLaws::lived_alone, crate::proofs::AloneLaws::heard_alone))]
@@ -12,4 +13,10 @@ pub fn alone_without_other_machines()
         → (lived c me incarnation life).sessions ≡ None }
     ensures heard { (d : Daemon) (got : LinkCall) (f : Answering) → d.sessions ≡ None
         → heard got f d ≡ given (joined_by got d.joining).message f (received got d) }
+{}
+
+/// A life is its acts, one after another: the calls of its settings, and of each turn the tick and the receive.
+#[tactic(auto, using(crate::proofs::ActionLaws::lives_are_actions))]
+pub fn lives_are_actions()
+    ensures { LivesAreActions }
 {}

@@ -1,5 +1,5 @@
 -- What is asked of a network, act by act: what operators, links and clients have to keep to.
-use Rattle.std.specs.Prelude.{ℕ, ◌≤◌, ◌<◌, ◌^◌, ◌≡◌, ◌⊎◌, true, false, List, [], ◌∷◌, ◌++◌, Option, Some, None}
+use Rattle.std.specs.Prelude.{ℕ, ◌≤◌, ◌<◌, ◌≡◌, ◌⊎◌, true, false, List, [], ◌∷◌, Option, Some, None}
 use Rattle.rsct_packet.specs.Ids.{last_u32}
 use Rattle.hags_io.specs.declared.link.LinkCall.{LinkCall}
 use Rattle.hags_io.specs.declared.link.LinkCall.TheVariants as call
@@ -13,10 +13,11 @@ use Rattle.node_state.specs.declared.packet.Packet.{Packet}
 use Rattle.node_state.specs.Settings.{is_fixed}
 use Rattle.node_state.specs.Bytes.{packet_of}
 use Rattle.daemon_model.specs.Sent.{Exchange, IsSpelledIf}
-use Rattle.daemon_model.specs.Daemon.{Daemon, Turn, ticked, turned}
-use Rattle.network_model.specs.Network.{Act, Begins, Opens, Turns, Ends, Net, no_net, made_since, acted}
+use Rattle.daemon_model.specs.Daemon.{Daemon}
+use Rattle.daemon_model.specs.Actions.{Action, Opens, Ticks, Hears}
+use Rattle.network_model.specs.Network.{Act, Begins, Does, Ends, Net, no_net, acted}
 
--- ---- what a turn is given
+-- ---- what a receive brings
 
 abbrev pub IsQuestion : Body → Type 0
 IsQuestion (body.Query question what) = Unit {0}
@@ -45,17 +46,16 @@ pub record WasSent (P : Exchange → Type 0) (bytes : List ℕ) (wire : List Exc
   pub is : IsSend bytes send.call
   pub holds : P send
 
--- A datagram was sent before, by whatever daemon and to whatever node, or is no piece, or is a client's. So it may be
--- lost, come late, in any order, any number of times and to the wrong node; and it is never altered. Of the send this
--- holds: not all that the definition of a daemon sends need have been sent, since it may end in the midst of a turn. A
--- receive may also bring nothing, or fail; it sends nothing.
-abbrev pub MayCome : (Exchange → Type 0) → List Exchange → LinkCall → Type 0
-MayCome P wire (call.Received network bytes) = WasSent P bytes wire ⊎ (piece_at bytes ≡ None) ⊎ IsOfClient (piece_at bytes)
-MayCome P wire (call.Sent node network bytes out) = ⊥
-MayCome P wire call.Quiet = Unit {0}
-MayCome P wire call.Failed = Unit {0}
+-- A datagram was sent, in this sense, by whatever daemon and to whatever node; or is no piece; or is a client's. So it may be
+-- lost, come late, in any order, any number of times and to the wrong node; and it is never altered. A receive may also bring
+-- nothing, or fail; it sends nothing.
+abbrev pub MayCome : (List ℕ → Type 0) → LinkCall → Type 0
+MayCome IsSent (call.Received network bytes) = IsSent bytes ⊎ (piece_at bytes ≡ None) ⊎ IsOfClient (piece_at bytes)
+MayCome IsSent (call.Sent node network bytes out) = ⊥
+MayCome IsSent call.Quiet = Unit {0}
+MayCome IsSent call.Failed = Unit {0}
 
--- a send is a piece of a packet that is spelled, where it is of one
+-- a send is a piece of a packet that is spelled, or of another message whose number fits
 abbrev pub IsSpelledSend : Exchange → Type 0
 IsSpelledSend x = IsSpelledIf x.of
 
@@ -69,11 +69,12 @@ pub record MayBegin (net : Net) (n incarnation : ℕ) : Type 0 where
   pub later : net.incarnations n < incarnation
   pub fits : incarnation ≤ last_u32
 
--- A turn is given what may come: what was sent before it, or by its own tick. And a daemon that serves clients on other
--- machines numbers its messages below 2^64: what it sends to them is no packet, of which the number is known.
-pub record MayTurn (P : Exchange → Type 0) (net : Net) (t : Turn) (d : Daemon) : Type 0 where
-  pub comes : MayCome P (net.wire ++ made_since d (ticked t.moment t.tick d)) t.got
-  pub numbers : (d.sessions ≡ None) ⊎ ((turned d t).number ≤ 2 ^ 64)
+-- A receive brings what was sent before it, in a send of which this holds: not all that the definition of a daemon sends need
+-- have been sent, since it may end in the midst of an act. Every other act of a daemon may happen at any time.
+abbrev pub MayDo : (Exchange → Type 0) → List Exchange → Action → Type 0
+MayDo P wire (Opens opening) = Unit {0}
+MayDo P wire (Ticks moment answers) = Unit {0}
+MayDo P wire (Hears got answers) = MayCome (λ bytes. WasSent P bytes wire) got
 
 -- a daemon of the node is up, and this holds of it
 abbrev pub OfUp : (Daemon → Type 0) → Option Daemon → Type 0
@@ -82,8 +83,7 @@ OfUp P (Some d) = P d
 
 abbrev pub MayAct : (Exchange → Type 0) → Net → Act → Type 0
 MayAct P net (Begins n incarnation moment remote) = MayBegin net n incarnation
-MayAct P net (Opens n opening) = OfUp (λ d. Unit {0}) (net.daemons n)
-MayAct P net (Turns n turn) = OfUp (MayTurn P net turn) (net.daemons n)
+MayAct P net (Does n action) = OfUp (λ d. MayDo P net.wire action) (net.daemons n)
 MayAct P net (Ends n) = OfUp (λ d. Unit {0}) (net.daemons n)
 
 abbrev pub AllMayAct : (Exchange → Type 0) → Config → Net → List Act → Type 0

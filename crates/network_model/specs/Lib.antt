@@ -1,5 +1,6 @@
 pub mod Network
 pub mod Fits
+pub mod Executions
 pub mod Lives
 pub mod Samples
 pub mod Opens

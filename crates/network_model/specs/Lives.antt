@@ -4,21 +4,37 @@ use Rattle.node_state.specs.declared.config.Config.{Config}
 use Rattle.node_state.specs.declared.happened.Happened.{Happened}
 use Rattle.node_state.specs.declared.happened.Happened.TheVariants as happened
 use Rattle.node_state.specs.Step.{started}
-use Rattle.daemon_model.specs.Daemon.{Life, lived}
-use Rattle.network_model.specs.Network.{Act, Begins, Opens, Turns, Ends, Net, no_net, acted}
+use Rattle.daemon_model.specs.Daemon.{Daemon, Life, begun_for}
+use Rattle.daemon_model.specs.Actions.{Action, did_all, life_actions}
+use Rattle.network_model.specs.Network.{Act, Begins, Does, Ends, Net, no_net, acted}
 
--- a life that a daemon lived, and its incarnation
+-- a life that a daemon lived up to now: its incarnation, whether it serves clients on other machines, what its clock said as it
+-- started, its acts, and whether it has ended
 pub record LifeIn : Type 0 where
   pub incarnation : ℕ
-  pub life : Life
+  pub remote : Bool
+  pub start : ℕ
+  pub actions : List Action
+  pub ended : Bool
+
+-- a whole life, and its end
+abbrev pub life_in : ℕ → Life → LifeIn
+life_in incarnation life = record { incarnation = incarnation; remote = life.remote; start = life.start; actions = life_actions life; ended = true }
+
+-- the daemon at the end of it
+unfoldable pub daemon_of : Config → ℕ → LifeIn → Daemon
+daemon_of c n l = did_all (begun_for l.remote c n l.incarnation l.start) l.actions
+
+abbrev pub end_of : ℕ → Bool → List Act
+end_of n true = Ends n ∷ []
+end_of n false = []
 
 unfoldable pub acts_of : ℕ → LifeIn → List Act
-acts_of n l = Begins n l.incarnation l.life.start l.life.remote ∷ map (Opens n) l.life.opening ++ (map (Turns n) l.life.turns ++ Ends n ∷ [])
+acts_of n l = Begins n l.incarnation l.start l.remote ∷ map (Does n) l.actions ++ end_of n l.ended
 
 abbrev pub is_at : ℕ → Act → Bool
 is_at n (Begins node incarnation moment remote) = node == n
-is_at n (Opens node opening) = node == n
-is_at n (Turns node turn) = node == n
+is_at n (Does node action) = node == n
 is_at n (Ends node) = node == n
 
 -- the acts of each node are these lives of its daemons, one after another; the acts of different nodes come in any order
@@ -41,13 +57,23 @@ unfoldable pub idle_records : Config → ℕ → ℕ → ℕ → List Happened
 idle_records c n last zero = []
 idle_records c n last (suc k) = (started c n (last + 1)).records ++ happened.Down n ∷ idle_records c n (last + 1) k
 
--- of lives one after another: those of the skipped incarnations, what the daemon recorded, and that the node is down
+abbrev pub down_of : ℕ → Bool → List Happened
+down_of n true = happened.Down n ∷ []
+down_of n false = []
+
+-- of lives one after another: those of the skipped incarnations, what the daemon recorded, and that the node is down where it
+-- ended
 unfoldable pub lives_records : Config → ℕ → ℕ → List LifeIn → List Happened
 lives_records c n last [] = []
 lives_records c n last (l ∷ ls) =
-    idle_records c n last (l.incarnation - 1 - last) ++ ((lived c n l.incarnation l.life).records ++ happened.Down n ∷ lives_records c n l.incarnation ls)
+    idle_records c n last (l.incarnation - 1 - last) ++ ((daemon_of c n l).records ++ (down_of n l.ended ++ lives_records c n l.incarnation ls))
 
 -- what each node records in a network are the records of its daemons' lives
 abbrev pub NodesRecordTheirLives : Type 0
 NodesRecordTheirLives =
     (c : Config) (acts : List Act) (lives : ℕ → List LifeIn) → AreLives acts lives → (n : ℕ) → records_at c n no_net acts ≡ lives_records c n 0 (lives n)
+
+-- opens each word of this file, for a computation
+unfoldable pub lives_opens : Unit {0}
+unfolding daemon_of acts_of records_at idle_records lives_records
+lives_opens = tt

@@ -1,18 +1,18 @@
--- A network of daemons: daemons that start, carry out the calls of their settings, do turns and end, all in one order.
+-- A network of daemons: daemons that start, act and end, all in one order.
 use Rattle.std.specs.Prelude.{ℕ, zero, suc, ◌+◌, ◌-◌, Bool, false, List, [], ◌∷◌, ◌++◌, length, drop, fold, Option, Some, None}
 use Rattle.node_state.specs.declared.config.Config.{Config}
 use Rattle.node_state.specs.declared.happened.Happened.{Happened}
 use Rattle.node_state.specs.declared.happened.Happened.TheVariants as happened
 use Rattle.step_refinement.specs.Rules.{at_node}
 use Rattle.daemon_model.specs.Sent.{Exchange}
-use Rattle.daemon_model.specs.Daemon.{Daemon, Opening, Turn, begun_for, opened, turned}
+use Rattle.daemon_model.specs.Daemon.{Daemon, begun_for}
+use Rattle.daemon_model.specs.Actions.{Action, did}
 
 -- what happens in a network: the daemon of a node starts, in an incarnation and at a moment, and serves clients on other
--- machines or not; it carries out a call of its settings; it does a turn; and it ends, however it does
+-- machines or not; it acts; and it ends, however it does
 pub data Act : Type 0 where
   Begins : (node incarnation moment : ℕ) (remote : Bool) → Act
-  Opens : (node : ℕ) (opening : Opening) → Act
-  Turns : (node : ℕ) (turn : Turn) → Act
+  Does : (node : ℕ) (action : Action) → Act
   Ends : (node : ℕ) → Act
 
 -- The daemons that are up, by their nodes; the incarnation in which the last daemon of each node started, or 0; all that
@@ -80,8 +80,7 @@ does_if f n (Some d) net = went_on n d (f d) net
 
 unfoldable pub acted : Config → Net → Act → Net
 acted c net (Begins n incarnation moment remote) = begins remote c n incarnation moment net
-acted c net (Opens n opening) = does_if (λ d. opened d opening) n (net.daemons n) net
-acted c net (Turns n turn) = does_if (λ d. turned d turn) n (net.daemons n) net
+acted c net (Does n action) = does_if (λ d. did d action) n (net.daemons n) net
 acted c net (Ends n) = ends n net
 
 -- the network after these acts, in their order

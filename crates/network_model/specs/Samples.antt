@@ -1,19 +1,29 @@
 -- Small runs of networks, for worked examples: nodes 1 and 2.
-use Rattle.std.specs.Prelude.{ℕ, true, false, List, [], ◌∷◌, flat_map, codes, slice_index_or}
+use Rattle.std.specs.Prelude.{ℕ, Bool, true, false, List, [], ◌∷◌, ◌++◌, codes, filter, flat_map, map, slice_index_or, Some, None}
 use Rattle.hags_io.specs.declared.link.LinkCall.{LinkCall}
 use Rattle.hags_io.specs.declared.link.LinkCall.TheVariants as call
 use Rattle.node_state.specs.declared.config.Config.{Config}
 use Rattle.daemon_model.specs.Sent.{Exchange}
 use Rattle.daemon_model.specs.Daemon.{records_text}
-use Rattle.daemon_model.specs.Samples.{settings_for, quiet_at, given_at, up_piece}
-use Rattle.network_model.specs.Network.{Act, Begins, Turns, Ends, net_after}
+use Rattle.daemon_model.specs.Actions.{Ticks, Hears}
+use Rattle.daemon_model.specs.Samples.{settings_for, silent, up_piece}
+use Rattle.network_model.specs.Network.{Act, Begins, Does, Ends, net_after}
+use Rattle.network_model.specs.Lives.{is_at}
+use Rattle.network_model.specs.Executions.{Timed, TimedLife}
 
 unfoldable pub pair : Config
 pair = settings_for (1 ∷ 2 ∷ [])
 
+-- a daemon reads the clock, and ticks where that is due; and it receives these bytes; nobody answers
+abbrev pub ticks : ℕ → ℕ → Act
+ticks n moment = Does n (Ticks moment silent)
+
+abbrev pub hears : ℕ → List ℕ → Act
+hears n bytes = Does n (Hears (call.Received 1 bytes) silent)
+
 -- node 1 starts in incarnation 1, and 100 milliseconds later it ticks
 unfoldable pub one_ticks : List Act
-one_ticks = Begins 1 1 0 false ∷ Turns 1 (quiet_at 100) ∷ []
+one_ticks = Begins 1 1 0 false ∷ ticks 1 100 ∷ []
 
 abbrev pub datagram_in : LinkCall → List (List ℕ)
 datagram_in (call.Sent node network bytes out) = bytes ∷ []
@@ -29,7 +39,7 @@ first_piece = slice_index_or (wire_after one_ticks) 0 []
 
 -- then node 2 starts, and is given that piece, twice
 unfoldable pub two_speak : List Act
-two_speak = Begins 1 1 0 false ∷ Turns 1 (quiet_at 100) ∷ Begins 2 1 100 false ∷ Turns 2 (given_at 100 first_piece) ∷ Turns 2 (given_at 101 first_piece) ∷ []
+two_speak = Begins 1 1 0 false ∷ ticks 1 100 ∷ Begins 2 1 100 false ∷ hears 2 first_piece ∷ hears 2 first_piece ∷ []
 
 -- the daemon of node 1 ends, and starts again, skipping incarnation 2
 unfoldable pub starts_again : List Act
@@ -37,7 +47,7 @@ starts_again = Begins 1 1 0 false ∷ Ends 1 ∷ Begins 1 3 0 false ∷ []
 
 -- node 1 serves clients on other machines: one of key 7 begins, and makes a call that is refused
 unfoldable pub one_serves : List Act
-one_serves = Begins 1 1 0 true ∷ Turns 1 (given_at 0 (up_piece 1 1 (codes "client 1 a -"))) ∷ Turns 1 (given_at 0 (up_piece 2 2 (codes "leave a db 1"))) ∷ []
+one_serves = Begins 1 1 0 true ∷ hears 1 (up_piece 1 1 (codes "client 1 a -")) ∷ hears 1 (up_piece 2 2 (codes "leave a db 1")) ∷ []
 
 -- what node 1 sent to that client first
 unfoldable pub first_down : List ℕ
@@ -46,13 +56,30 @@ first_down = slice_index_or (wire_after one_serves) 0 []
 -- then node 2 starts, and is given that by mistake
 unfoldable pub client_served : List Act
 client_served =
-    Begins 1 1 0 true ∷ Turns 1 (given_at 0 (up_piece 1 1 (codes "client 1 a -"))) ∷ Turns 1 (given_at 0 (up_piece 2 2 (codes "leave a db 1"))) ∷ Begins 2 1 0 false ∷ Turns 2 (given_at 0 first_down) ∷ []
+    Begins 1 1 0 true ∷ hears 1 (up_piece 1 1 (codes "client 1 a -")) ∷ hears 1 (up_piece 2 2 (codes "leave a db 1")) ∷ Begins 2 1 0 false ∷ hears 2 first_down ∷ []
+
+-- ---- turns that cross
+
+-- both nodes tick, and each is then given what the other's tick sent: no order of whole turns, each a tick and its receive,
+-- has that
+unfoldable pub both_tick : List Act
+both_tick = Begins 1 1 0 false ∷ Begins 2 1 0 false ∷ ticks 1 100 ∷ ticks 2 100 ∷ []
+
+unfoldable pub second_piece : List ℕ
+second_piece = slice_index_or (wire_after both_tick) 1 []
+
+unfoldable pub ticks_cross : List Act
+ticks_cross = Begins 1 1 0 false ∷ Begins 2 1 0 false ∷ ticks 1 100 ∷ ticks 2 100 ∷ hears 1 second_piece ∷ hears 2 first_piece ∷ []
+
+-- node 2 answers what the tick of node 1 sent, and node 1 is given the answer in the turn of that tick
+unfoldable pub one_asks : List Act
+one_asks = Begins 1 1 0 false ∷ Begins 2 1 0 false ∷ ticks 2 100 ∷ hears 1 second_alone ∷ []
 
 -- ---- what no network may do
 
 -- node 2 is given what node 1 never sent
 unfoldable pub never_sent : List Act
-never_sent = Begins 1 1 0 false ∷ Begins 2 1 0 false ∷ Turns 2 (given_at 50 first_piece) ∷ []
+never_sent = Begins 1 1 0 false ∷ Begins 2 1 0 false ∷ hears 2 first_piece ∷ []
 
 -- node 1 starts again in its old incarnation
 unfoldable pub old_incarnation : List Act
