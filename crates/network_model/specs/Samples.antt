@@ -71,15 +71,34 @@ second_piece = slice_index_or (wire_after both_tick) 1 []
 unfoldable pub ticks_cross : List Act
 ticks_cross = Begins 1 1 0 false ∷ Begins 2 1 0 false ∷ ticks 1 100 ∷ ticks 2 100 ∷ hears 1 second_piece ∷ hears 2 first_piece ∷ []
 
--- node 2 answers what the tick of node 1 sent, and node 1 is given the answer in the turn of that tick
-unfoldable pub one_asks : List Act
-one_asks = Begins 1 1 0 false ∷ Begins 2 1 0 false ∷ ticks 2 100 ∷ hears 1 second_alone ∷ []
+-- what node 2 sends in its tick, where node 1 has not ticked, and what node 1 answers
+unfoldable pub second_alone : List ℕ
+second_alone = slice_index_or (wire_after (Begins 1 1 0 false ∷ Begins 2 1 0 false ∷ ticks 2 100 ∷ [])) 0 []
+
+-- node 2 ticks, and node 1 answers what that tick sent
+unfoldable pub one_answers : List Act
+one_answers = Begins 1 1 0 false ∷ Begins 2 1 0 false ∷ ticks 2 100 ∷ hears 1 second_alone ∷ []
+
+unfoldable pub answer_piece : List ℕ
+answer_piece = slice_index_or (wire_after one_answers) 1 []
+
+-- node 2 is given the answer in the turn of that tick
+unfoldable pub answered_at_once : List Act
+answered_at_once = Begins 1 1 0 false ∷ Begins 2 1 0 false ∷ ticks 2 100 ∷ hears 1 second_alone ∷ hears 2 answer_piece ∷ []
 
 -- ---- what no network may do
 
 -- node 2 is given what node 1 never sent
 unfoldable pub never_sent : List Act
 never_sent = Begins 1 1 0 false ∷ Begins 2 1 0 false ∷ hears 2 first_piece ∷ []
+
+-- node 2 is given what node 1 sends later
+unfoldable pub heard_before : List Act
+heard_before = Begins 1 1 0 false ∷ Begins 2 1 0 false ∷ hears 2 first_piece ∷ ticks 1 100 ∷ []
+
+-- node 1 is given what its own tick sends later
+unfoldable pub own_before : List Act
+own_before = Begins 1 1 0 false ∷ hears 1 first_piece ∷ ticks 1 100 ∷ []
 
 -- node 1 starts again in its old incarnation
 unfoldable pub old_incarnation : List Act
@@ -109,7 +128,10 @@ client_served_lines =
 abbrev pub old_incarnation_lines : List ℕ
 old_incarnation_lines = codes "up 1 1\nring 1 1 1.1.1 1 1\nin 1 1.1.1 1.1\ndown 1\nup 1 1\nring 1 1 1.1.1 1 1\nin 1 1.1.1 1.1\n"
 
+abbrev pub both_up_lines : List ℕ
+both_up_lines = codes "up 1 1\nring 1 1 1.1.1 1 1\nin 1 1.1.1 1.1\nup 2 1\nring 2 1 2.1.1 2 2\nin 2 1.2.1 2.1\n"
+
 -- opens each word of this file, for a computation
 unfoldable pub samples_opens : Unit {0}
-unfolding pair one_ticks wire_after first_piece two_speak starts_again one_serves first_down client_served never_sent old_incarnation two_at_once lines_after
+unfolding pair one_ticks wire_after first_piece two_speak both_tick second_piece ticks_cross second_alone one_answers answer_piece answered_at_once heard_before own_before starts_again one_serves first_down client_served never_sent old_incarnation two_at_once lines_after
 samples_opens = tt

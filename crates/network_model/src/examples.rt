@@ -3,7 +3,7 @@ ghost use Rattle.std.specs.Prelude.{◌≡◌, ℕ, List, None, length};
 ghost use Rattle.node_state.specs.Bytes.{packet_of};
 ghost use Rattle.remote_session.specs.Messages.{UpIn, up_text, DownIn, down_text};
 ghost use Rattle.network_model.specs.Fits.{IsSpelledSend, NetworkRun};
-ghost use Rattle.network_model.specs.Samples.{pair, wire_after, lines_after, one_ticks, two_speak, two_speak_lines, starts_again, starts_again_lines, client_served, client_served_lines, never_sent, old_incarnation, old_incarnation_lines, two_at_once};
+ghost use Rattle.network_model.specs.Samples.{pair, wire_after, lines_after, one_ticks, two_speak, two_speak_lines, both_tick, ticks_cross, one_answers, answered_at_once, both_up_lines, heard_before, own_before, starts_again, starts_again_lines, client_served, client_served_lines, never_sent, old_incarnation, old_incarnation_lines, two_at_once};
 
 /// A node that skips an incarnation has a life in it in which it does nothing.
 #[tactic(auto, unfolding(crate::specs::Opens::net_opens))]
@@ -17,6 +17,17 @@ pub fn speaks()
     ensures wire { length (wire_after one_ticks) ≡ 1 }
     ensures lines { lines_after two_speak ≡ two_speak_lines }
     ensures run { NetworkRun IsSpelledSend pair two_speak }
+{}
+
+/// Two daemons tick at once, and each is given what the other's tick sent, in the turn of its own: though no order of whole
+/// turns has that, it is a network's run. So is a tick that is answered before its turn is over.
+#[tactic(auto, unfolding(crate::specs::Opens::net_opens), using(crate::proofs::Runs::ticks_cross_run, crate::proofs::Runs::answered_at_once_run))]
+pub fn turns_cross()
+    ensures wire { length (wire_after both_tick) ≡ 2 }
+    ensures lines { lines_after ticks_cross ≡ both_up_lines }
+    ensures run { NetworkRun IsSpelledSend pair ticks_cross }
+    ensures answer { length (wire_after one_answers) ≡ 2 }
+    ensures at_once { NetworkRun IsSpelledSend pair answered_at_once }
 {}
 
 /// What a client on another machine says is no packet, whatever it is, and nor is what is said to it: so both may come.
@@ -37,6 +48,13 @@ pub fn serves_a_client()
 #[tactic(auto, using(crate::proofs::Runs::never_sent_run))]
 pub fn gives_what_was_sent()
     ensures { NetworkRun IsSpelledSend pair never_sent → ⊥ }
+{}
+
+/// A datagram is given before it is sent in no network's run, to another node or to its own.
+#[tactic(auto, using(crate::proofs::Runs::heard_before_run, crate::proofs::Runs::own_before_run))]
+pub fn gives_after_the_send()
+    ensures other { NetworkRun IsSpelledSend pair heard_before → ⊥ }
+    ensures own { NetworkRun IsSpelledSend pair own_before → ⊥ }
 {}
 
 /// A node that starts again in its old incarnation is in no network's run: it enters the view 1.1.1 twice.
