@@ -20,21 +20,18 @@ pub record IsLinear (T : Type 0) (no_later : T → T → Bool) : Type 0 where
   pub either : (a b : T) → no_later a b ≡ false → no_later b a ≡ true
   pub through : (a b c : T) → no_later a b ≡ true → no_later b c ≡ true → no_later a c ≡ true
 
--- each is no later than those behind it
-abbrev pub NeverBack : {T : Type 0} → (T → T → Bool) → List T → Type 0
-NeverBack no_later [] = Unit {0}
-NeverBack {T} no_later (t ∷ ts) = ((s : T) → Among s ts → no_later t s ≡ true) × NeverBack no_later ts
-
 -- something, and when it was or began
 pub record Timed (T A : Type 0) : Type 0 where
   pub time : T
   pub what : A
 
-abbrev pub time_of : {T A : Type 0} → Timed T A → T
-time_of x = x.time
-
 abbrev pub what_of : {T A : Type 0} → Timed T A → A
 what_of x = x.what
+
+-- each is no later than those behind it
+abbrev pub NeverBack : {T A : Type 0} → (T → T → Bool) → List (Timed T A) → Type 0
+NeverBack no_later [] = Unit {0}
+NeverBack {T} {A} no_later (x ∷ xs) = ((y : Timed T A) → Among y xs → no_later x.time y.time ≡ true) × NeverBack no_later xs
 
 -- ---- what a daemon did, and when
 
@@ -66,13 +63,13 @@ timed_acts n l = record { time = l.began; what = Begins n l.incarnation l.start 
 
 -- ---- what it sent, and when
 
-abbrev pub made_at : {T : Type 0} → T → Exchange → Timed T Exchange
-made_at t x = record { time = t; what = x }
+abbrev pub made_when : {T : Type 0} → T → Exchange → Timed T Exchange
+made_when t x = record { time = t; what = x }
 
 -- what a daemon receives and sends in its acts, each with the time at which its act began
 unfoldable pub made_from : {T : Type 0} → Daemon → List (Timed T Action) → List (Timed T Exchange)
 made_from d [] = []
-made_from d (a ∷ actions) = map (made_at a.time) (made_since d (did d a.what)) ++ made_from (did d a.what) actions
+made_from d (a ∷ actions) = map (made_when a.time) (made_since d (did d a.what)) ++ made_from (did d a.what) actions
 
 abbrev pub made_in : {T : Type 0} → Config → ℕ → TimedLife T → List (Timed T Exchange)
 made_in c n l = made_from (begun_for l.remote c n l.incarnation l.start) l.actions
@@ -115,18 +112,22 @@ pub record Execution (T : Type 0) (no_later : T → T → Bool) (P : Exchange �
   -- its daemons live one at a time, in incarnations that rise
   pub one_by_one : (n : ℕ) → OneByOne 0 (lives n)
   -- the acts of its daemons come in their order: no time is later than one behind it
-  pub in_order : (n : ℕ) → NeverBack no_later (map time_of (flat_map (timed_acts n) (lives n)))
+  pub in_order : (n : ℕ) → NeverBack no_later (flat_map (timed_acts n) (lives n))
   -- each datagram that a daemon receives was sent by an act that began earlier, whoever sent it, or is no piece, or is a client's
   pub received : (n : ℕ) (l : TimedLife T) → Among l (lives n) → (a : Timed T Action) → Among a l.actions → MayHear T no_later P c lives a.time a.what
 
 -- ---- one order of all acts
 
+-- it is an act of this node
+abbrev pub at_its : {T : Type 0} → ℕ → Timed T Act → Bool
+at_its n a = is_at n a.what
+
 -- All acts of all daemons in one order, which is that of their times, and of each node's own; and in that order they are those
 -- of a network's run.
 pub record Ordered (T : Type 0) (no_later : T → T → Bool) (P : Exchange → Type 0) (c : Config) (lives : ℕ → List (TimedLife T)) : Type 0 where
   pub acts : List (Timed T Act)
-  pub in_order : NeverBack no_later (map time_of acts)
-  pub own : (n : ℕ) → filter (λ (a : Timed T Act). is_at n a.what) acts ≡ flat_map (timed_acts n) (lives n)
+  pub in_order : NeverBack no_later acts
+  pub own : (n : ℕ) → filter (at_its n) acts ≡ flat_map (timed_acts n) (lives n)
   pub run : NetworkRun P c (map what_of acts)
 
 -- whatever the times are, each execution has such an order

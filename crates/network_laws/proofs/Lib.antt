@@ -1,0 +1,4 @@
+pub mod Going
+pub mod Apart
+pub mod Sorting
+pub mod Orders
