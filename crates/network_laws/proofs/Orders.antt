@@ -100,7 +100,7 @@ module _ {T : Type 0} where
   lives_each : (n m : ℕ) (b : Bool) → m == n ≡ b → (ls : List (TimedLife T)) → each_at n b (flat_map (timed_acts m) ls)
   unfolding each_at
   lives_each n m b e [] a h = absurd h
-  lives_each n m b e (l ∷ ls) = both_at n b (timed_acts m l) (flat_map (timed_acts m) ls) (life_each n m b e l) (lives_each n m b e ls)
+  lives_each n m b e (l ∷ ls) a h = both_at n b (timed_acts m l) (flat_map (timed_acts m) ls) (life_each n m b e l) (lives_each n m b e ls) a h
 
   -- the act of a daemon stands in one of its lives
   record IsDone (ls : List (TimedLife T)) (t : T) (x : Action) : Type 0 where
@@ -135,6 +135,17 @@ module _ {T : Type 0} where
 
       there : IsDone ls t x → IsDone (l ∷ ls) t x
       there d = record { life = d.life; lived = inr d.lived; action = d.action; among = d.among; time = d.time; what = d.what }
+
+-- ---- what a node may do by itself
+
+IsUpAt : Option Daemon → Type 0
+IsUpAt None = ⊥
+IsUpAt (Some d) = Unit {0}
+
+MayBeAt : ℕ → At → Act → Type 0
+MayBeAt n s (Begins m incarnation moment remote) = (1 ≤ n) × (n ≤ 32) × (s.daemon ≡ None) × (s.last < incarnation) × (incarnation ≤ last_u32)
+MayBeAt n s (Does m x) = IsUpAt s.daemon
+MayBeAt n s (Ends m) = IsUpAt s.daemon
 
 module _ {T : Type 0} (c : Config) where
   -- ---- what a node's acts send from now on, and when
@@ -182,17 +193,6 @@ module _ {T : Type 0} (c : Config) where
   lives_made n (k ∷ ls) l (inl e) x i s = life_made n k (flat_map (timed_acts n) ls) x (subst (λ z. Has x (made_in c n z)) e i) s
   lives_made n (k ∷ ls) l (inr h) x i s = skip_made n x (flat_map (timed_acts n) ls) (lives_made n ls l h x i) (timed_acts n k) s
 
-  -- ---- what a node may do by itself
-
-  IsUpAt : Option Daemon → Type 0
-  IsUpAt None = ⊥
-  IsUpAt (Some d) = Unit {0}
-
-  MayBeAt : ℕ → At → Act → Type 0
-  MayBeAt n s (Begins m incarnation moment remote) = (1 ≤ n) × (n ≤ 32) × (s.daemon ≡ None) × (s.last < incarnation) × (incarnation ≤ last_u32)
-  MayBeAt n s (Does m x) = IsUpAt s.daemon
-  MayBeAt n s (Ends m) = IsUpAt s.daemon
-
   AllMayBe : ℕ → At → List (Timed T Act) → Type 0
   AllMayBe n s [] = Unit {0}
   AllMayBe n s (a ∷ more) = MayBeAt n s a.what × AllMayBe n (acted_at c n s a.what) more
@@ -203,7 +203,7 @@ module _ {T : Type 0} (c : Config) where
   done_may n last rest h (a ∷ more) d = (tt, done_may n last rest h more (did d a.what))
 
   lives_may : (n : ℕ) (ls : List (TimedLife T)) (last : ℕ) → ((l : TimedLife T) → Has l ls → (1 ≤ n) × (n ≤ 32)) → OneByOne last ls → AllMayBe n (record { daemon = None; last = last }) (flat_map (timed_acts n) ls)
-  unfolding AllMayBe MayBeAt acted_at
+  unfolding AllMayBe MayBeAt IsUpAt acted_at
   lives_may n [] last nodes one = tt
   lives_may n (l ∷ ls) last nodes one =
       let node = nodes l (inl refl) in
@@ -214,7 +214,6 @@ module _ {T : Type 0} (c : Config) where
       )
     where
       ends : (o : Option T) (later : List (TimedLife T)) → EndsBefore o later → (d : Daemon) → (ℕ → AllMayBe n (record { daemon = None; last = l.incarnation }) (flat_map (timed_acts n) later)) → AllMayBe n (record { daemon = Some d; last = l.incarnation }) (ended_at n o ++ flat_map (timed_acts n) later)
-      unfolding AllMayBe MayBeAt IsUpAt acted_at
       ends None [] h d rest = tt
       ends None (k ∷ ks) h d rest = absurd h
       ends (Some t) later h d rest = (tt, rest 0)
@@ -279,18 +278,18 @@ module _ {T : Type 0} (no_later : T → T → Bool) (linear : IsLinear T no_late
     may_do (Ticks moment f) h = tt
     may_do (Hears got f) h = comes_as (Ready net (a ∷ more) a.time) (λ b. WasSent P b net.wire) was_sent got h
 
-    of_up : (M : Type 0) (o : Option Daemon) → IsUpAt c {T = T} o → M → OfUp (λ d. M) o
+    of_up : (M : Type 0) (o : Option Daemon) → IsUpAt o → M → OfUp (λ d. M) o
     unfolding IsUpAt
     of_up M None up m = absurd up
     of_up M (Some d) up m = m
 
-    may_by : (x : Act) → MayBeAt c {T = T} (node_of x) (at_of (node_of x) net) x → MayBringIf net (a ∷ more) a.time x → MayAct P net x
+    may_by : (x : Act) → MayBeAt (node_of x) (at_of (node_of x) net) x → MayBringIf net (a ∷ more) a.time x → MayAct P net x
     unfolding MayBeAt node_of at_of MayBringIf
     may_by (Begins n incarnation moment remote) may h = record { some = may.0; most = may.1; down = may.2; later = may.3; fits = may.4 }
     may_by (Does n x) may h = of_up (MayDo P net.wire x) (net.daemons n) may (may_do x h)
     may_by (Ends n) may h = of_up (Unit {0}) (net.daemons n) may tt
 
-    at_its_node : MayBeAt c {T = T} (node_of a.what) (at_of (node_of a.what) net) a.what
+    at_its_node : MayBeAt (node_of a.what) (at_of (node_of a.what) net) a.what
     unfolding AllMayBe
     at_its_node =
         let n : ℕ = node_of a.what in
@@ -361,15 +360,13 @@ module _ {T : Type 0} (no_later : T → T → Bool) (linear : IsLinear T no_late
     none_beyond n less (l ∷ ls) h = let q = h l (inl refl) in let le : n ≤ 32 = q.1 in absurd (omega (arith, less, le))
 
     own_all : (n : ℕ) → filter (at_its n) all ≡ at n
-    unfolding all at
+    unfolding all at each_at
     own_all n = by (nat_le n 32) refl
       where
         own : (m : ℕ) → filter (at_its m) (at m) ≡ at m
-        unfolding at each_at
         own m = all_pass m (flat_map (timed_acts m) (lives m)) (lives_each m m true (eq-eqb m m refl) (lives m))
 
         other : (m k : ℕ) → m ≢ k → filter (at_its m) (at k) ≡ []
-        unfolding at each_at
         other m k ne = none_pass m (flat_map (timed_acts k) (lives k)) (lives_each m k false (ne_eqb k m (λ e. ne (sym e))) (lives k))
 
         by : (b : Bool) → nat_le n 32 ≡ b → filter (at_its n) (upto at 32) ≡ at n
