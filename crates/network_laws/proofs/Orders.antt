@@ -1,7 +1,8 @@
 -- Every execution of a network has an order: that of its times.
-use Rattle.std.proofs.Common.{◌≡◌, ◌≢◌, ◌≤◌, ◌<◌, ◌+◌, ℕ, zero, suc, List, [], ◌∷◌, ◌++◌, Bool, true, false, Option, Some, None, refl, sym, ap, ◌∙◌, subst, inl, inr, arith, append-nil, append_assoc}
-use Rattle.std.specs.Prelude.{◌==◌, ◌⊎◌, nat_le, filter, flat_map, map, if◌then◌else◌}
+use Rattle.std.proofs.Common.{◌≡◌, ◌≢◌, ◌≤◌, ◌<◌, ◌+◌, ℕ, zero, suc, List, [], ◌∷◌, ◌++◌, Bool, true, false, Option, Some, None, refl, sym, ap, ap₂, ◌∙◌, subst, inl, inr, arith, append-nil, append_assoc}
+use Rattle.std.specs.Prelude.{◌==◌, ◌⊎◌, nat_le, filter, flat_map, map, not, is_none, if◌then◌else◌}
 use Rattle.std.proofs.lemmas.Bool.{cases_eq, eq-eqb, ne_eqb, leb-true, leb-false}
+use Rattle.std.proofs.lemmas.List.{map-append}
 use Rattle.std.proofs.lemmas.List.Elements.{filter-append}
 use Rattle.rsct_packet.specs.Ids.{last_u32}
 use Rattle.rsct_packet.specs.Search.{Has}
@@ -13,9 +14,9 @@ use Rattle.daemon_model.specs.Sent.{Exchange}
 use Rattle.daemon_model.specs.Daemon.{Daemon, begun_for}
 use Rattle.daemon_model.specs.Actions.{Action, Opens, Ticks, Hears, did}
 use Rattle.network_model.specs.Network.{Act, Begins, Does, Ends, Net, no_net, made_since, acted}
-use Rattle.network_model.specs.Lives.{is_at}
+use Rattle.network_model.specs.Lives.{end_of, acts_of, is_at, AreLives}
 use Rattle.network_model.specs.Fits.{IsSend, WasSent, MayCome, IsSpelledSend, MayBegin, MayDo, OfUp, MayAct, AllMayAct, NetworkRun}
-use Rattle.network_model.specs.Executions.{IsLinear, Timed, what_of, NeverBack, TimedLife, done_at, ended_at, timed_acts, made_when, made_from, made_in, WasSentBefore, EndsBefore, OneByOne, MayHear, Execution, at_its, Ordered, EveryExecutionHasAnOrder}
+use Rattle.network_model.specs.Executions.{IsLinear, Timed, what_of, NeverBack, TimedLife, untimed, done_at, ended_at, timed_acts, made_when, made_from, made_in, WasSentBefore, EndsBefore, OneByOne, MayHear, Execution, at_its, Ordered, EveryExecutionHasAnOrder}
 use Rattle.network_laws.proofs.Apart.{At, nothing_at, at_of, with_daemon, made_by, acted_at, made_at, Same, act_same, act_other}
 use Rattle.network_laws.proofs.Sorting.{sorted, refl_later, sorted_order, sorted_filter}
 
@@ -31,7 +32,7 @@ its_own (Does n action) = eq-eqb n n refl
 its_own (Ends n) = eq-eqb n n refl
 
 -- what holds of what comes by whichever way of having been sent
-comes_as : (S R : List ℕ → Type 0) → ((b : List ℕ) → S b → R b) → (got : LinkCall) → MayCome S got → MayCome R got
+pub comes_as : (S R : List ℕ → Type 0) → ((b : List ℕ) → S b → R b) → (got : LinkCall) → MayCome S got → MayCome R got
 comes_as S R f (call.Received network b) (inl h) = inl (f b h)
 comes_as S R f (call.Received network b) (inr h) = inr h
 comes_as S R f (call.Sent node network b out) h = h
@@ -416,6 +417,36 @@ module _ {T : Type 0} (no_later : T → T → Bool) (linear : IsLinear T no_late
     pub has_an_order : Ordered T no_later P c lives
     unfolding acts at
     has_an_order = record { acts = acts; in_order = begins.order; own = own_acts; run = record { mode = x.mode; may = all_may acts no_net begins } }
+
+-- ---- the acts of each node are its lives
+
+untimed_done : {T : Type 0} (n : ℕ) (xs : List (Timed T Action)) → map what_of (map (done_at n) xs) ≡ map (Does n) (map what_of xs)
+untimed_done n [] = refl
+untimed_done n (x ∷ xs) = ap (λ zs. Does n x.what ∷ zs) (untimed_done n xs)
+
+untimed_end : {T : Type 0} (n : ℕ) (o : Option T) → map what_of (ended_at n o) ≡ end_of n (not (is_none o))
+untimed_end n None = refl
+untimed_end n (Some t) = refl
+
+untimed_acts : {T : Type 0} (n : ℕ) (l : TimedLife T) → map what_of (timed_acts n l) ≡ acts_of n (untimed l)
+unfolding acts_of
+untimed_acts n l =
+    ap (λ zs. Begins n l.incarnation l.start l.remote ∷ zs) (map-append what_of (map (done_at n) l.actions) (ended_at n l.ended) ∙ ap₂ (λ xs ys. xs ++ ys) (untimed_done n l.actions) (untimed_end n l.ended))
+
+untimed_lives : {T : Type 0} (n : ℕ) (ls : List (TimedLife T)) → map what_of (flat_map (timed_acts n) ls) ≡ flat_map (acts_of n) (map untimed ls)
+untimed_lives n [] = refl
+untimed_lives n (l ∷ ls) = map-append what_of (timed_acts n l) (flat_map (timed_acts n) ls) ∙ ap₂ (λ xs ys. xs ++ ys) (untimed_acts n l) (untimed_lives n ls)
+
+untimed_filter : {T : Type 0} (n : ℕ) (xs : List (Timed T Act)) → filter (is_at n) (map what_of xs) ≡ map what_of (filter (at_its n) xs)
+untimed_filter n [] = refl
+untimed_filter n (x ∷ xs) = by (is_at n x.what) (untimed_filter n xs)
+  where
+    by : (b : Bool) → filter (is_at n) (map what_of xs) ≡ map what_of (filter (at_its n) xs) → (if b then x.what ∷ filter (is_at n) (map what_of xs) else filter (is_at n) (map what_of xs)) ≡ map what_of (if b then x ∷ filter (at_its n) xs else filter (at_its n) xs)
+    by true e = ap (λ zs. x.what ∷ zs) e
+    by false e = e
+
+pub are_lives : {T : Type 0} (lives : ℕ → List (TimedLife T)) (acts : List (Timed T Act)) → ((n : ℕ) → filter (at_its n) acts ≡ flat_map (timed_acts n) (lives n)) → AreLives (map what_of acts) (λ n. map untimed (lives n))
+are_lives lives acts own n = untimed_filter n acts ∙ ap (map what_of) (own n) ∙ untimed_lives n (lives n)
 
 pub executions_have_an_order : (T : Type 0) → EveryExecutionHasAnOrder T
 executions_have_an_order T no_later linear c lives x = has_an_order no_later linear IsSpelledSend c lives x

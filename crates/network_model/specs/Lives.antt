@@ -17,9 +17,9 @@ pub record LifeIn : Type 0 where
   pub actions : List Action
   pub ended : Bool
 
--- a whole life, and its end
-abbrev pub life_in : ℕ → Life → LifeIn
-life_in incarnation life = record { incarnation = incarnation; remote = life.remote; start = life.start; actions = life_actions life; ended = true }
+-- a life of turns, that has ended or not
+abbrev pub life_in : ℕ → Life → Bool → LifeIn
+life_in incarnation life ended = record { incarnation = incarnation; remote = life.remote; start = life.start; actions = life_actions life; ended = ended }
 
 -- the daemon at the end of it
 unfoldable pub daemon_of : Config → ℕ → LifeIn → Daemon

@@ -25,7 +25,7 @@ use Rattle.network_safety.specs.Safe.{answered_by, IsGivenTo, IsGiven}
 use Rattle.network_safety.proofs.Quiet.{IsTalk, talk_or, IsQuiet, garbage_quiet, given_quiet}
 use Rattle.network_safety.proofs.Pairs.{kth_found}
 use Rattle.network_safety.proofs.WorldSteps.{Leaves, step_leaves, given_leaves}
-use Rattle.network_safety.proofs.Going.{made_is, noted_is}
+use Rattle.network_laws.proofs.Going.{made_is, noted_is}
 use Rattle.network_safety.proofs.Standing.{Facts, facts, NodeOf, node_of, IsKnown, Stand}
 use Rattle.network_safety.proofs.Stepping.{steps_to, IsNoSend, own_up, IsStep, step_stands, keeps_stands}
 

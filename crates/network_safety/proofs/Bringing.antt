@@ -1,6 +1,5 @@
 -- What a whole message brings: a packet of the node, or what a client on another machine says, and then what is said to it.
-use Rattle.std.proofs.Common.{◌≡◌, ◌≤◌, ◌^◌, ℕ, List, [], ◌∷◌, ◌++◌, Option, Some, None, refl, sym, ap, ◌∙◌, subst, inl, inr, append-nil}
-use Rattle.std.specs.Prelude.{◌⊎◌, map}
+use Rattle.std.proofs.Common.{◌≡◌, ℕ, List, [], ◌∷◌, ◌++◌, Option, Some, None, refl, sym, subst, append-nil}
 use Rattle.rsct_packet.specs.Packet.{front_at, packet_at}
 use Rattle.node_state.specs.declared.call.CallLine.{CallLine}
 use Rattle.node_state.specs.declared.config.Config.{Config}
@@ -13,54 +12,20 @@ use Rattle.world_laws.specs.world_answers.Answers.{Answered, goes_on}
 use Rattle.step_refinement.proofs.Changed.{set_here}
 use Rattle.remote_session.specs.Daemon.{SeenUp, NotUp, KeysFull, KnownKey, CallMade, down_for}
 use Rattle.remote_clients.specs.declared.sessions.Sessions.{Sessions}
-use Rattle.daemon_model.specs.Sent.{plain, message_calls, sent_calls}
 use Rattle.daemon_model.specs.Daemon.{Daemon, Opening, left_for, given, up_in, with_up, call_in, line_carried, called_by, down_in, down_sent, brought, given_on}
 use Rattle.network_model.specs.Network.{Net, went_on}
 use Rattle.network_model.proofs.Marks.{down_is_no_packet}
 use Rattle.network_safety.specs.Safe.{answered_by, call_events, BroughtEvents, GivenEvents}
-use Rattle.network_safety.proofs.Going.{More, more_on, noted_is, goes_twice}
+use Rattle.network_laws.proofs.Going.{More, noted_is, goes_twice, same_more, down_more, carried_more}
 use Rattle.network_safety.proofs.Joins.{IsJoinedOf}
 use Rattle.network_safety.proofs.Standing.{IsKnown, Stand}
-use Rattle.network_safety.proofs.Stepping.{step_more, StepsTo, own_up, step_stands, Says, keeps_stands, says_stands}
+use Rattle.network_safety.proofs.Stepping.{StepsTo, own_up, step_stands, Says, keeps_stands, says_stands}
 use Rattle.network_safety.proofs.Acts.{its_node, called, nothing_sent, Gives, IsKnownIf, none_given, message_gives}
 
 -- the daemon that went on is the node's
 pub went_here : (n : ℕ) (d e : Daemon) (net : Net) → (went_on n d e net).daemons n ≡ Some e
 unfolding went_on
 went_here n d e net = set_here net.daemons n (Some e)
-
--- ---- what is received and sent, and recorded
-
--- nothing, where these stay
-same_more : (d e : Daemon) → e.calls ≡ d.calls → e.records ≡ d.records → More d e
-same_more d e calls records = record { calls = []; called = calls ∙ sym (append-nil d.calls); records = []; recorded = records ∙ sym (append-nil d.records) }
-
-down_more : (key network : ℕ) (d : Daemon) → More d (down_sent key network d)
-unfolding down_sent
-down_more key network d = record { calls = map plain (message_calls d.me d.incarnation d.number 0 network (down_in d.sessions key)); called = refl; records = []; recorded = sym (append-nil d.records) }
-
-carried_more : (key : ℕ) (o : Option CallLine) (message : List ℕ) (f : Answering) (d : Daemon) → More d (line_carried key o f (with_up message d))
-unfolding left_for
-carried_more key None message f d = same_more d (line_carried key None f (with_up message d)) refl refl
-carried_more key (Some a) message f d =
-    record { calls = sent_calls d.me d.incarnation d.number (stepped f d.core (Calls a)).sends; called = refl; records = (stepped f d.core (Calls a)).records; recorded = refl }
-
-brought_more : (u : SeenUp) (network : ℕ) (message : List ℕ) (f : Answering) (d : Daemon) → More d (brought u network message f d)
-unfolding brought given called_by
-brought_more NotUp network message f d = step_more f _ d
-brought_more (KeysFull key limit) network message f d =
-    more_on d (with_up message d) (down_sent key network (with_up message d)) (same_more d (with_up message d) refl refl) (down_more key network (with_up message d))
-brought_more (KnownKey key) network message f d =
-    more_on d (with_up message d) (down_sent key network (with_up message d)) (same_more d (with_up message d) refl refl) (down_more key network (with_up message d))
-brought_more (CallMade key line) network message f d =
-    let o : Option CallLine = call_in (with_up message d).sessions d.me key line in
-    let e : Daemon = line_carried key o f (with_up message d) in
-    more_on d e (down_sent key network e) (carried_more key o message f d) (down_more key network e)
-
-pub given_on_more : (network : ℕ) (message : Option (List ℕ)) (f : Answering) (d : Daemon) → More d (given_on network message f d)
-unfolding given_on
-given_on_more network None f d = same_more d d refl refl
-given_on_more network (Some message) f d = brought_more (up_in d.sessions message) network message f d
 
 -- ---- what is said to a client on another machine
 
@@ -71,10 +36,10 @@ down_none (Some s) key = down_is_no_packet (down_for s.remote key)
 
 module _ (c : Config) (n : ℕ) (f : Answering) where
   -- a daemon went on to another, which then sends the Down of a key
-  downs : (net : Net) (es : List Answered) (w : World) (d e : Daemon) → Stand c (went_on n d e net) es w → More d e → (key network : ℕ) → (down_sent key network e).number ≤ 2 ^ 64 → Stand c (went_on n d (down_sent key network e) net) es w
+  downs : (net : Net) (es : List Answered) (w : World) (d e : Daemon) → Stand c (went_on n d e net) es w → More d e → (key network : ℕ) → Stand c (went_on n d (down_sent key network e) net) es w
   unfolding down_sent
-  downs net es w d e k more key network room =
-      subst (λ z. Stand c z es w) (goes_twice n d e (down_sent key network e) net more (down_more key network e)) (says_stands c (went_on n d e net) es w k n e (went_here n d e net) network (down_in e.sessions key) (down_none e.sessions key) (down_sent key network e) says room (noted_is e (down_sent key network e) [] (sym (append-nil e.records))))
+  downs net es w d e k more key network =
+      subst (λ z. Stand c z es w) (goes_twice n d e (down_sent key network e) net more (down_more key network e)) (says_stands c (went_on n d e net) es w k n e (went_here n d e net) network (down_in e.sessions key) (down_none e.sessions key) (down_sent key network e) says (noted_is e (down_sent key network e) [] (sym (append-nil e.records))))
     where
       says : Says (went_on n d e net) w k.wires n e (went_here n d e net) network (down_in e.sessions key) (down_sent key network e)
       says = record { core = refl; me = refl; incarnation = refl; joining = refl; number = refl; calls = refl }
@@ -86,29 +51,29 @@ module _ (c : Config) (n : ℕ) (f : Answering) where
         keeps_stands c net es w k n d at e core me inc number (subst (λ j. IsJoinedOf k.wires.messages j) (sym joining) (own_up net w k.wires n d at).joined) (nothing_sent d e calls) (noted_is d e [] (records ∙ sym (append-nil d.records)))
 
     -- a client on another machine speaks, and makes no call
-    speaks : (key network : ℕ) (message : List ℕ) → (down_sent key network (with_up message d)).number ≤ 2 ^ 64 → Gives c net es n d (down_sent key network (with_up message d)) (λ zs. zs ≡ [])
-    speaks key network message room =
+    speaks : (key network : ℕ) (message : List ℕ) → Gives c net es n d (down_sent key network (with_up message d)) (λ zs. zs ≡ [])
+    speaks key network message =
         let e : Daemon = with_up message d in
         record {
           events = [];
           are = refl;
           world = w;
-          stand = subst (λ zs. Stand c (went_on n d (down_sent key network e) net) zs w) (sym (append-nil es)) (downs net es w d e (sessions_stand e refl refl refl refl refl refl refl) (same_more d e refl refl) key network room);
+          stand = subst (λ zs. Stand c (went_on n d (down_sent key network e) net) zs w) (sym (append-nil es)) (downs net es w d e (sessions_stand e refl refl refl refl refl refl refl) (same_more d e refl refl) key network);
         }
 
     -- it makes a call, which is one of the node, or refused without a step
-    calls_by : (o : Option CallLine) (key network : ℕ) (message : List ℕ) → (down_sent key network (line_carried key o f (with_up message d))).number ≤ 2 ^ 64
+    calls_by : (o : Option CallLine) (key network : ℕ) (message : List ℕ)
         → Gives c net es n d (down_sent key network (line_carried key o f (with_up message d))) (λ zs. zs ≡ call_events n o f)
     unfolding left_for
-    calls_by None key network message room =
+    calls_by None key network message =
         let e : Daemon = line_carried key None f (with_up message d) in
         record {
           events = [];
           are = refl;
           world = w;
-          stand = subst (λ zs. Stand c (went_on n d (down_sent key network e) net) zs w) (sym (append-nil es)) (downs net es w d e (sessions_stand e refl refl refl refl refl refl refl) (same_more d e refl refl) key network room);
+          stand = subst (λ zs. Stand c (went_on n d (down_sent key network e) net) zs w) (sym (append-nil es)) (downs net es w d e (sessions_stand e refl refl refl refl refl refl refl) (same_more d e refl refl) key network);
         }
-    calls_by (Some a) key network message room =
+    calls_by (Some a) key network message =
         let e : Daemon = line_carried key (Some a) f (with_up message d) in
         let o : Opening = record { call = a; answers = f } in
         let t : StepsTo f (Calls a) d e = record { me = refl; incarnation = refl; core = refl; joining = refl; number = refl; calls = refl; records = refl } in
@@ -116,25 +81,21 @@ module _ (c : Config) (n : ℕ) (f : Answering) where
           events = answered_by f (event.Call n a) ∷ [];
           are = refl;
           world = goes_on w (answered_by f (event.Call n a));
-          stand = downs net (es ++ answered_by f (event.Call n a) ∷ []) (goes_on w (answered_by f (event.Call n a))) d e (step_stands c net es w k n d at f (Calls a) (answered_by f (event.Call n a)) (stepped f (its_node c net es w k n d at).node.core (Calls a)) (called c net es w k n d at o) e t) (carried_more key (Some a) message f d) key network room;
+          stand = downs net (es ++ answered_by f (event.Call n a) ∷ []) (goes_on w (answered_by f (event.Call n a))) d e (step_stands c net es w k n d at f (Calls a) (answered_by f (event.Call n a)) (stepped f (its_node c net es w k n d at).node.core (Calls a)) (called c net es w k n d at o) e t) (carried_more key (Some a) message f d) key network;
         }
 
     -- ---- a whole message
 
-    brought_gives : (u : SeenUp) (network : ℕ) (message : List ℕ) → IsKnown w message → (u ≡ NotUp) ⊎ ((brought u network message f d).number ≤ 2 ^ 64) → Gives c net es n d (brought u network message f d) (BroughtEvents n d u message f)
+    brought_gives : (u : SeenUp) (network : ℕ) (message : List ℕ) → IsKnown w message → Gives c net es n d (brought u network message f d) (BroughtEvents n d u message f)
     unfolding brought called_by
-    brought_gives NotUp network message known room = message_gives c net es w k n d at f message known
-    brought_gives (KeysFull key limit) network message known (inl e) = absurd (cc)
-    brought_gives (KeysFull key limit) network message known (inr room) = speaks key network message room
-    brought_gives (KnownKey key) network message known (inl e) = absurd (cc)
-    brought_gives (KnownKey key) network message known (inr room) = speaks key network message room
-    brought_gives (CallMade key line) network message known (inl e) = absurd (cc)
-    brought_gives (CallMade key line) network message known (inr room) = calls_by (call_in (with_up message d).sessions d.me key line) key network message room
+    brought_gives NotUp network message known = message_gives c net es w k n d at f message known
+    brought_gives (KeysFull key limit) network message known = speaks key network message
+    brought_gives (KnownKey key) network message known = speaks key network message
+    brought_gives (CallMade key line) network message known = calls_by (call_in (with_up message d).sessions d.me key line) key network message
 
-pub given_on_gives : (c : Config) (net : Net) (es : List Answered) (w : World) (k : Stand c net es w) (n : ℕ) (d : Daemon) → net.daemons n ≡ Some d → (network : ℕ) (f : Answering) (message : Option (List ℕ)) → IsKnownIf w message
-    → (d.sessions ≡ None) ⊎ ((given_on network message f d).number ≤ 2 ^ 64) → Gives c net es n d (given_on network message f d) (GivenEvents n d message f)
+pub given_on_gives : (c : Config) (net : Net) (es : List Answered) (w : World) (k : Stand c net es w) (n : ℕ) (d : Daemon) → net.daemons n ≡ Some d → (network : ℕ) (f : Answering) (message : Option (List ℕ)) → IsKnownIf w message → Gives c net es n d (given_on network message f d) (GivenEvents n d message f)
 unfolding given_on
-given_on_gives c net es w k n d at network f None known room =
+given_on_gives c net es w k n d at network f None known =
     record { events = []; are = refl; world = w; stand = subst (λ zs. Stand c (went_on n d d net) zs w) (sym (append-nil es)) (none_given c net es w k n d at) }
-given_on_gives c net es w k n d at network f (Some message) known room =
-    brought_gives c n f net es w k d at (up_in d.sessions message) network message known (elim room [ inl alone ↦ inl (ap (λ o. up_in o message) alone) | inr few ↦ inr few ])
+given_on_gives c net es w k n d at network f (Some message) known =
+    brought_gives c n f net es w k d at (up_in d.sessions message) network message known

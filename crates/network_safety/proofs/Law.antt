@@ -7,6 +7,7 @@ use Rattle.node_state.specs.declared.config.Config.{Config}
 use Rattle.node_state.specs.declared.config.Mode.{Mode}
 use Rattle.node_state.specs.declared.config.Mode.TheVariants.{Fixed, Asked, Rings}
 use Rattle.node_state.specs.declared.happened.Happened.{Happened}
+use Rattle.node_state.specs.HandOn.{Answering}
 use Rattle.node_state.specs.Settings.{is_fixed}
 use Rattle.node_state.specs.Step.{Calls, stepped}
 use Rattle.world_model.specs.World.{World, empty_world, world_of, world_new}
@@ -16,20 +17,22 @@ use Rattle.world_laws.specs.world_answers.Answers.{Answered, goes_on, answered_a
 use Rattle.world_safety.specs.Scripts.{IsSafe}
 use Rattle.world_safety.proofs.Scripts.{every_answer_is_safe}
 use Rattle.hags_io.specs.declared.link.LinkCall.{LinkCall}
-use Rattle.hags_io.specs.declared.link.LinkCall.TheVariants as call
 use Rattle.world_model.specs.declared.script.Script.{Script}
 use Rattle.piece_link.specs.Answers.{Among}
 use Rattle.daemon_model.specs.Sent.{Exchange, AllSpelled}
-use Rattle.daemon_model.specs.Daemon.{Daemon, Opening, Turn, opened, ticked, turned, left_for, stepped_for}
-use Rattle.network_model.specs.Network.{Act, Begins, Opens, Turns, Ends, Net, no_net, made_since, skipped, begins, idles, starts, does_if, acted, net_after}
-use Rattle.network_model.specs.Fits.{MayCome, IsSpelledSend, MayBegin, MayTurn, OfUp, MayAct, AllMayAct, NetworkRun}
-use Rattle.network_safety.specs.Safe.{answered_by, silent, idle_events, TurnEvents, ActEvents, AreEventsOf, NetworksOfDaemonsAreSafe}
+use Rattle.daemon_model.specs.Daemon.{Daemon, Opening, opened, is_due, ticked, heard, left_for, stepped_for}
+use Rattle.daemon_model.specs.Actions.{Action, Opens, Ticks, Hears, did}
+use Rattle.network_model.specs.Network.{Act, Begins, Does, Ends, Net, no_net, skipped, went_on, begins, idles, starts, does_if, acted, net_after}
+use Rattle.network_model.specs.Fits.{WasSent, IsSpelledSend, MayBegin, MayDo, OfUp, MayAct, AllMayAct, NetworkRun}
+use Rattle.network_model.specs.Executions.{IsLinear, what_of, TimedLife, untimed, Execution, Ordered}
+use Rattle.network_safety.specs.Safe.{answered_by, silent, idle_events, tick_events, ActionEvents, ActEvents, AreEventsOf, NetworksOfDaemonsAreSafe, IsSafeExecution, ExecutionsAreSafe}
 use Rattle.network_safety.specs.Served.{IsServed, Done, Ended, Broken, served_calls, Served, life_of, calls_of, WasTold, ServedDaemonsAreSafe}
-use Rattle.network_safety.proofs.Apart.{nodes_record_their_lives}
+use Rattle.network_laws.proofs.Apart.{nodes_record_their_lives}
+use Rattle.network_laws.proofs.Orders.{comes_as, are_lives, has_an_order}
 use Rattle.network_safety.proofs.Standing.{Stands, Stand}
 use Rattle.network_safety.proofs.Stepping.{steps_to, step_stands}
 use Rattle.network_safety.proofs.Acts.{its_node, called}
-use Rattle.network_safety.proofs.Turning.{TurnGoes, turn_goes}
+use Rattle.network_safety.proofs.Turning.{Went, tick_goes, HearGoes, hear_goes}
 use Rattle.network_safety.proofs.Lives.{Idled, idles_stand, start_stands, end_stands}
 
 -- ---- before anything happened
@@ -91,27 +94,39 @@ module _ (c : Config) (free : is_fixed c.mode ≡ false) (net : Net) (es : List 
         stand = subst (λ zs. Stand c (starts remote c n incarnation moment (idles c n (skipped net n incarnation) net)) zs (goes_on r.world (silent (event.Start n)))) (append_assoc es (idle_events n (skipped net n incarnation)) (silent (event.Start n) ∷ [])) (subst (λ j. Stand c (starts remote c n j moment (idles c n (skipped net n incarnation) net)) ((es ++ idle_events n (skipped net n incarnation)) ++ silent (event.Start n) ∷ []) (goes_on r.world (silent (event.Start n)))) now s);
       }
 
-  open_goes : (n : ℕ) (o : Opening) (d : Option Daemon) → net.daemons n ≡ d → OfUp (λ d. Unit {0}) d → ActGoes c net es (Opens n o)
-  unfolding acted opened stepped_for left_for
-  open_goes n o None at may = absurd may
-  open_goes n o (Some d) at may =
+  opening : (n : ℕ) (o : Opening) (d : Option Daemon) → net.daemons n ≡ d → OfUp (λ d. Unit {0}) d → ActGoes c net es (Does n (Opens o))
+  unfolding acted did opened stepped_for left_for
+  opening n o None at may = absurd may
+  opening n o (Some d) at may =
       record {
         events = answered_by o.answers (event.Call n o.call) ∷ [];
-        are = refl;
+        are = subst (OfUp (λ d. ActionEvents n d (Opens o) (answered_by o.answers (event.Call n o.call) ∷ []))) (sym at) refl;
         world = goes_on w (answered_by o.answers (event.Call n o.call));
         stand = subst (λ q. Stand c (does_if (λ d. opened d o) n q net) (es ++ answered_by o.answers (event.Call n o.call) ∷ []) (goes_on w (answered_by o.answers (event.Call n o.call)))) (sym at) (step_stands c net es w k n d at o.answers (Calls o.call) (answered_by o.answers (event.Call n o.call)) (stepped o.answers (its_node c net es w k n d at).node.core (Calls o.call)) (called c net es w k n d at o) (opened d o) (steps_to o.answers (Calls o.call) d));
       }
 
-  turning : (n : ℕ) (t : Turn) (d : Option Daemon) → net.daemons n ≡ d → OfUp (MayTurn IsSpelledSend net t) d → ActGoes c net es (Turns n t)
-  unfolding acted
-  turning n t None at may = absurd may
-  turning n t (Some d) at may =
-      let g : TurnGoes c net es n d t = turn_goes c net es w k n d at t may in
+  ticking : (n moment : ℕ) (f : Answering) (d : Option Daemon) → net.daemons n ≡ d → OfUp (λ d. Unit {0}) d → ActGoes c net es (Does n (Ticks moment f))
+  unfolding acted did
+  ticking n moment f None at may = absurd may
+  ticking n moment f (Some d) at may =
+      let g : Went c (went_on n d (ticked moment f d) net) (es ++ tick_events (is_due d.last moment) n f) = tick_goes c net es w k n d at (is_due d.last moment) moment f in
+      record {
+        events = tick_events (is_due d.last moment) n f;
+        are = subst (OfUp (λ d. ActionEvents n d (Ticks moment f) (tick_events (is_due d.last moment) n f))) (sym at) refl;
+        world = g.world;
+        stand = subst (λ q. Stand c (does_if (λ d. ticked moment f d) n q net) (es ++ tick_events (is_due d.last moment) n f) g.world) (sym at) g.stand;
+      }
+
+  hearing : (n : ℕ) (got : LinkCall) (f : Answering) (d : Option Daemon) → net.daemons n ≡ d → OfUp (λ d. MayDo IsSpelledSend net.wire (Hears got f)) d → ActGoes c net es (Does n (Hears got f))
+  unfolding acted did
+  hearing n got f None at may = absurd may
+  hearing n got f (Some d) at may =
+      let g : HearGoes c net es n d got f = hear_goes c net es w k n d at got f may in
       record {
         events = g.events;
-        are = subst (OfUp (TurnEvents n t g.events)) (sym at) g.are;
+        are = subst (OfUp (λ d. ActionEvents n d (Hears got f) g.events)) (sym at) g.are;
         world = g.world;
-        stand = subst (λ q. Stand c (does_if (λ d. turned d t) n q net) (es ++ g.events) g.world) (sym at) g.stand;
+        stand = subst (λ q. Stand c (does_if (λ d. heard got f d) n q net) (es ++ g.events) g.world) (sym at) g.stand;
       }
 
   end_goes : (n : ℕ) (d : Option Daemon) → net.daemons n ≡ d → OfUp (λ d. Unit {0}) d → ActGoes c net es (Ends n)
@@ -122,8 +137,9 @@ module _ (c : Config) (free : is_fixed c.mode ≡ false) (net : Net) (es : List 
 
   act_goes : (a : Act) → MayAct IsSpelledSend net a → ActGoes c net es a
   act_goes (Begins n incarnation moment remote) may = begin_goes n incarnation moment remote may
-  act_goes (Opens n o) may = open_goes n o (net.daemons n) refl may
-  act_goes (Turns n t) may = turning n t (net.daemons n) refl may
+  act_goes (Does n (Opens o)) may = opening n o (net.daemons n) refl may
+  act_goes (Does n (Ticks moment f)) may = ticking n moment f (net.daemons n) refl may
+  act_goes (Does n (Hears got f)) may = hearing n got f (net.daemons n) refl may
   act_goes (Ends n) may = end_goes n (net.daemons n) refl may
 
 -- ---- all acts
@@ -163,21 +179,21 @@ networks_of_daemons_are_safe c acts run =
 
 -- what holds of each send that is received, where another thing does
 module _ (c : Config) (P Q : Exchange → Type 0) (weaker : (x : Exchange) → P x → Q x) where
-  comes_as : (wire : List Exchange) (got : LinkCall) → MayCome P wire got → MayCome Q wire got
-  comes_as wire (call.Received network bytes) (inl h) = inl (record { send = h.send; among = h.among; is = h.is; holds = weaker h.send h.holds })
-  comes_as wire (call.Received network bytes) (inr h) = inr h
-  comes_as wire (call.Sent node network bytes out) h = h
-  comes_as wire call.Quiet h = h
-  comes_as wire call.Failed h = h
+  sent_as : (wire : List Exchange) (bytes : List ℕ) → WasSent P bytes wire → WasSent Q bytes wire
+  sent_as wire bytes h = record { send = h.send; among = h.among; is = h.is; holds = weaker h.send h.holds }
 
-  turns_as : (net : Net) (t : Turn) (d : Option Daemon) → OfUp (MayTurn P net t) d → OfUp (MayTurn Q net t) d
-  turns_as net t None h = h
-  turns_as net t (Some d) h = record { comes = comes_as (net.wire ++ made_since d (ticked t.moment t.tick d)) t.got h.comes; numbers = h.numbers }
+  may_do_as : (wire : List Exchange) (x : Action) → MayDo P wire x → MayDo Q wire x
+  may_do_as wire (Opens o) h = h
+  may_do_as wire (Ticks moment f) h = h
+  may_do_as wire (Hears got f) h = comes_as (λ bytes. WasSent P bytes wire) (λ bytes. WasSent Q bytes wire) (sent_as wire) got h
+
+  up_as : (wire : List Exchange) (x : Action) (d : Option Daemon) → OfUp (λ d. MayDo P wire x) d → OfUp (λ d. MayDo Q wire x) d
+  up_as wire x None h = h
+  up_as wire x (Some d) h = may_do_as wire x h
 
   act_as : (net : Net) (a : Act) → MayAct P net a → MayAct Q net a
   act_as net (Begins n incarnation moment remote) h = h
-  act_as net (Opens n o) h = h
-  act_as net (Turns n t) h = turns_as net t (net.daemons n) h
+  act_as net (Does n x) h = up_as net.wire x (net.daemons n) h
   act_as net (Ends n) h = h
 
   acts_as : (acts : List Act) (net : Net) → AllMayAct P c net acts → AllMayAct Q c net acts
@@ -200,7 +216,24 @@ told_spelled c served x h =
     let r = h.by in
     each_spelled (calls_of c h.node r) (all_spelled r.script h.node r.incarnation r.remote r.turns (Some r.calls) (Some r.calls_after) r.held r.held_after r.moments r.moments_after r.is) x h.told
 
-pub served_daemons_are_safe : ServedDaemonsAreSafe
-served_daemons_are_safe c served acts are run =
-    let spelled : NetworkRun IsSpelledSend c acts = record { mode = run.mode; may = acts_as c (WasTold c served) IsSpelledSend (told_spelled c served) acts no_net run.may } in
-    (networks_of_daemons_are_safe c acts spelled, nodes_record_their_lives c acts (λ n. map (life_of c n) (served n)) are)
+-- ---- executions
+
+-- where what is asked of sends gives that they are spelled
+module _ {T : Type 0} (no_later : T → T → Bool) (linear : IsLinear T no_later) (P : Exchange → Type 0) (spelled : (x : Exchange) → P x → IsSpelledSend x) (c : Config) (lives : ℕ → List (TimedLife T)) (x : Execution T no_later P c lives) where
+  abbrev order : Ordered T no_later P c lives
+  order = has_an_order no_later linear P c lives x
+
+  execution_is_safe : IsSafeExecution T no_later P c lives
+  execution_is_safe =
+      let acts : List Act = map what_of order.acts in
+      record {
+        order = order;
+        safe = networks_of_daemons_are_safe c acts (record { mode = order.run.mode; may = acts_as c P IsSpelledSend spelled acts no_net order.run.may });
+        records = nodes_record_their_lives c acts (λ n. map untimed (lives n)) (are_lives lives order.acts order.own);
+      }
+
+pub executions_are_safe : (T : Type 0) → ExecutionsAreSafe T
+executions_are_safe T no_later linear c lives x = execution_is_safe no_later linear IsSpelledSend (λ x h. h) c lives x
+
+pub served_daemons_are_safe : (T : Type 0) → ServedDaemonsAreSafe T
+served_daemons_are_safe T no_later linear c served lives are x = execution_is_safe no_later linear (WasTold c served) (told_spelled c served) c lives x

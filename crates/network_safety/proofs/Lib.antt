@@ -4,11 +4,9 @@ pub mod Messages
 pub mod Joins
 pub mod WorldSteps
 pub mod Standing
-pub mod Going
 pub mod Stepping
 pub mod Acts
 pub mod Bringing
 pub mod Turning
 pub mod Lives
-pub mod Apart
 pub mod Law

@@ -6,7 +6,6 @@ use Rattle.rsct_packet.specs.Ids.{last_u32}
 use Rattle.node_state.specs.declared.config.Config.{Config}
 use Rattle.node_state.specs.declared.happened.Happened.TheVariants as happened
 use Rattle.node_state.specs.Settings.{is_fixed}
-use Rattle.node_state.specs.State.{with_sessions}
 use Rattle.node_state.specs.Step.{at_work, started}
 use Rattle.world_model.specs.World.{World, is_node}
 use Rattle.world_model.specs.declared.event.Event.TheVariants as event
@@ -16,9 +15,9 @@ use Rattle.step_refinement.proofs.Changed.{set_here, set_there, each_set}
 use Rattle.world_safety.specs.Mirrors.{inc_at}
 use Rattle.piece_link.specs.Pieces.{Message}
 use Rattle.piece_link.specs.Answers.{Among}
-use Rattle.daemon_model.specs.Sent.{sent_calls}
 use Rattle.daemon_model.specs.Daemon.{Daemon, left_for, begun_for}
 use Rattle.network_model.specs.Network.{Net, starts, ends, idles}
+use Rattle.network_laws.proofs.Going.{begun_records, begun_calls}
 use Rattle.network_safety.specs.Safe.{silent, idle_events}
 use Rattle.network_safety.proofs.Quiet.{start_rests}
 use Rattle.network_safety.proofs.Joins.{none_joined}
@@ -27,15 +26,7 @@ use Rattle.network_safety.proofs.Standing.{IsCore, Facts, facts, NodeOf, node_of
 
 -- ---- a start
 
--- a daemon that starts has its node, at work; has sent nothing; and recorded that it is up
-pub begun_records : (remote : Bool) (c : Config) (n inc moment : ℕ) → (begun_for remote c n inc moment).records ≡ (started c n inc).records
-unfolding begun_for left_for
-begun_records remote c n inc moment = refl
-
-begun_calls : (remote : Bool) (c : Config) (n inc moment : ℕ) → (begun_for remote c n inc moment).calls ≡ []
-unfolding begun_for left_for started with_sessions sent_calls
-begun_calls remote c n inc moment = refl
-
+-- a daemon that starts has its node, at work
 begun_core : (remote : Bool) (c : Config) (n inc moment : ℕ) → (begun_for remote c n inc moment).core ≡ at_work (started c n inc)
 unfolding begun_for left_for
 begun_core remote c n inc moment = refl

@@ -1,5 +1,5 @@
 -- The messages of packets: what is sent of them is in pieces, and no two have one number.
-use Rattle.std.proofs.Common.{◌≡◌, ◌<◌, ◌≤◌, ◌+◌, ◌^◌, ℕ, List, [], ◌∷◌, ◌++◌, length, ◌==◌, not, Bool, true, false, Option, Some, None, refl, sym, ap, ◌∙◌, subst, inl, inr, arith}
+use Rattle.std.proofs.Common.{◌≡◌, ◌<◌, ◌≤◌, ◌+◌, ◌^◌, ℕ, List, [], ◌∷◌, ◌++◌, length, ◌==◌, not, Bool, true, false, refl, sym, ap, ◌∙◌, subst, inl, inr, arith}
 use Rattle.std.specs.Prelude.{map, flat_map, nat_le}
 use Rattle.std.proofs.lemmas.Bool.{leb-true}
 use Rattle.std.proofs.lemmas.Grind.{flat_map-append}
@@ -11,7 +11,7 @@ use Rattle.node_state.specs.declared.packet.Packet.{Packet}
 use Rattle.node_state.specs.Bytes.{bytes_of}
 use Rattle.piece_link.specs.Pieces.{Message, can_cut, message_by, pieces_of}
 use Rattle.piece_link.specs.Answers.{Among, CanBeCut, SameKey, AreDistinct}
-use Rattle.daemon_model.specs.Sent.{piece_call, packet_pieces, calls_if, number_if, goes_out, carried_calls, number_over, Numbered, Exchange, piece_of, numbered, carried, sent_calls, number_after}
+use Rattle.daemon_model.specs.Sent.{piece_call, packet_pieces, calls_if, number_if, goes_out, carried_calls, number_over, Numbered, Of, OfNothing, OfPacket, OfMessage, Exchange, piece_of, numbered, carried, sent_calls, number_after}
 use Rattle.network_model.specs.Fits.{IsSend}
 
 -- ---- the messages of packets
@@ -19,9 +19,10 @@ use Rattle.network_model.specs.Fits.{IsSend}
 abbrev pub message_of : Numbered → Message
 message_of n = message_by n.sender n.incarnation n.number (bytes_of n.packet)
 
-abbrev pub messages_if : Option Numbered → List Message
-messages_if None = []
-messages_if (Some n) = message_of n ∷ []
+abbrev pub messages_if : Of → List Message
+messages_if OfNothing = []
+messages_if (OfPacket n) = message_of n ∷ []
+messages_if (OfMessage number) = []
 
 -- of each send of a piece of a packet
 unfoldable pub messages_in : List Exchange → List Message
@@ -39,7 +40,7 @@ pub record IsMessageIn (xs : List Exchange) (m : Message) : Type 0 where
   pub send : Exchange
   pub among : Among send xs
   pub of : Numbered
-  pub is : send.of ≡ Some of
+  pub is : send.of ≡ OfPacket of
   pub message : m ≡ message_of of
 
 pub message_in : (xs : List Exchange) (m : Message) → Among m (messages_in xs) → IsMessageIn xs m
@@ -47,19 +48,20 @@ unfolding messages_in
 message_in [] m h = absurd h
 message_in (x ∷ xs) m h = elim (has_append m (messages_if x.of) (messages_in xs) h) [ inl a ↦ first x.of refl a | inr b ↦ later (message_in xs m b) ]
   where
-    first : (o : Option Numbered) → x.of ≡ o → Among m (messages_if o) → IsMessageIn (x ∷ xs) m
-    first None e a = absurd a
-    first (Some n) e (inl is) = record { send = x; among = inl refl; of = n; is = e; message = is }
-    first (Some n) e (inr a) = absurd a
+    first : (o : Of) → x.of ≡ o → Among m (messages_if o) → IsMessageIn (x ∷ xs) m
+    first OfNothing e a = absurd a
+    first (OfMessage number) e a = absurd a
+    first (OfPacket n) e (inl is) = record { send = x; among = inl refl; of = n; is = e; message = is }
+    first (OfPacket n) e (inr a) = absurd a
 
     later : IsMessageIn xs m → IsMessageIn (x ∷ xs) m
     later k = record { send = k.send; among = inr k.among; of = k.of; is = k.is; message = k.message }
 
-pub in_messages : (xs : List Exchange) (x : Exchange) (n : Numbered) → Among x xs → x.of ≡ Some n → Among (message_of n) (messages_in xs)
+pub in_messages : (xs : List Exchange) (x : Exchange) (n : Numbered) → Among x xs → x.of ≡ OfPacket n → Among (message_of n) (messages_in xs)
 unfolding messages_in
 in_messages [] x n h e = absurd h
 in_messages (y ∷ ys) x n (inl is) e =
-    let one : Among (message_of n) (messages_if y.of) = subst (λ (o : Option Numbered). Among (message_of n) (messages_if o)) (sym e ∙ ap (λ (z : Exchange). z.of) is) (inl refl) in
+    let one : Among (message_of n) (messages_if y.of) = subst (λ (o : Of). Among (message_of n) (messages_if o)) (sym e ∙ ap (λ (z : Exchange). z.of) is) (inl refl) in
     append_has_left (message_of n) (messages_if y.of) (messages_in ys) one
 in_messages (y ∷ ys) x n (inr h) e = append_has_right (message_of n) (messages_if y.of) (messages_in ys) (in_messages ys x n h e)
 
@@ -80,7 +82,7 @@ after_le number (p ∷ ps) =
 -- a send of a piece of one of the packets, as a message between two numbers
 pub record IsOne (me inc low high : ℕ) (ps : List Packet) (x : Exchange) : Type 0 where
   pub of : Numbered
-  pub is : x.of ≡ Some of
+  pub is : x.of ≡ OfPacket of
   pub sender : of.sender ≡ me
   pub incarnation : of.incarnation ≡ inc
   pub from : low ≤ of.number
@@ -121,8 +123,8 @@ pub record IsOneMessage (me inc low high : ℕ) (m : Message) : Type 0 where
   pub from : low ≤ m.number
   pub below : m.number < high
 
-same_of : (a b : Numbered) (o : Option Numbered) → o ≡ Some a → o ≡ Some b → a ≡ b
-same_of a b o e f = let q : Some a ≡ Some b = sym e ∙ f in cc
+same_of : (a b : Numbered) (o : Of) → o ≡ OfPacket a → o ≡ OfPacket b → a ≡ b
+same_of a b o e f = let q : OfPacket a ≡ OfPacket b = sym e ∙ f in cc
 
 pub each_message : (me inc number : ℕ) (ps : List Packet) (m : Message) → Among m (messages_in (sent_calls me inc number ps)) → IsOneMessage me inc number (number_after number ps) m
 each_message me inc number ps m h =

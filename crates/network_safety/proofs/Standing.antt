@@ -31,7 +31,7 @@ use Rattle.world_safety.proofs.Runs.{every_run_is_reached}
 use Rattle.hags_io.specs.declared.link.LinkCall.{LinkCall}
 use Rattle.piece_link.specs.Pieces.{Message, can_cut, pieces_of}
 use Rattle.piece_link.specs.Answers.{Among, CanBeCut, AreDistinct}
-use Rattle.daemon_model.specs.Sent.{Numbered, Exchange}
+use Rattle.daemon_model.specs.Sent.{Numbered, Of, OfNothing, OfPacket, OfMessage, Exchange}
 use Rattle.daemon_model.specs.Daemon.{Daemon}
 use Rattle.network_model.specs.Network.{Net}
 use Rattle.network_model.specs.Fits.{IsSend}
@@ -98,18 +98,19 @@ pub record IsPiece (all : List Message) (w : World) (n : Numbered) (c : LinkCall
   pub among : Among (message_of n) all
   pub piece : (b : List ℕ) → IsSend b c → Among b (pieces_of (message_of n))
 
--- a piece of a message that is one of these, and no packet
-pub record IsOther (all : List Message) (b : List ℕ) : Type 0 where
+-- a piece of a message of this number that is one of these, and no packet
+pub record IsOther (all : List Message) (number : ℕ) (b : List ℕ) : Type 0 where
   pub message : Message
   pub among : Among message all
-  pub fits : CanBeCut message
+  pub fits : number < 2 ^ 64 → CanBeCut message
   pub none : packet_of message.bytes ≡ None
   pub piece : Among b (pieces_of message)
 
 -- all else that is sent is a piece of what is no packet
-abbrev pub IsMade : List Message → World → LinkCall → Option Numbered → Type 0
-IsMade all w c None = (b : List ℕ) → IsSend b c → IsOther all b
-IsMade all w c (Some n) = IsPiece all w n c
+abbrev pub IsMade : List Message → World → LinkCall → Of → Type 0
+IsMade all w c OfNothing = (b : List ℕ) → IsSend b c → ⊥
+IsMade all w c (OfPacket n) = IsPiece all w n c
+IsMade all w c (OfMessage number) = (b : List ℕ) → IsSend b c → IsOther all number b
 
 -- All messages that daemons cut, each with a key of its own: on the wire are pieces of them, of packets that the world
 -- knows or of what is no packet. Of some of them pieces came: these are known, whatever is joined of their pieces.
@@ -125,12 +126,13 @@ pub record Wires (net : Net) (w : World) : Type 0 where
   pub up : (n : ℕ) → IsUpIf messages n (net.incarnations n) (net.daemons n)
 
 -- what was made stays so, where the world goes on, and more is cut
-pub made_later : (all more : List Message) (w v : World) → ((p : Packet) → Has p w.sent → Has p v.sent) → ((m : Message) → Among m all → Among m more) → (c : LinkCall) (o : Option Numbered) → IsMade all w c o → IsMade more v c o
-made_later all more w v old wider c None h = λ b is. other_later b (h b is)
+pub made_later : (all more : List Message) (w v : World) → ((p : Packet) → Has p w.sent → Has p v.sent) → ((m : Message) → Among m all → Among m more) → (c : LinkCall) (o : Of) → IsMade all w c o → IsMade more v c o
+made_later all more w v old wider c OfNothing h = h
+made_later all more w v old wider c (OfMessage number) h = λ b is. other_later b (h b is)
   where
-    other_later : (b : List ℕ) → IsOther all b → IsOther more b
+    other_later : (b : List ℕ) → IsOther all number b → IsOther more number b
     other_later b o = record { message = o.message; among = wider o.message o.among; fits = o.fits; none = o.none; piece = o.piece }
-made_later all more w v old wider c (Some n) h =
+made_later all more w v old wider c (OfPacket n) h =
     record { sender = h.sender; incarnation = h.incarnation; cut = h.cut; known = elim h.known [ inl t ↦ inl t | inr i ↦ inr (old n.packet i) ]; among = wider (message_of n) h.among; piece = h.piece }
 
 pub known_later : (w v : World) → ((p : Packet) → Has p w.sent → Has p v.sent) → (bytes : List ℕ) → IsKnown w bytes → IsKnown v bytes

@@ -19,7 +19,7 @@ use Rattle.world_safety.specs.Events.{MayHappen}
 use Rattle.world_safety.specs.Mirrors.{core_at, inc_at}
 use Rattle.piece_link.specs.Pieces.{Message, can_cut, message_by, pieces_of}
 use Rattle.piece_link.specs.Answers.{Among, CanBeCut, SameKey, AreDistinct}
-use Rattle.daemon_model.specs.Sent.{piece_to, calls_if, number_if, message_calls, Exchange, plain, sent_calls, number_after}
+use Rattle.daemon_model.specs.Sent.{piece_to, calls_if, number_if, message_calls, OfNothing, Exchange, said, sent_calls, number_after}
 use Rattle.daemon_model.specs.Daemon.{Daemon, stepped_by, left_for, stepped_for}
 use Rattle.network_model.specs.Network.{Net, made_since, noted_since, went_on}
 use Rattle.network_model.specs.Fits.{IsSend}
@@ -27,13 +27,8 @@ use Rattle.network_safety.proofs.Quiet.{IsTalk, step_rests}
 use Rattle.network_safety.proofs.Messages.{message_of, messages_in, in_messages, IsOne, each_one, IsOneMessage, each_message, after_le, own_distinct, distinct_both, one_fits, goes_cut}
 use Rattle.network_safety.proofs.Joins.{IsJoinedOf}
 use Rattle.network_safety.proofs.WorldSteps.{Leaves}
-use Rattle.network_safety.proofs.Going.{More, made_is, noted_is}
+use Rattle.network_laws.proofs.Going.{made_is, noted_is}
 use Rattle.network_safety.proofs.Standing.{IsCore, stands_on, IsBefore, IsPast, IsUp, IsUpIf, IsMade, made_later, known_later, Wires, Stand}
-
--- what a step adds
-pub step_more : (f : Answering) (e : NodeEvent) (d : Daemon) → More d (stepped_by f e d)
-unfolding stepped_for left_for
-step_more f e d = record { calls = sent_calls d.me d.incarnation d.number (stepped f d.core e).sends; called = refl; records = (stepped f d.core e).records; recorded = refl }
 
 -- which daemon it is stays
 pub step_who : (f : Answering) (e : NodeEvent) (d : Daemon) → ((stepped_by f e d).me ≡ d.me) × ((stepped_by f e d).incarnation ≡ d.incarnation)
@@ -56,7 +51,7 @@ steps_to f e d = record { me = refl; incarnation = refl; core = refl; joining = 
 
 -- no send
 abbrev pub IsNoSend : Exchange → Type 0
-IsNoSend x = (x.of ≡ None) × ((b : List ℕ) → IsSend b x.call → ⊥)
+IsNoSend x = (x.of ≡ OfNothing) × ((b : List ℕ) → IsSend b x.call → ⊥)
 
 module _ (net : Net) (w : World) (k : Wires net w) (n : ℕ) (d : Daemon) (at : net.daemons n ≡ Some d) where
   pub own_up : IsUp k.messages n (net.incarnations n) d
@@ -145,7 +140,7 @@ module _ (net : Net) (w : World) (k : Wires net w) (n : ℕ) (d : Daemon) (at : 
         new = [];
         each = λ m h. absurd h;
         distinct = λ m l h i same. absurd h;
-        made = λ x h. (let q = quiet x h in subst (IsMade (k.all ++ []) w x.call) (sym q.0) (λ b is. absurd (q.1 b is)));
+        made = λ x h. (let q = quiet x h in subst (IsMade (k.all ++ []) w x.call) (sym q.0) q.1);
       }
 
   -- ---- it sends a message that is no packet
@@ -156,30 +151,30 @@ module _ (net : Net) (w : World) (k : Wires net w) (n : ℕ) (d : Daemon) (at : 
     pub incarnation : e.incarnation ≡ d.incarnation
     pub joining : e.joining ≡ d.joining
     pub number : e.number ≡ number_if (can_cut bytes) d.number
-    pub calls : e.calls ≡ d.calls ++ map plain (message_calls d.me d.incarnation d.number 0 network bytes)
+    pub calls : e.calls ≡ d.calls ++ map (said d.number) (message_calls d.me d.incarnation d.number 0 network bytes)
 
-  module _ (network : ℕ) (bytes : List ℕ) (none : packet_of bytes ≡ None) (e : Daemon) (says : Says network bytes e) (room : e.number ≤ 2 ^ 64) where
-    abbrev said : Message
-    said = message_by d.me d.incarnation d.number bytes
+  module _ (network : ℕ) (bytes : List ℕ) (none : packet_of bytes ≡ None) (e : Daemon) (says : Says network bytes e) where
+    abbrev spoken : Message
+    spoken = message_by d.me d.incarnation d.number bytes
 
-    abbrev said_if : Bool → List Exchange
-    said_if b = map plain (calls_if b (map (piece_to 0 network) (pieces_of said)))
+    abbrev spoken_if : Bool → List Exchange
+    spoken_if b = map (said d.number) (calls_if b (map (piece_to 0 network) (pieces_of spoken)))
 
-    itself : (m : Message) → Among m (said ∷ []) → m ≡ said
+    itself : (m : Message) → Among m (spoken ∷ []) → m ≡ spoken
     itself m (inl is) = is
     itself m (inr h) = absurd h
 
-    one_made : CanBeCut said → (bs : List (List ℕ)) → ((b : List ℕ) → Among b bs → Among b (pieces_of said)) → (x : Exchange) → Among x (map plain (map (piece_to 0 network) bs)) → IsMade (k.all ++ said ∷ []) w x.call x.of
+    one_made : (d.number < 2 ^ 64 → CanBeCut spoken) → (bs : List (List ℕ)) → ((b : List ℕ) → Among b bs → Among b (pieces_of spoken)) → (x : Exchange) → Among x (map (said d.number) (map (piece_to 0 network) bs)) → IsMade (k.all ++ spoken ∷ []) w x.call x.of
     one_made fits [] within x h = absurd h
     one_made fits (b ∷ bs) within x (inl is) =
-        subst (λ (z : Exchange). IsMade (k.all ++ said ∷ []) w z.call z.of) (sym is) (λ c same. record { message = said; among = append_has_right said k.all (said ∷ []) (inl refl); fits = fits; none = none; piece = subst (λ z. Among z (pieces_of said)) same (within b (inl refl)) })
+        subst (λ (z : Exchange). IsMade (k.all ++ spoken ∷ []) w z.call z.of) (sym is) (λ c same. record { message = spoken; among = append_has_right spoken k.all (spoken ∷ []) (inl refl); fits = fits; none = none; piece = subst (λ z. Among z (pieces_of spoken)) same (within b (inl refl)) })
     one_made fits (b ∷ bs) within x (inr h) = one_made fits bs (λ c i. within c (inr i)) x h
 
-    goes_if : (b : Bool) → can_cut bytes ≡ b → e.number ≡ number_if b d.number → e.calls ≡ d.calls ++ said_if b → GoesTo w e
+    goes_if : (b : Bool) → can_cut bytes ≡ b → e.number ≡ number_if b d.number → e.calls ≡ d.calls ++ spoken_if b → GoesTo w e
     goes_if false cut number calls =
         quiet_goes e says.core says.me says.incarnation number (subst (IsJoinedOf k.messages) (sym says.joining) own_up.joined) (λ x h. absurd (subst (Among x) (made_is d e [] calls) h))
     goes_if true cut number calls =
-        let fits : CanBeCut said = one_fits said (subst (λ j. j ≤ 32) (sym own_up.me) own_up.most) (subst (λ j. j < 2 ^ 32) (sym own_up.incarnation) own_up.fits) (omega (arith, room, number)) cut in
+        let fits : d.number < 2 ^ 64 → CanBeCut spoken = λ small. one_fits spoken (subst (λ j. j ≤ 32) (sym own_up.me) own_up.most) (subst (λ j. j < 2 ^ 32) (sym own_up.incarnation) own_up.fits) small cut in
         record {
           old = λ p h. h;
           me = says.me;
@@ -187,10 +182,10 @@ module _ (net : Net) (w : World) (k : Wires net w) (n : ℕ) (d : Daemon) (at : 
           later = omega (arith, number);
           rests = subst Resting (sym says.core) own_up.rests;
           joined = subst (IsJoinedOf k.messages) (sym says.joining) own_up.joined;
-          new = said ∷ [];
+          new = spoken ∷ [];
           each = λ m h. subst (IsOneMessage d.me d.incarnation d.number e.number) (sym (itself m h)) (record { sender = refl; incarnation = refl; from = omega arith; below = omega (arith, number) });
           distinct = λ m l h i same. itself m h ∙ sym (itself l i);
-          made = λ x h. one_made fits (pieces_of said) (λ b i. i) x (subst (Among x) (made_is d e (said_if true) calls) h);
+          made = λ x h. one_made fits (pieces_of spoken) (λ b i. i) x (subst (Among x) (made_is d e (spoken_if true) calls) h);
         }
 
     says_goes : GoesTo w e
@@ -284,5 +279,5 @@ module _ (c : Config) (net : Net) (es : List Answered) (w : World) (k : Stand c 
       → Stand c (went_on n d e net) es w
   keeps_stands e core me inc number joined quiet still = only_stands e core still (quiet_goes net w k.wires n d at e core me inc number joined quiet)
 
-  pub says_stands : (network : ℕ) (bytes : List ℕ) → packet_of bytes ≡ None → (e : Daemon) → Says net w k.wires n d at network bytes e → e.number ≤ 2 ^ 64 → noted_since d e ≡ [] → Stand c (went_on n d e net) es w
-  says_stands network bytes none e says room still = only_stands e says.core still (says_goes net w k.wires n d at network bytes none e says room)
+  pub says_stands : (network : ℕ) (bytes : List ℕ) → packet_of bytes ≡ None → (e : Daemon) → Says net w k.wires n d at network bytes e → noted_since d e ≡ [] → Stand c (went_on n d e net) es w
+  says_stands network bytes none e says still = only_stands e says.core still (says_goes net w k.wires n d at network bytes none e says)

@@ -18,29 +18,21 @@ use Rattle.piece_link.specs.Pieces.{Message, Piece, piece_at, pieces_of}
 use Rattle.piece_link.specs.Joining.{Joining, Joined, taken}
 use Rattle.piece_link.specs.Answers.{Among, CanBeCut, SameKey}
 use Rattle.piece_link.proofs.UnchangedLaw.{unchanged, answered_at_once}
-use Rattle.daemon_model.specs.Sent.{Numbered, Exchange, plain, as_sent, IsSpelledIf}
-use Rattle.daemon_model.specs.Daemon.{Daemon, Opening, Turn, stepped_by, opened, is_due, ticked_if, ticked, joined_by, received, given_on, network_of, heard, turned, left_for, stepped_for}
-use Rattle.daemon_model.proofs.AloneLaws.{IsAlone, tick_alone}
+use Rattle.daemon_model.specs.Sent.{Numbered, Of, OfNothing, OfPacket, OfMessage, Exchange, plain, as_sent, IsSpelledIf}
+use Rattle.daemon_model.specs.Daemon.{Daemon, stepped_by, ticked_if, joined_by, received, given_on, network_of, heard, left_for, stepped_for}
 use Rattle.network_model.specs.Network.{Net, made_since, went_on}
-use Rattle.network_model.specs.Fits.{IsQuestion, AsksAtMost, IsOfClient, IsSend, MayCome, IsSpelledSend, MayTurn}
-use Rattle.network_safety.specs.Safe.{answered_by, tick_events, GivenEvents, TurnEvents}
+use Rattle.network_model.specs.Fits.{IsQuestion, AsksAtMost, IsOfClient, IsSend, WasSent, MayCome, IsSpelledSend}
+use Rattle.network_safety.specs.Safe.{answered_by, tick_events, GivenEvents}
 use Rattle.network_safety.proofs.Messages.{message_of, one_fits}
 use Rattle.network_safety.proofs.Quiet.{IsTalk}
 use Rattle.network_safety.proofs.Joins.{IsJoinedOf, more_joined, joined_on, whole_sent}
-use Rattle.network_safety.proofs.Going.{More, more_on, made_is, noted_is, goes_twice}
+use Rattle.network_laws.proofs.Going.{made_is, noted_is, goes_twice, step_more, due_more, received_more, given_on_more}
 use Rattle.network_safety.proofs.Standing.{IsKnown, IsUpIf, IsPiece, IsOther, IsMade, Wires, Stand, node_of}
-use Rattle.network_safety.proofs.Stepping.{step_more, steps_to, IsNoSend, own_up, step_stands, keeps_stands}
+use Rattle.network_safety.proofs.Stepping.{steps_to, IsNoSend, own_up, step_stands, keeps_stands}
 use Rattle.network_safety.proofs.Acts.{nothing_sent, ticks, Gives, IsKnownIf, none_given}
-use Rattle.network_safety.proofs.Bringing.{went_here, given_on_more, given_on_gives}
+use Rattle.network_safety.proofs.Bringing.{went_here, given_on_gives}
 
 -- ---- the tick
-
-due_more : (moment : ℕ) (d : Daemon) → More d (record d { last = moment })
-due_more moment d = record { calls = []; called = sym (append-nil d.calls); records = []; recorded = sym (append-nil d.records) }
-
-tick_more : (b : Bool) (moment : ℕ) (f : Answering) (d : Daemon) → More d (ticked_if b moment f d)
-tick_more true moment f d = more_on d (record d { last = moment }) (ticked_if true moment f d) (due_more moment d) (step_more f Ticks (record d { last = moment }))
-tick_more false moment f d = due_more d.last d
 
 pub record Went (c : Config) (net : Net) (es : List Answered) : Type 0 where
   pub world : World
@@ -121,15 +113,16 @@ module _ (net : Net) (w : World) (k : Wires net w) (j : Joining) (own_joined : I
   message_comes b m among fits known piece =
       piece_comes net w (learned net w k m among fits known) j (more_joined (m ∷ []) k.messages j own_joined) b m (inl refl) piece
 
-  sent_comes : (b : List ℕ) (x : Exchange) → Among x net.wire → IsSend b x.call → (o : Option Numbered) → x.of ≡ o → IsSpelledIf o → Comes net w (taken j b)
-  sent_comes b x among send None e spelled =
-      let o : IsOther k.all b = subst (IsMade k.all w x.call) e (k.made x among) b send in
-      message_comes b o.message o.among o.fits (λ p is. absurd (let z : None ≡ Some p = sym o.none ∙ is in cc)) o.piece
-  sent_comes b x among send (Some n) e spelled =
+  sent_comes : (b : List ℕ) (x : Exchange) → Among x net.wire → IsSend b x.call → (o : Of) → x.of ≡ o → IsSpelledIf o → Comes net w (taken j b)
+  sent_comes b x among send OfNothing e spelled = absurd (subst (IsMade k.all w x.call) e (k.made x among) b send)
+  sent_comes b x among send (OfMessage number) e spelled =
+      let o : IsOther k.all number b = subst (IsMade k.all w x.call) e (k.made x among) b send in
+      message_comes b o.message o.among (o.fits spelled) (λ p is. absurd (let z : None ≡ Some p = sym o.none ∙ is in cc)) o.piece
+  sent_comes b x among send (OfPacket n) e spelled =
       let piece : IsPiece k.all w n x.call = subst (IsMade k.all w x.call) e (k.made x among) in
       message_comes b (message_of n) piece.among (one_fits (message_of n) piece.sender piece.incarnation spelled.fits piece.cut) (piece_known w n piece.known spelled.read) (piece.piece b send)
 
-  comes : (got : LinkCall) → MayCome IsSpelledSend net.wire got → Comes net w (joined_by got j)
+  comes : (got : LinkCall) → MayCome (λ bytes. WasSent IsSpelledSend bytes net.wire) got → Comes net w (joined_by got j)
   comes (call.Received network b) (inl sent) = sent_comes b sent.send sent.among sent.is sent.send.of refl sent.holds
   comes (call.Received network b) (inr (inl none)) =
       subst (Comes net w) (sym ((unchanged j b).0 none)) (record { wires = k; joined = own_joined; known = tt })
@@ -138,21 +131,17 @@ module _ (net : Net) (w : World) (k : Wires net w) (j : Joining) (own_joined : I
   comes call.Quiet h = record { wires = k; joined = own_joined; known = tt }
   comes call.Failed h = record { wires = k; joined = own_joined; known = tt }
 
-received_more : (got : LinkCall) (d : Daemon) → More d (received got d)
-unfolding received
-received_more got d = record { calls = plain (as_sent got) ∷ []; called = refl; records = []; recorded = sym (append-nil d.records) }
-
-no_send : (wire : List Exchange) (got : LinkCall) → MayCome IsSpelledSend wire got → (b : List ℕ) → IsSend b (as_sent got) → ⊥
+no_send : (wire : List Exchange) (got : LinkCall) → MayCome (λ bytes. WasSent IsSpelledSend bytes wire) got → (b : List ℕ) → IsSend b (as_sent got) → ⊥
 no_send wire (call.Received network bytes) h b is = absurd is
 no_send wire (call.Sent node network bytes out) h b is = absurd h
 no_send wire call.Quiet h b is = absurd is
 no_send wire call.Failed h b is = absurd is
 
-received_only : (wire : List Exchange) (got : LinkCall) → MayCome IsSpelledSend wire got → (x : Exchange) → Among x (plain (as_sent got) ∷ []) → IsNoSend x
+received_only : (wire : List Exchange) (got : LinkCall) → MayCome (λ bytes. WasSent IsSpelledSend bytes wire) got → (x : Exchange) → Among x (plain (as_sent got) ∷ []) → IsNoSend x
 received_only wire got may x (inl e) = subst IsNoSend (sym e) (refl, no_send wire got may)
 received_only wire got may x (inr h) = absurd h
 
-receives : (c : Config) (net : Net) (es : List Answered) (w : World) (k : Stand c net es w) (n : ℕ) (d : Daemon) → net.daemons n ≡ Some d → (got : LinkCall) → MayCome IsSpelledSend net.wire got → Stand c (went_on n d (received got d) net) es w × IsKnownIf w (joined_by got d.joining).message
+receives : (c : Config) (net : Net) (es : List Answered) (w : World) (k : Stand c net es w) (n : ℕ) (d : Daemon) → net.daemons n ≡ Some d → (got : LinkCall) → MayCome (λ bytes. WasSent IsSpelledSend bytes net.wire) got → Stand c (went_on n d (received got d) net) es w × IsKnownIf w (joined_by got d.joining).message
 unfolding received
 receives c net es w k n d at got may =
     let r : Comes net w (joined_by got d.joining) = comes net w k.wires d.joining (own_up net w k.wires n d at).joined got may in
@@ -162,74 +151,35 @@ receives c net es w k n d at got may =
     quiet : (x : Exchange) → Among x (made_since d (received got d)) → IsNoSend x
     quiet x h = received_only net.wire got may x (subst (Among x) (made_is d (received got d) (plain (as_sent got) ∷ []) refl) h)
 
--- ---- the turn
+-- ---- what it brings
 
-pub open_more : (d : Daemon) (o : Opening) → More d (opened d o)
-unfolding opened
-open_more d o = step_more o.answers (Calls o.call) d
-
-heard_more : (got : LinkCall) (f : Answering) (d : Daemon) → More d (heard got f d)
-unfolding heard
-heard_more got f d =
-    more_on d (received got d) (heard got f d) (received_more got d) (given_on_more (network_of got) (joined_by got d.joining).message f (received got d))
-
-pub turn_more : (d : Daemon) (t : Turn) → More d (turned d t)
-unfolding turned
-turn_more d t =
-    let e : Daemon = ticked t.moment t.tick d in
-    more_on d e (heard t.got t.answers e) (tick_more (is_due d.last t.moment) t.moment t.tick d) (heard_more t.got t.answers e)
-
--- one that serves no clients on other machines does not begin to
-alone_after : (got : LinkCall) (d : Daemon) → IsAlone d → IsAlone (received got d)
-unfolding received
-alone_after got d alone = alone
-
-pub record TurnGoes (c : Config) (net : Net) (es : List Answered) (n : ℕ) (d : Daemon) (t : Turn) : Type 0 where
+pub record HearGoes (c : Config) (net : Net) (es : List Answered) (n : ℕ) (d : Daemon) (got : LinkCall) (f : Answering) : Type 0 where
   pub events : List Answered
-  pub are : TurnEvents n t events d
+  pub are : GivenEvents n (received got d) (joined_by got d.joining).message f events
   pub world : World
-  pub stand : Stand c (went_on n d (turned d t) net) (es ++ events) world
+  pub stand : Stand c (went_on n d (heard got f d) net) (es ++ events) world
 
-pub turn_goes : (c : Config) (net : Net) (es : List Answered) (w : World) → Stand c net es w → (n : ℕ) (d : Daemon) → net.daemons n ≡ Some d → (t : Turn) → MayTurn IsSpelledSend net t d → TurnGoes c net es n d t
-unfolding went_on turned heard
-turn_goes c net es w k n d at t may =
+pub hear_goes : (c : Config) (net : Net) (es : List Answered) (w : World) → Stand c net es w → (n : ℕ) (d : Daemon) → net.daemons n ≡ Some d → (got : LinkCall) (f : Answering) → MayCome (λ bytes. WasSent IsSpelledSend bytes net.wire) got → HearGoes c net es n d got f
+unfolding heard
+hear_goes c net es w k n d at got f may =
     record {
-      events = tick_events due n t.tick ++ g.events;
-      are = record { given = g.events; gives = g.are; are = refl };
+      events = g.events;
+      are = g.are;
       world = g.world;
-      stand = subst (λ zs. Stand c (went_on n d last net) zs g.world) (append_assoc es (tick_events due n t.tick) g.events) (subst (λ z. Stand c z ((es ++ tick_events due n t.tick) ++ g.events) g.world) whole g.stand);
+      stand = subst (λ z. Stand c z (es ++ g.events) g.world) (goes_twice n d e last net (received_more got d) (given_on_more (network_of got) message f e)) g.stand;
     }
   where
-    due : Bool
-    due = is_due d.last t.moment
-
     e : Daemon
-    e = ticked t.moment t.tick d
-
-    got : Daemon
-    got = received t.got e
+    e = received got d
 
     message : Option (List ℕ)
-    message = (joined_by t.got e.joining).message
+    message = (joined_by got d.joining).message
 
     last : Daemon
-    last = given_on (network_of t.got) message t.answers got
+    last = given_on (network_of got) message f e
 
-    first : Went c (went_on n d e net) (es ++ tick_events due n t.tick)
-    first =
-        tick_goes c net es w k n d at due t.moment t.tick
+    r : Stand c (went_on n d e net) es w × IsKnownIf w message
+    r = receives c net es w k n d at got may
 
-    r : Stand c (went_on n e got (went_on n d e net)) (es ++ tick_events due n t.tick) first.world × IsKnownIf first.world message
-    r = receives c (went_on n d e net) (es ++ tick_events due n t.tick) first.world first.stand n e (went_here n d e net) t.got may.comes
-
-    room : (got.sessions ≡ None) ⊎ (last.number ≤ 2 ^ 64)
-    room = elim may.numbers [ inl alone ↦ inl (alone_after t.got e (tick_alone due t.moment t.tick d alone)) | inr few ↦ inr few ]
-
-    g : Gives c (went_on n e got (went_on n d e net)) (es ++ tick_events due n t.tick) n got last (GivenEvents n got message t.answers)
-    g =
-        given_on_gives c (went_on n e got (went_on n d e net)) (es ++ tick_events due n t.tick) first.world r.0 n got (went_here n e got (went_on n d e net)) (network_of t.got) t.answers message r.1 room
-
-    whole : went_on n got last (went_on n e got (went_on n d e net)) ≡ went_on n d last net
-    whole =
-        let more : More got last = given_on_more (network_of t.got) message t.answers got in
-        goes_twice n e got last (went_on n d e net) (received_more t.got e) more ∙ goes_twice n d e last net (tick_more due t.moment t.tick d) (more_on e got last (received_more t.got e) more)
+    g : Gives c (went_on n d e net) es n e last (GivenEvents n e message f)
+    g = given_on_gives c (went_on n d e net) es w r.0 n e (went_here n d e net) (network_of got) f message r.1

@@ -1,5 +1,5 @@
 -- The events of a network's acts in a world, and that the run of every network is safe.
-use Rattle.std.specs.Prelude.{ℕ, zero, suc, ◌≡◌, Bool, true, false, List, [], ◌∷◌, ◌++◌, Option, Some, None}
+use Rattle.std.specs.Prelude.{ℕ, zero, suc, map, ◌≡◌, Bool, true, false, List, [], ◌∷◌, ◌++◌, Option, Some, None}
 use Rattle.node_state.specs.declared.call.CallLine.{CallLine}
 use Rattle.node_state.specs.declared.config.Config.{Config}
 use Rattle.node_state.specs.HandOn.{Answering}
@@ -9,9 +9,13 @@ use Rattle.world_laws.specs.world_answers.Answers.{Answered, events_in}
 use Rattle.remote_session.specs.Daemon.{SeenUp, NotUp, KeysFull, KnownKey, CallMade}
 use Rattle.world_safety.specs.Events.{AllMayHappen}
 use Rattle.world_safety.specs.Scripts.{IsSafe}
-use Rattle.daemon_model.specs.Daemon.{Daemon, Turn, is_due, ticked, joined_by, received, up_in, with_up, call_in}
-use Rattle.network_model.specs.Network.{Act, Begins, Opens, Turns, Ends, Net, no_net, skipped, acted, net_after}
+use Rattle.daemon_model.specs.Daemon.{Daemon, is_due, joined_by, received, up_in, with_up, call_in}
+use Rattle.daemon_model.specs.Actions.{Action, Opens, Ticks, Hears}
+use Rattle.network_model.specs.Network.{Act, Begins, Does, Ends, Net, no_net, skipped, acted, net_after}
 use Rattle.network_model.specs.Fits.{OfUp, IsSpelledSend, NetworkRun}
+use Rattle.network_model.specs.Executions.{IsLinear, what_of, TimedLife, untimed, Execution, Ordered}
+use Rattle.network_model.specs.Lives.{records_at, lives_records}
+use Rattle.daemon_model.specs.Sent.{Exchange}
 
 -- ---- the events of an act
 
@@ -58,15 +62,15 @@ abbrev pub GivenEvents : ℕ → Daemon → Option (List ℕ) → Answering → 
 GivenEvents n d None f es = es ≡ []
 GivenEvents n d (Some message) f es = BroughtEvents n d (up_in d.sessions message) message f es
 
-pub record TurnEvents (n : ℕ) (t : Turn) (es : List Answered) (d : Daemon) : Type 0 where
-  pub given : List Answered
-  pub gives : GivenEvents n (received t.got (ticked t.moment t.tick d)) (joined_by t.got (ticked t.moment t.tick d).joining).message t.answers given
-  pub are : es ≡ tick_events (is_due d.last t.moment) n t.tick ++ given
+-- an act of a daemon: a call; a tick, where one is due; or the message that is whole by what it receives
+abbrev pub ActionEvents : ℕ → Daemon → Action → List Answered → Type 0
+ActionEvents n d (Opens opening) es = es ≡ answered_by opening.answers (event.Call n opening.call) ∷ []
+ActionEvents n d (Ticks moment answers) es = es ≡ tick_events (is_due d.last moment) n answers
+ActionEvents n d (Hears got answers) es = GivenEvents n (received got d) (joined_by got d.joining).message answers es
 
 abbrev pub ActEvents : Net → Act → List Answered → Type 0
 ActEvents net (Begins n incarnation moment remote) es = es ≡ idle_events n (skipped net n incarnation) ++ silent (event.Start n) ∷ []
-ActEvents net (Opens n opening) es = es ≡ answered_by opening.answers (event.Call n opening.call) ∷ []
-ActEvents net (Turns n turn) es = OfUp (TurnEvents n turn es) (net.daemons n)
+ActEvents net (Does n action) es = OfUp (λ d. ActionEvents n d action es) (net.daemons n)
 ActEvents net (Ends n) es = es ≡ silent (event.Stop n) ∷ []
 
 -- the events of acts, in their order
@@ -87,3 +91,14 @@ pub record IsSafeNetwork (c : Config) (acts : List Act) : Type 0 where
 
 abbrev pub NetworksOfDaemonsAreSafe : Type 0
 NetworksOfDaemonsAreSafe = (c : Config) (acts : List Act) → NetworkRun IsSpelledSend c acts → IsSafeNetwork c acts
+
+-- Whatever daemons did up to now, each act at its time, of whatever linear order, where no datagram was received before it was
+-- sent: their acts have an order that is a network's run; in it their records are safe; and what each node recorded are the
+-- records of its daemons' lives.
+pub record IsSafeExecution (T : Type 0) (no_later : T → T → Bool) (P : Exchange → Type 0) (c : Config) (lives : ℕ → List (TimedLife T)) : Type 0 where
+  pub order : Ordered T no_later P c lives
+  pub safe : IsSafeNetwork c (map what_of order.acts)
+  pub records : (n : ℕ) → records_at c n no_net (map what_of order.acts) ≡ lives_records c n 0 (map untimed (lives n))
+
+abbrev pub ExecutionsAreSafe : Type 0 → Type 0
+ExecutionsAreSafe T = (no_later : T → T → Bool) → IsLinear T no_later → (c : Config) (lives : ℕ → List (TimedLife T)) → Execution T no_later IsSpelledSend c lives → IsSafeExecution T no_later IsSpelledSend c lives

@@ -1,4 +1,4 @@
--- A network of daemons that `serve` ran.
+-- Daemons that `serve` runs, up to now.
 use Rattle.std.specs.Prelude.{ℕ, ◌≡◌, Bool, List, Option, Some, map}
 use Rattle.hags_io.specs.declared.link.LinkCall.{LinkCall}
 use Rattle.node_state.specs.declared.config.Config.{Config}
@@ -8,10 +8,9 @@ use Rattle.daemon_model.specs.Daemon.{Life}
 use Rattle.piece_link.specs.Answers.{Among}
 use Rattle.daemon_model.specs.Sent.{Exchange}
 use Rattle.daemon_model.specs.Lives.{last_of, ServesAs, ServesTo, ServesFront}
-use Rattle.network_model.specs.Network.{Act, no_net}
-use Rattle.network_model.specs.Lives.{LifeIn, AreLives, records_at, lives_records}
-use Rattle.network_model.specs.Fits.{NetworkRun}
-use Rattle.network_safety.specs.Safe.{IsSafeNetwork}
+use Rattle.network_model.specs.Lives.{LifeIn, life_in}
+use Rattle.network_model.specs.Executions.{IsLinear, TimedLife, untimed, Execution}
+use Rattle.network_safety.specs.Safe.{IsSafeExecution}
 
 -- what the clauses of `serve` say of a daemon that it ran, for clients on other machines or not: its status was 0, or 6 after the link was open, or 3 or 5
 pub data IsServed (script : Script) (me incarnation : ℕ) (remote : Bool) (turns : ℕ) (a b : Option (List LinkCall)) (x y : Option (List ℕ)) (u v : Option (List ℕ)) : Type 0 where
@@ -19,7 +18,8 @@ pub data IsServed (script : Script) (me incarnation : ℕ) (remote : Bool) (turn
   Ended : ServesTo script me incarnation remote turns a b x y u v → IsServed script me incarnation remote turns a b x y u v
   Broken : ServesFront script me incarnation remote turns a b x y u v → IsServed script me incarnation remote turns a b x y u v
 
--- a daemon of a node, in the domain of these settings, over a link that tells: what link, sink and clock told before and after
+-- a daemon of a node, in the domain of these settings, over a link that tells: what link, sink and clock told before and after;
+-- and whether it has ended
 pub record Served (c : Config) (n : ℕ) : Type 0 where
   pub script : Script
   pub settings : script.config ≡ c
@@ -32,6 +32,7 @@ pub record Served (c : Config) (n : ℕ) : Type 0 where
   pub held_after : Option (List ℕ)
   pub moments : Option (List ℕ)
   pub moments_after : Option (List ℕ)
+  pub ended : Bool
   pub is : IsServed script n incarnation remote turns (Some calls) (Some calls_after) held held_after moments moments_after
 
 abbrev pub life_served : (script : Script) (me incarnation : ℕ) (remote : Bool) (turns : ℕ) (a b : Option (List LinkCall)) (x y : Option (List ℕ)) (u v : Option (List ℕ)) → IsServed script me incarnation remote turns a b x y u v → Life
@@ -48,10 +49,7 @@ served_calls script me incarnation remote turns a b x y u v (Broken s) = s.lived
 -- the life that the clauses give
 abbrev pub life_of : (c : Config) (n : ℕ) → Served c n → LifeIn
 life_of c n r =
-    record {
-      incarnation = r.incarnation;
-      life = life_served r.script n r.incarnation r.remote r.turns (Some r.calls) (Some r.calls_after) r.held r.held_after r.moments r.moments_after r.is;
-    }
+    life_in r.incarnation (life_served r.script n r.incarnation r.remote r.turns (Some r.calls) (Some r.calls_after) r.held r.held_after r.moments r.moments_after r.is) r.ended
 
 abbrev pub calls_of : (c : Config) (n : ℕ) → Served c n → List Exchange
 calls_of c n r = served_calls r.script n r.incarnation r.remote r.turns (Some r.calls) (Some r.calls_after) r.held r.held_after r.moments r.moments_after r.is
@@ -63,10 +61,10 @@ pub record WasTold (c : Config) (served : (n : ℕ) → List (Served c n)) (x : 
   pub is : Among by (served node)
   pub told : Among x (calls_of c node by)
 
--- Let `serve` have run daemons over links that tell, for each node one after another, and let what they were given fit
--- together: each datagram that was sent is one of which a link told so. Then they are a safe network, whose records at each
--- node are those of these daemons.
-abbrev pub ServedDaemonsAreSafe : Type 0
-ServedDaemonsAreSafe =
-    (c : Config) (served : (n : ℕ) → List (Served c n)) (acts : List Act) → AreLives acts (λ n. map (life_of c n) (served n)) → NetworkRun (WasTold c served) c acts
-    → IsSafeNetwork c acts × ((n : ℕ) → records_at c n no_net acts ≡ lives_records c n 0 (map (life_of c n) (served n)))
+-- Let `serve` run daemons over links that tell, for each node one after another, each act at its time; and let each datagram
+-- that one of them received be sent by an act that began earlier, as the link of its sender told. Then their acts have an order
+-- in which they are a safe network, whose records at each node are those of these daemons.
+abbrev pub ServedDaemonsAreSafe : Type 0 → Type 0
+ServedDaemonsAreSafe T =
+    (no_later : T → T → Bool) → IsLinear T no_later → (c : Config) (served : (n : ℕ) → List (Served c n)) (lives : ℕ → List (TimedLife T)) → ((n : ℕ) → map untimed (lives n) ≡ map (life_of c n) (served n))
+    → Execution T no_later (WasTold c served) c lives → IsSafeExecution T no_later (WasTold c served) c lives
