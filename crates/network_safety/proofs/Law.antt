@@ -43,7 +43,7 @@ not_fixed Fixed free c = absurd (cc)
 not_fixed Asked free c = refl
 not_fixed Rings free c = refl
 
-nothing_stands : (c : Config) → is_fixed c.mode ≡ false → Stand c no_net [] (empty_world c)
+pub nothing_stands : (c : Config) → is_fixed c.mode ≡ false → Stand c no_net [] (empty_world c)
 unfolding answered_after world_new
 nothing_stands c free =
     record {
@@ -144,13 +144,13 @@ module _ (c : Config) (free : is_fixed c.mode ≡ false) (net : Net) (es : List 
 
 -- ---- all acts
 
-record AllGo (c : Config) (net : Net) (es : List Answered) (acts : List Act) : Type 0 where
-  events : List Answered
-  are : AreEventsOf c net acts events
-  world : World
-  stand : Stand c (fold (acted c) net acts) (es ++ events) world
+pub record AllGo (c : Config) (net : Net) (es : List Answered) (acts : List Act) : Type 0 where
+  pub events : List Answered
+  pub are : AreEventsOf c net acts events
+  pub world : World
+  pub stand : Stand c (fold (acted c) net acts) (es ++ events) world
 
-all_go : (c : Config) → is_fixed c.mode ≡ false → (acts : List Act) (net : Net) (es : List Answered) (w : World) → Stand c net es w → AllMayAct IsSpelledSend c net acts → AllGo c net es acts
+pub all_go : (c : Config) → is_fixed c.mode ≡ false → (acts : List Act) (net : Net) (es : List Answered) (w : World) → Stand c net es w → AllMayAct IsSpelledSend c net acts → AllGo c net es acts
 all_go c free [] net es w k may =
     record { events = []; are = refl; world = w; stand = subst (λ zs. Stand c net zs w) (sym (append-nil es)) k }
 all_go c free (a ∷ acts) net es w k may =

@@ -10,3 +10,5 @@ pub mod Bringing
 pub mod Turning
 pub mod Lives
 pub mod Law
+pub mod Strangers
+pub mod Rings

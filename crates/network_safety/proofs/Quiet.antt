@@ -42,10 +42,10 @@ pub record IsQuiet (s t : Core) : Type 0 where
   pub answers : (p : Packet) → Has p sends → IsTalk p.body
   pub is : t ≡ record s { sends = sends; records = [] }
 
-rests_quiet : (f : Answering) (s u : Core) → Resting s → IsQuiet s u → end_step f u ≡ u
+pub rests_quiet : (f : Answering) (s u : Core) → Resting s → IsQuiet s u → end_step f u ≡ u
 rests_quiet f s u k q = ended_same f u (resting_same s u (ap (λ (z : Core). z.groups) q.is) (ap (λ (z : Core). z.views) q.is) (ap (λ (z : Core). z.config) q.is) k).rests
 
-nothing : (s : Core) → IsQuiet s (at_work s)
+pub nothing : (s : Core) → IsQuiet s (at_work s)
 nothing s = record { sends = []; answers = λ p h. absurd h; is = refl }
 
 pub garbage_quiet : (f : Answering) (s : Core) → Resting s → stepped f s Garbage ≡ at_work s

@@ -1,2 +1,4 @@
 pub mod Safe
 pub mod Served
+pub mod Strangers
+pub mod Rings

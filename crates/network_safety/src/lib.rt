@@ -2,7 +2,9 @@
 #![tactic(auto)]
 
 ghost use Rattle.network_safety.specs.Safe.{NetworksOfDaemonsAreSafe, ExecutionsAreSafe};
+ghost use Rattle.network_safety.specs.Rings.{SettingsFit, RingsOfDaemonsAgree};
 ghost use Rattle.network_safety.specs.Served.{ServedDaemonsAreSafe};
+ghost use Rattle.network_safety.specs.Strangers.{StrangersChangeNothing, OtherDomainsAreUnused};
 
 /// Let daemons start, each of its node in a greater incarnation than those before and where no other of it is up; let each
 /// receive bring what was sent before it, or what is no piece, or what a client asks; and let all have the same settings.
@@ -24,4 +26,19 @@ pub fn executions_are_safe<T>()
 #[tactic(auto, using(crate::proofs::Law::served_daemons_are_safe))]
 pub fn served_daemons_are_safe<T>()
     ensures { ServedDaemonsAreSafe T }
+{}
+
+/// The addresses of settings that a daemon reads differ, on each network: so the rings of each network agree.
+#[tactic(auto, using(crate::proofs::Rings::settings_fit, crate::proofs::Rings::rings_of_daemons_agree))]
+pub fn rings_of_daemons_agree()
+    ensures fit { SettingsFit }
+    ensures agree { RingsOfDaemonsAgree }
+{}
+
+/// Bytes that are no packet, a packet to another node, and a group's packet that is not used, as one of another domain, change
+/// nothing at the node of a daemon, which sends and records nothing for them.
+#[tactic(auto, using(crate::proofs::Strangers::strangers_change_nothing, crate::proofs::Strangers::other_domains_are_unused))]
+pub fn strangers_change_nothing()
+    ensures nothing { StrangersChangeNothing }
+    ensures domain { OtherDomainsAreUnused }
 {}
