@@ -6,7 +6,7 @@ use Rattle.hags_io.specs.declared.link.LinkCall.{LinkCall}
 use Rattle.hags_io.specs.Links.{Same}
 use Rattle.node_state.specs.declared.packet.Packet.{Packet}
 use Rattle.node_state.specs.Bytes.{packet_of, bytes_of}
-use Rattle.daemon_model.specs.Sent.{as_sent, packet_calls, carried_calls, number_over, Numbered, Exchange, plain, piece_of, call_of, numbered, carried, sent_calls, number_after, Went, WentFront, IsSpelled, IsSpelledIf, AllSpelled, Made, MadeFront}
+use Rattle.daemon_model.specs.Sent.{as_sent, packet_calls, carried_calls, number_over, Numbered, Exchange, plain, said, piece_of, call_of, numbered, carried, sent_calls, number_after, Went, WentFront, IsSpelled, IsSpelledIf, AllSpelled, Made, MadeFront}
 use Rattle.daemon_run.proofs.WentLaws.{went_same, went_nothing, went_on, next_item, no_item, nowhere_sent, carried_sent, carried_front}
 
 spelled_both : (xs ys : List Exchange) → AllSpelled xs → AllSpelled ys → AllSpelled (xs ++ ys)
@@ -68,8 +68,12 @@ module _ (make : LinkCall → Exchange) (back : (c : LinkCall) → call_of (make
 pub plain_made : (a b : Option (List LinkCall)) (cs : List LinkCall) → Went a b cs → Made a b (map plain cs)
 plain_made = each_made plain (λ c. refl) (λ c. tt)
 
-pub plain_front : (a b : Option (List LinkCall)) (cs : List LinkCall) → WentFront a b cs → MadeFront a b (map plain cs)
-plain_front = each_front plain (λ c. refl) (λ c. tt)
+-- of a message of this number that is no packet
+pub said_made : (number : ℕ) → number < 2 ^ 64 → (a b : Option (List LinkCall)) (cs : List LinkCall) → Went a b cs → Made a b (map (said number) cs)
+said_made number fits = each_made (said number) (λ c. refl) (λ c. fits)
+
+pub said_front : (number : ℕ) → number < 2 ^ 64 → (a b : Option (List LinkCall)) (cs : List LinkCall) → WentFront a b cs → MadeFront a b (map (said number) cs)
+said_front number fits = each_front (said number) (λ c. refl) (λ c. fits)
 
 -- ---- a packet
 

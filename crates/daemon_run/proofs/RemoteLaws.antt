@@ -11,14 +11,14 @@ use Rattle.remote_session.specs.Messages.{UpIn, up_of}
 use Rattle.remote_session.specs.Daemon.{RemoteState, SeenUp, NotUp, KeysFull, KnownKey, CallMade, max_keys, is_full_for, call_made, kept, up_seen_as, up_seen, up_taken_as, up_taken}
 use Rattle.remote_clients.specs.declared.sessions.Sessions.{Sessions}
 use Rattle.remote_clients.specs.Sessions.{is_refused, finished, turned_down}
-use Rattle.daemon_model.specs.Sent.{Exchange, plain, message_calls}
+use Rattle.daemon_model.specs.Sent.{Exchange, said, message_calls}
 use Rattle.daemon_model.specs.Daemon.{Daemon, left_for, stepped_for, stepped_by, given, up_in, with_up, call_in, key_called, line_carried, called_by, down_in, down_sent, brought, given_on}
 use Rattle.daemon_run.specs.Hosting.{Known}
 use Rattle.daemon_run.specs.declared.hosted.Hosted.{Hosted}
 use Rattle.daemon_run.specs.declared.running.Running.{Running}
 use Rattle.daemon_run.specs.Audience.{Audience, StepHands, LineHands, BroughtHands, GivenHands}
 use Rattle.daemon_run.specs.Doing.{daemon_of, Goes, Breaks, Passes, Attends, StepsAs, StepBreaks, is_up_taken, CallsKey, CallKeyBreaks, GivesAs, GiveBreaks, KeySteps, Sends, SendsFront}
-use Rattle.daemon_run.proofs.MadeLaws.{none_made, plain_made, plain_front}
+use Rattle.daemon_run.proofs.MadeLaws.{none_made, said_made, said_front}
 use Rattle.daemon_run.proofs.GoesLaws.{Adds, attends_on, adds_none, adds_on, goes_none, goes_on, goes_as, breaks_as, breaks_on, breaks_more, breaks_none, nothing_written, none_front}
 use Rattle.daemon_run.proofs.StepLaws.{silent, adds_left, adds_step}
 
@@ -38,7 +38,7 @@ adds_called key line f d = adds_line key (call_in d.sessions d.me key line) f d
 
 pub adds_down : (key network : ℕ) (d : Daemon) → Adds d (down_sent key network d)
 unfolding down_sent
-adds_down key network d = record { calls = map plain (message_calls d.me d.incarnation d.number 0 network (down_in d.sessions key)); called = refl; records = []; recorded = sym (append-nil d.records) }
+adds_down key network d = record { calls = map (said d.number) (message_calls d.me d.incarnation d.number 0 network (down_in d.sessions key)); called = refl; records = []; recorded = sym (append-nil d.records) }
 
 adds_brought : (u : SeenUp) (network : ℕ) (message : List ℕ) (f : Answering) (d : Daemon) → Adds d (brought u network message f d)
 unfolding brought given
@@ -162,20 +162,20 @@ module _ {C : Type 0} where
   down_goes : (r s : Running C) (key network : ℕ) (a b : Option (List LinkCall)) (x : Option (List ℕ)) → Sends r s a b network (down_in r.sessions key) → Goes r s a b x x (down_sent key network)
   unfolding down_sent
   down_goes r s key network a b x h = record {
-    calls = map plain (message_calls r.me r.incarnation r.number 0 network (down_in r.sessions key));
+    calls = map (said r.number) (message_calls r.me r.incarnation r.number 0 network (down_in r.sessions key));
     records = [];
     is = λ before noted.
-        ap₂ (λ (t : Running C) (q : List Happened). daemon_of t (before ++ map plain (message_calls r.me r.incarnation r.number 0 network (down_in r.sessions key))) q) (sym h.is) (sym (append-nil noted));
-    made = plain_made a b (message_calls r.me r.incarnation r.number 0 network (down_in r.sessions key)) h.went;
+        ap₂ (λ (t : Running C) (q : List Happened). daemon_of t (before ++ map (said r.number) (message_calls r.me r.incarnation r.number 0 network (down_in r.sessions key))) q) (sym h.is) (sym (append-nil noted));
+    made = said_made r.number h.fits a b (message_calls r.me r.incarnation r.number 0 network (down_in r.sessions key)) h.went;
     written = nothing_written x;
   }
 
   down_breaks : (r : Running C) (key network : ℕ) (a b : Option (List LinkCall)) (x : Option (List ℕ)) → SendsFront r a b network (down_in r.sessions key) → Breaks r a b x x (down_sent key network)
   unfolding down_sent
   down_breaks r key network a b x h = λ before noted. record {
-    calls = map plain (message_calls r.me r.incarnation r.number 0 network (down_in r.sessions key));
+    calls = map (said r.number) (message_calls r.me r.incarnation r.number 0 network (down_in r.sessions key));
     called = refl;
-    made = plain_front a b (message_calls r.me r.incarnation r.number 0 network (down_in r.sessions key)) h.went;
+    made = said_front r.number h.fits a b (message_calls r.me r.incarnation r.number 0 network (down_in r.sessions key)) h.went;
     records = [];
     recorded = sym (append-nil noted);
     front = none_front x _;

@@ -1,5 +1,5 @@
 -- How a daemon that runs follows the one of the definitions.
-use Rattle.std.specs.Prelude.{◌≡◌, ℕ, Bool, List, [], ◌∷◌, ◌++◌, Option, Some, option_map}
+use Rattle.std.specs.Prelude.{◌≡◌, ◌<◌, ◌^◌, ℕ, Bool, List, [], ◌∷◌, ◌++◌, Option, Some, option_map}
 use Rattle.std.specs.Io.KnownBytes.{Appends}
 use Rattle.hags_io.specs.Edges.{GrowsByFront}
 use Rattle.hags_io.specs.Links.{Counts}
@@ -125,9 +125,11 @@ pub record KeySteps {C : Type 0} (A : Known → List (Hosted C) → Audience →
 -- a message went to the sender of the datagram that came last, or a front of it did
 pub record Sends {C : Type 0} (r s : Running C) (a b : Option (List LinkCall)) (network : ℕ) (message : List ℕ) : Type 0 where
   pub is : s ≡ record r { number = number_if (can_cut message) r.number }
+  pub fits : r.number < 2 ^ 64
   pub went : Went a b (message_calls r.me r.incarnation r.number 0 network message)
 
 pub record SendsFront {C : Type 0} (r : Running C) (a b : Option (List LinkCall)) (network : ℕ) (message : List ℕ) : Type 0 where
+  pub fits : r.number < 2 ^ 64
   pub went : WentFront a b (message_calls r.me r.incarnation r.number 0 network message)
 
 -- the line of a key
