@@ -207,11 +207,10 @@ module _ {T : Type 0} (c : Config) where
   unfolding AllMayBe MayBeAt IsUpAt acted_at
   lives_may n [] last nodes one = tt
   lives_may n (l ∷ ls) last nodes one =
-      let node = nodes l (inl refl) in
-      (
+      let node = nodes l (inl refl) in (
         (node.0, node.1, refl, one.0, one.1),
         subst (AllMayBe n (record { daemon = Some (begun_for l.remote c n l.incarnation l.start); last = l.incarnation })) (sym (append_assoc (map (done_at n) l.actions) (ended_at n l.ended) (flat_map (timed_acts n) ls)))
-        (done_may n l.incarnation (ended_at n l.ended ++ flat_map (timed_acts n) ls) (λ d. ends l.ended ls one.2 d (λ m. lives_may n ls l.incarnation (λ k i. nodes k (inr i)) one.3)) l.actions (begun_for l.remote c n l.incarnation l.start)),
+            (done_may n l.incarnation (ended_at n l.ended ++ flat_map (timed_acts n) ls) (λ d. ends l.ended ls one.2 d (λ m. lives_may n ls l.incarnation (λ k i. nodes k (inr i)) one.3)) l.actions (begun_for l.remote c n l.incarnation l.start)),
       )
     where
       ends : (o : Option T) (later : List (TimedLife T)) → EndsBefore o later → (d : Daemon) → (ℕ → AllMayBe n (record { daemon = None; last = l.incarnation }) (flat_map (timed_acts n) later)) → AllMayBe n (record { daemon = Some d; last = l.incarnation }) (ended_at n o ++ flat_map (timed_acts n) later)
