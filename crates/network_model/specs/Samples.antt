@@ -1,5 +1,5 @@
 -- Small runs of networks, for worked examples: nodes 1 and 2.
-use Rattle.std.specs.Prelude.{ℕ, Bool, true, false, List, [], ◌∷◌, ◌++◌, codes, filter, flat_map, map, slice_index_or, Some, None}
+use Rattle.std.specs.Prelude.{ℕ, ◌+◌, ◌==◌, true, false, List, [], ◌∷◌, codes, flat_map, slice_index_or, None, if◌then◌else◌}
 use Rattle.hags_io.specs.declared.link.LinkCall.{LinkCall}
 use Rattle.hags_io.specs.declared.link.LinkCall.TheVariants as call
 use Rattle.node_state.specs.declared.config.Config.{Config}
@@ -8,8 +8,7 @@ use Rattle.daemon_model.specs.Daemon.{records_text}
 use Rattle.daemon_model.specs.Actions.{Ticks, Hears}
 use Rattle.daemon_model.specs.Samples.{settings_for, silent, up_piece}
 use Rattle.network_model.specs.Network.{Act, Begins, Does, Ends, net_after}
-use Rattle.network_model.specs.Lives.{is_at}
-use Rattle.network_model.specs.Executions.{Timed, TimedLife}
+use Rattle.network_model.specs.Executions.{TimedLife}
 
 unfoldable pub pair : Config
 pair = settings_for (1 ∷ 2 ∷ [])
@@ -70,6 +69,21 @@ second_piece = slice_index_or (wire_after both_tick) 1 []
 
 unfoldable pub ticks_cross : List Act
 ticks_cross = Begins 1 1 0 false ∷ Begins 2 1 0 false ∷ ticks 1 100 ∷ ticks 2 100 ∷ hears 1 second_piece ∷ hears 2 first_piece ∷ []
+
+-- the same with times: node 1 begins at 0 and node 2 at 1, each ticks two later and receives two after that, and goes on
+abbrev pub ticks_and_hears : ℕ → List ℕ → TimedLife ℕ
+ticks_and_hears began bytes =
+    record {
+      incarnation = 1;
+      remote = false;
+      start = 0;
+      began = began;
+      actions = record { time = began + 2; what = Ticks 100 silent } ∷ record { time = began + 4; what = Hears (call.Received 1 bytes) silent } ∷ [];
+      ended = None;
+    }
+
+unfoldable pub crossing : ℕ → List (TimedLife ℕ)
+crossing n = if n == 1 then ticks_and_hears 0 second_piece ∷ [] else if n == 2 then ticks_and_hears 1 first_piece ∷ [] else []
 
 -- what node 2 sends in its tick, where node 1 has not ticked, and what node 1 answers
 unfoldable pub second_alone : List ℕ
@@ -133,5 +147,5 @@ both_up_lines = codes "up 1 1\nring 1 1 1.1.1 1 1\nin 1 1.1.1 1.1\nup 2 1\nring 
 
 -- opens each word of this file, for a computation
 unfoldable pub samples_opens : Unit {0}
-unfolding pair one_ticks wire_after first_piece two_speak both_tick second_piece ticks_cross second_alone one_answers answer_piece answered_at_once heard_before own_before starts_again one_serves first_down client_served never_sent old_incarnation two_at_once lines_after
+unfolding pair one_ticks wire_after first_piece two_speak both_tick second_piece ticks_cross crossing second_alone one_answers answer_piece answered_at_once heard_before own_before starts_again one_serves first_down client_served never_sent old_incarnation two_at_once lines_after
 samples_opens = tt

@@ -1,9 +1,10 @@
 //! Worked examples of networks. Each function is a law: what the definitions compute, and which runs they let be.
-ghost use Rattle.std.specs.Prelude.{◌≡◌, ℕ, List, None, length};
+ghost use Rattle.std.specs.Prelude.{◌≡◌, ℕ, List, None, length, nat_le};
 ghost use Rattle.node_state.specs.Bytes.{packet_of};
 ghost use Rattle.remote_session.specs.Messages.{UpIn, up_text, DownIn, down_text};
+ghost use Rattle.network_model.specs.Executions.{Execution};
 ghost use Rattle.network_model.specs.Fits.{IsSpelledSend, NetworkRun};
-ghost use Rattle.network_model.specs.Samples.{pair, wire_after, lines_after, one_ticks, two_speak, two_speak_lines, both_tick, ticks_cross, one_answers, answered_at_once, both_up_lines, heard_before, own_before, starts_again, starts_again_lines, client_served, client_served_lines, never_sent, old_incarnation, old_incarnation_lines, two_at_once};
+ghost use Rattle.network_model.specs.Samples.{pair, wire_after, lines_after, one_ticks, two_speak, two_speak_lines, both_tick, ticks_cross, crossing, one_answers, answered_at_once, both_up_lines, heard_before, own_before, starts_again, starts_again_lines, client_served, client_served_lines, never_sent, old_incarnation, old_incarnation_lines, two_at_once};
 
 /// A node that skips an incarnation has a life in it in which it does nothing.
 #[tactic(auto, unfolding(crate::specs::Opens::net_opens))]
@@ -20,14 +21,16 @@ pub fn speaks()
 {}
 
 /// Two daemons tick at once, and each is given what the other's tick sent, in the turn of its own: though no order of whole
-/// turns has that, it is a network's run. So is a tick that is answered before its turn is over.
-#[tactic(auto, unfolding(crate::specs::Opens::net_opens), using(crate::proofs::Runs::ticks_cross_run, crate::proofs::Runs::answered_at_once_run))]
+/// turns has that, it is a network's run; and with times it is an execution. So is a tick that is answered before its turn
+/// is over a run.
+#[tactic(auto, unfolding(crate::specs::Opens::net_opens), using(crate::proofs::Runs::ticks_cross_run, crate::proofs::Runs::answered_at_once_run, crate::proofs::Runs::crossing_execution))]
 pub fn turns_cross()
     ensures wire { length (wire_after both_tick) ≡ 2 }
     ensures lines { lines_after ticks_cross ≡ both_up_lines }
     ensures run { NetworkRun IsSpelledSend pair ticks_cross }
     ensures answer { length (wire_after one_answers) ≡ 2 }
     ensures at_once { NetworkRun IsSpelledSend pair answered_at_once }
+    ensures execution { Execution ℕ nat_le IsSpelledSend pair crossing }
 {}
 
 /// What a client on another machine says is no packet, whatever it is, and nor is what is said to it: so both may come.
