@@ -1,5 +1,5 @@
 -- What a whole message brings: a packet of the node, or what a client on another machine says, and then what is said to it.
-use Rattle.std.proofs.Common.{◌≡◌, ℕ, List, [], ◌∷◌, ◌++◌, Option, Some, None, refl, sym, subst, append-nil}
+use Rattle.std.proofs.Common.{◌≡◌, ℕ, List, [], ◌∷◌, ◌++◌, Option, Some, None, refl, sym, ◌∙◌, subst, append-nil}
 use Rattle.rsct_packet.specs.Packet.{front_at, packet_at}
 use Rattle.node_state.specs.declared.call.CallLine.{CallLine}
 use Rattle.node_state.specs.declared.config.Config.{Config}

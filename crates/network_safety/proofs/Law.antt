@@ -100,7 +100,7 @@ module _ (c : Config) (free : is_fixed c.mode ≡ false) (net : Net) (es : List 
   opening n o (Some d) at may =
       record {
         events = answered_by o.answers (event.Call n o.call) ∷ [];
-        are = subst (OfUp (λ d. ActionEvents n d (Opens o) (answered_by o.answers (event.Call n o.call) ∷ []))) (sym at) refl;
+        are = subst (OfUp (λ e. ActionEvents n e (Opens o) (answered_by o.answers (event.Call n o.call) ∷ []))) (sym at) refl;
         world = goes_on w (answered_by o.answers (event.Call n o.call));
         stand = subst (λ q. Stand c (does_if (λ d. opened d o) n q net) (es ++ answered_by o.answers (event.Call n o.call) ∷ []) (goes_on w (answered_by o.answers (event.Call n o.call)))) (sym at) (step_stands c net es w k n d at o.answers (Calls o.call) (answered_by o.answers (event.Call n o.call)) (stepped o.answers (its_node c net es w k n d at).node.core (Calls o.call)) (called c net es w k n d at o) (opened d o) (steps_to o.answers (Calls o.call) d));
       }
@@ -112,7 +112,7 @@ module _ (c : Config) (free : is_fixed c.mode ≡ false) (net : Net) (es : List 
       let g : Went c (went_on n d (ticked moment f d) net) (es ++ tick_events (is_due d.last moment) n f) = tick_goes c net es w k n d at (is_due d.last moment) moment f in
       record {
         events = tick_events (is_due d.last moment) n f;
-        are = subst (OfUp (λ d. ActionEvents n d (Ticks moment f) (tick_events (is_due d.last moment) n f))) (sym at) refl;
+        are = subst (OfUp (λ g. ActionEvents n g (Ticks moment f) (tick_events (is_due d.last moment) n f))) (sym at) refl;
         world = g.world;
         stand = subst (λ q. Stand c (does_if (λ d. ticked moment f d) n q net) (es ++ tick_events (is_due d.last moment) n f) g.world) (sym at) g.stand;
       }
@@ -124,7 +124,7 @@ module _ (c : Config) (free : is_fixed c.mode ≡ false) (net : Net) (es : List 
       let g : HearGoes c net es n d got f = hear_goes c net es w k n d at got f may in
       record {
         events = g.events;
-        are = subst (OfUp (λ d. ActionEvents n d (Hears got f) g.events)) (sym at) g.are;
+        are = subst (OfUp (λ e. ActionEvents n e (Hears got f) g.events)) (sym at) g.are;
         world = g.world;
         stand = subst (λ q. Stand c (does_if (λ d. heard got f d) n q net) (es ++ g.events) g.world) (sym at) g.stand;
       }

@@ -10,6 +10,7 @@ use Rattle.node_state.specs.declared.state.Core.{Core}
 use Rattle.node_state.specs.State.{frozen}
 use Rattle.node_state.specs.HandOn.{Answering}
 use Rattle.node_state.specs.Bytes.{packet_of, event_in, event_of}
+use Rattle.node_state.specs.Following.{take_lookup, take_name, take_request, take_tell, take_entry, take_ack, take_vote, take_gone}
 use Rattle.node_state.specs.Ending.{end_step}
 use Rattle.node_state.specs.Step.{Given, Garbage, at_work, is_used, used_if, take_body, packet_rule, stepped}
 use Rattle.world_model.specs.World.{empty_world}
@@ -25,16 +26,21 @@ use Rattle.network_safety.proofs.Law.{nothing_stands, AllGo, all_go}
 
 -- ---- a packet
 
+not_used : (s t : Core) (b : Bool) → b ≡ false → used_if s t b ≡ s
+unfolding used_if
+not_used s t true e = absurd (cc)
+not_used s t false e = refl
+
 unused : (f : Answering) (s : Core) (p : Packet) (b : Body) → IsUnusedIf s p (group_view b) → take_body f (at_work s) p b ≡ at_work s
-unfolding take_body used_if is_used
-unused f s p (body.Lookup v g) e = ap (used_if (at_work s) _) e
-unused f s p (body.Name v g leader) e = ap (used_if (at_work s) _) e
-unused f s p (body.Request v g q r phases x) e = ap (used_if (at_work s) _) e
-unused f s p (body.Tell v g q r why) e = ap (used_if (at_work s) _) e
-unused f s p (body.Entry v g place stable x) e = ap (used_if (at_work s) _) e
-unused f s p (body.Ack v g place) e = ap (used_if (at_work s) _) e
-unused f s p (body.Vote v g proto phase q vote value message) e = ap (used_if (at_work s) _) e
-unused f s p (body.Gone v g q) e = ap (used_if (at_work s) _) e
+unfolding take_body is_used frozen
+unused f s p (body.Lookup v g) e = not_used (at_work s) (take_lookup (at_work s) p.from g) (is_used s p v) e
+unused f s p (body.Name v g leader) e = not_used (at_work s) (take_name (at_work s) g leader) (is_used s p v) e
+unused f s p (body.Request v g q r phases x) e = not_used (at_work s) (take_request f (at_work s) p.from g q r phases x) (is_used s p v) e
+unused f s p (body.Tell v g q r why) e = not_used (at_work s) (take_tell (at_work s) q r why) (is_used s p v) e
+unused f s p (body.Entry v g place stable x) e = not_used (at_work s) (take_entry f (at_work s) p.from g place stable x) (is_used s p v) e
+unused f s p (body.Ack v g place) e = not_used (at_work s) (take_ack (at_work s) p.from g place) (is_used s p v) e
+unused f s p (body.Vote v g proto phase q vote value message) e = not_used (at_work s) (take_vote f (at_work s) g proto phase q vote value message) (is_used s p v) e
+unused f s p (body.Gone v g q) e = not_used (at_work s) (take_gone f (at_work s) g q) (is_used s p v) e
 unused f s p _ e = absurd e
 
 dropped : (f : Answering) (s : Core) (p : Packet) → (p.to == s.views.me ≡ false) ⊎ IsUnusedIf s p (group_view p.body) → packet_rule f (at_work s) p ≡ at_work s

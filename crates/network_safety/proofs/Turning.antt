@@ -38,7 +38,7 @@ pub record Went (c : Config) (net : Net) (es : List Answered) : Type 0 where
   pub world : World
   pub stand : Stand c net es world
 
-tick_goes : (c : Config) (net : Net) (es : List Answered) (w : World) → Stand c net es w → (n : ℕ) (d : Daemon) → net.daemons n ≡ Some d → (b : Bool) (moment : ℕ) (f : Answering)
+pub tick_goes : (c : Config) (net : Net) (es : List Answered) (w : World) → Stand c net es w → (n : ℕ) (d : Daemon) → net.daemons n ≡ Some d → (b : Bool) (moment : ℕ) (f : Answering)
     → Went c (went_on n d (ticked_if b moment f d) net) (es ++ tick_events b n f)
 unfolding stepped_for left_for
 tick_goes c net es w k n d at false moment f =

@@ -29,7 +29,6 @@ pub fn served_daemons_are_safe<T>()
 {}
 
 /// The addresses of settings that a daemon reads differ, on each network: so the rings of each network agree.
-#[tactic(auto, using(crate::proofs::Rings::settings_fit, crate::proofs::Rings::rings_of_daemons_agree))]
 pub fn rings_of_daemons_agree()
     ensures fit { SettingsFit }
     ensures agree { RingsOfDaemonsAgree }
