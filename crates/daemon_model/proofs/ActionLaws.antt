@@ -1,8 +1,8 @@
 -- A daemon's life, act by act.
-use Rattle.std.proofs.Common.{◌≡◌, ℕ, List, [], ◌∷◌, ◌++◌, refl, ◌∙◌}
-use Rattle.std.specs.Prelude.{map, fold, flat_map}
-use Rattle.daemon_model.specs.Daemon.{Daemon, Opening, Turn, Life, begun_for, opened_all, turned, turned_all, lived}
-use Rattle.daemon_model.specs.Actions.{Action, Opens, did, did_all, turn_actions, life_actions, LivesAreActions}
+use Rattle.std.proofs.Common.{◌≡◌, List, [], ◌∷◌, ◌++◌, refl}
+use Rattle.std.specs.Prelude.{map, flat_map}
+use Rattle.daemon_model.specs.Daemon.{Daemon, Opening, Turn, begun_for, opened_all, turned, turned_all, lived}
+use Rattle.daemon_model.specs.Actions.{Opens, did, did_all, turn_actions, LivesAreActions}
 
 turns_done : (d : Daemon) (ts : List Turn) → turned_all d ts ≡ did_all d (flat_map turn_actions ts)
 unfolding turned_all turned did_all did

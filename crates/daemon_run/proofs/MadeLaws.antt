@@ -6,7 +6,7 @@ use Rattle.hags_io.specs.declared.link.LinkCall.{LinkCall}
 use Rattle.hags_io.specs.Links.{Same}
 use Rattle.node_state.specs.declared.packet.Packet.{Packet}
 use Rattle.node_state.specs.Bytes.{packet_of, bytes_of}
-use Rattle.daemon_model.specs.Sent.{as_sent, packet_calls, carried_calls, number_over, Numbered, Exchange, plain, said, piece_of, call_of, numbered, carried, sent_calls, number_after, Went, WentFront, IsSpelled, IsSpelledIf, AllSpelled, Made, MadeFront}
+use Rattle.daemon_model.specs.Sent.{as_sent, packet_calls, carried_calls, number_over, Exchange, plain, said, piece_of, call_of, numbered, carried, sent_calls, number_after, Went, WentFront, IsSpelled, IsSpelledIf, AllSpelled, Made, MadeFront}
 use Rattle.daemon_run.proofs.WentLaws.{went_same, went_nothing, went_on, next_item, no_item, nowhere_sent, carried_sent, carried_front}
 
 spelled_both : (xs ys : List Exchange) → AllSpelled xs → AllSpelled ys → AllSpelled (xs ++ ys)

@@ -1,5 +1,5 @@
 -- What comes from clients on other machines.
-use Rattle.std.proofs.Common.{◌≡◌, if◌then◌else◌, ℕ, Bool, true, false, List, [], ◌∷◌, ◌++◌, Option, Some, None, refl, sym, ◌∙◌, ap, ap₂, subst, append-nil}
+use Rattle.std.proofs.Common.{◌≡◌, if◌then◌else◌, ℕ, Bool, true, false, List, [], ◌++◌, Option, Some, None, refl, sym, ◌∙◌, ap, ap₂, subst, append-nil}
 use Rattle.std.specs.Prelude.{not, map, option_map}
 use Rattle.hags_io.specs.declared.link.LinkCall.{LinkCall}
 use Rattle.node_state.specs.declared.call.CallLine.{CallLine}
@@ -19,7 +19,7 @@ use Rattle.daemon_run.specs.declared.running.Running.{Running}
 use Rattle.daemon_run.specs.Audience.{Audience, StepHands, LineHands, BroughtHands, GivenHands}
 use Rattle.daemon_run.specs.Doing.{daemon_of, Goes, Breaks, Passes, Attends, StepsAs, StepBreaks, is_up_taken, CallsKey, CallKeyBreaks, GivesAs, GiveBreaks, KeySteps, Sends, SendsFront}
 use Rattle.daemon_run.proofs.MadeLaws.{none_made, said_made, said_front}
-use Rattle.daemon_run.proofs.GoesLaws.{Adds, attends_on, adds_none, adds_on, goes_none, goes_on, goes_as, breaks_as, breaks_on, breaks_more, breaks_none, nothing_written, none_front}
+use Rattle.daemon_run.proofs.GoesLaws.{Adds, adds_none, adds_on, goes_none, goes_on, goes_as, breaks_as, breaks_on, breaks_more, breaks_none, nothing_written, none_front}
 use Rattle.daemon_run.proofs.StepLaws.{silent, adds_left, adds_step}
 
 -- ---- what each part adds

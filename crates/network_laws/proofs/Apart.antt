@@ -1,7 +1,7 @@
 -- Each node by itself: its acts alone make its daemon, what it sends and what it records; and what it records are the records of
 -- its daemons' lives.
 use Rattle.std.proofs.Common.{◌≡◌, ◌≢◌, ◌+◌, ◌-◌, ℕ, zero, suc, List, [], ◌∷◌, ◌++◌, length, drop, Bool, true, false, Option, Some, None, refl, sym, ap, ◌∙◌, subst, append-nil, append_assoc}
-use Rattle.std.specs.Prelude.{filter, flat_map, map, fold, if◌then◌else◌}
+use Rattle.std.specs.Prelude.{filter, flat_map, map, if◌then◌else◌}
 use Rattle.std.proofs.Math.Seq.{drop-append_seam}
 use Rattle.std.proofs.lemmas.Bool.{eqb-true, eqb-false}
 use Rattle.node_state.specs.declared.config.Config.{Config}

@@ -12,7 +12,7 @@ use Rattle.node_state.specs.Step.{NodeEvent, Ticks, Calls, started, stepped}
 use Rattle.remote_session.specs.Daemon.{SeenUp, NotUp, KeysFull, KnownKey, CallMade}
 use Rattle.step_refinement.specs.Rules.{at_node}
 use Rattle.daemon_model.specs.Sent.{Exchange, plain, said, as_sent, message_calls, sent_calls}
-use Rattle.daemon_model.specs.Daemon.{Daemon, Opening, left_for, stepped_for, stepped_by, begun_for, opened, is_due, ticked_if, ticked, joined_by, received, given, up_in, with_up, call_in, line_carried, called_by, down_in, down_sent, brought, given_on, network_of, heard}
+use Rattle.daemon_model.specs.Daemon.{Daemon, Opening, left_for, stepped_for, stepped_by, begun_for, opened, is_due, ticked_if, joined_by, received, given, up_in, with_up, call_in, line_carried, called_by, down_in, down_sent, brought, given_on, network_of, heard}
 use Rattle.daemon_model.specs.Actions.{Action, Opens, Hears, did}
 use Rattle.daemon_model.specs.Actions as action
 use Rattle.network_model.specs.Network.{Net, made_since, noted_since, went_on}

@@ -6,7 +6,7 @@ use Rattle.std.proofs.lemmas.List.{map-append}
 use Rattle.std.proofs.lemmas.List.Elements.{filter-append}
 use Rattle.rsct_packet.specs.Ids.{last_u32}
 use Rattle.rsct_packet.specs.Search.{Has}
-use Rattle.rsct_packet.proofs.HasLaws.{has_filter, filter_has, has_append, append_has_left, append_has_right, has_map, map_has}
+use Rattle.rsct_packet.proofs.HasLaws.{has_filter, filter_has, has_append, append_has_left, append_has_right, has_map}
 use Rattle.hags_io.specs.declared.link.LinkCall.{LinkCall}
 use Rattle.hags_io.specs.declared.link.LinkCall.TheVariants as call
 use Rattle.node_state.specs.declared.config.Config.{Config}
@@ -15,7 +15,7 @@ use Rattle.daemon_model.specs.Daemon.{Daemon, begun_for}
 use Rattle.daemon_model.specs.Actions.{Action, Opens, Ticks, Hears, did}
 use Rattle.network_model.specs.Network.{Act, Begins, Does, Ends, Net, no_net, made_since, acted}
 use Rattle.network_model.specs.Lives.{end_of, acts_of, is_at, AreLives}
-use Rattle.network_model.specs.Fits.{IsSend, WasSent, MayCome, IsSpelledSend, MayBegin, MayDo, OfUp, MayAct, AllMayAct, NetworkRun}
+use Rattle.network_model.specs.Fits.{IsSend, WasSent, MayCome, IsSpelledSend, MayDo, OfUp, MayAct, AllMayAct}
 use Rattle.network_model.specs.Executions.{IsLinear, Timed, what_of, NeverBack, TimedLife, untimed, done_at, ended_at, timed_acts, made_when, made_from, made_in, WasSentBefore, EndsBefore, OneByOne, MayHear, Execution, at_its, Ordered, EveryExecutionHasAnOrder}
 use Rattle.network_laws.proofs.Apart.{At, nothing_at, at_of, with_daemon, made_by, acted_at, made_at, Same, act_same, act_other}
 use Rattle.network_laws.proofs.Sorting.{sorted, refl_later, sorted_order, sorted_filter}

@@ -2,13 +2,12 @@
 -- forges, alters, or gives a datagram before it was sent, and what the operator sees to.
 use Rattle.std.specs.Prelude.{ℕ, ◌≤◌, ◌<◌, ◌≡◌, Bool, true, false, List, [], ◌∷◌, ◌++◌, filter, flat_map, map, not, Option, Some, None, is_none}
 use Rattle.rsct_packet.specs.Ids.{last_u32}
-use Rattle.hags_io.specs.declared.link.LinkCall.{LinkCall}
 use Rattle.piece_link.specs.Answers.{Among}
 use Rattle.node_state.specs.declared.config.Config.{Config}
 use Rattle.node_state.specs.Settings.{is_fixed}
 use Rattle.daemon_model.specs.Sent.{Exchange}
 use Rattle.daemon_model.specs.Daemon.{Daemon, begun_for}
-use Rattle.daemon_model.specs.Actions.{Action, Opens, Ticks, Hears, did}
+use Rattle.daemon_model.specs.Actions.{Action, Hears, did}
 use Rattle.network_model.specs.Network.{Act, Begins, Does, Ends, made_since}
 use Rattle.network_model.specs.Lives.{LifeIn, is_at}
 use Rattle.network_model.specs.Fits.{MayCome, IsSend, IsSpelledSend, NetworkRun}

@@ -12,7 +12,7 @@ use Rattle.world_laws.specs.world_answers.Answers.{Answered, goes_on}
 use Rattle.step_refinement.proofs.Changed.{set_here}
 use Rattle.remote_session.specs.Daemon.{SeenUp, NotUp, KeysFull, KnownKey, CallMade, down_for}
 use Rattle.remote_clients.specs.declared.sessions.Sessions.{Sessions}
-use Rattle.daemon_model.specs.Daemon.{Daemon, Opening, left_for, given, up_in, with_up, call_in, line_carried, called_by, down_in, down_sent, brought, given_on}
+use Rattle.daemon_model.specs.Daemon.{Daemon, Opening, left_for, up_in, with_up, call_in, line_carried, called_by, down_in, down_sent, brought, given_on}
 use Rattle.network_model.specs.Network.{Net, went_on}
 use Rattle.network_model.proofs.Marks.{down_is_no_packet}
 use Rattle.network_safety.specs.Safe.{answered_by, call_events, BroughtEvents, GivenEvents}

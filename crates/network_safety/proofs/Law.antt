@@ -23,10 +23,10 @@ use Rattle.daemon_model.specs.Sent.{Exchange, AllSpelled}
 use Rattle.daemon_model.specs.Daemon.{Daemon, Opening, opened, is_due, ticked, heard, left_for, stepped_for}
 use Rattle.daemon_model.specs.Actions.{Action, Opens, Ticks, Hears, did}
 use Rattle.network_model.specs.Network.{Act, Begins, Does, Ends, Net, no_net, skipped, went_on, begins, idles, starts, does_if, acted, net_after}
-use Rattle.network_model.specs.Fits.{WasSent, IsSpelledSend, MayBegin, MayDo, OfUp, MayAct, AllMayAct, NetworkRun}
+use Rattle.network_model.specs.Fits.{WasSent, IsSpelledSend, MayBegin, MayDo, OfUp, MayAct, AllMayAct}
 use Rattle.network_model.specs.Executions.{IsLinear, what_of, TimedLife, untimed, Execution, Ordered}
 use Rattle.network_safety.specs.Safe.{answered_by, silent, idle_events, tick_events, ActionEvents, ActEvents, AreEventsOf, NetworksOfDaemonsAreSafe, IsSafeExecution, ExecutionsAreSafe}
-use Rattle.network_safety.specs.Served.{IsServed, Done, Ended, Broken, served_calls, Served, life_of, calls_of, WasTold, ServedDaemonsAreSafe}
+use Rattle.network_safety.specs.Served.{IsServed, Done, Ended, Broken, served_calls, Served, calls_of, WasTold, ServedDaemonsAreSafe}
 use Rattle.network_laws.proofs.Apart.{nodes_record_their_lives}
 use Rattle.network_laws.proofs.Orders.{comes_as, are_lives, has_an_order}
 use Rattle.network_safety.proofs.Standing.{Stands, Stand}

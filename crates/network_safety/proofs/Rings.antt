@@ -1,12 +1,9 @@
 -- The addresses of settings that a daemon reads differ.
-use Rattle.std.proofs.Common.{ℕ, List, subst}
-use Rattle.node_state.specs.declared.config.Config.{Config}
+use Rattle.std.proofs.Common.{subst}
 use Rattle.world_model.specs.Settings.{aim_of, daemon_script}
 use Rattle.run_laws.specs.ring_runs.Rings.{AddressesFit}
 use Rattle.run_laws.proofs.ring_runs.Settings.{addresses_fit}
-use Rattle.network_model.specs.Network.{Act}
-use Rattle.network_safety.specs.Safe.{IsSafeNetwork}
-use Rattle.network_safety.specs.Rings.{AreSettings, SettingsFit, HasSafeRings, RingsOfDaemonsAgree}
+use Rattle.network_safety.specs.Rings.{SettingsFit, RingsOfDaemonsAgree}
 
 pub settings_fit : SettingsFit
 unfolding daemon_script

@@ -1,8 +1,7 @@
 -- What cannot change a node changes nothing, since it rests between acts.
-use Rattle.std.proofs.Common.{◌≡◌, ℕ, List, [], Bool, true, false, Option, Some, None, refl, sym, ap, ◌∙◌, inl, inr}
+use Rattle.std.proofs.Common.{◌≡◌, [], Bool, true, false, Option, Some, None, refl, ap, ◌∙◌, inl, inr}
 use Rattle.std.specs.Prelude.{◌==◌, ◌&&◌, ◌||◌, ◌⊎◌, fold, not}
 use Rattle.rsct_packet.specs.Ids.{same_view, is_member}
-use Rattle.node_state.specs.declared.config.Config.{Config}
 use Rattle.node_state.specs.declared.packet.Body.{Body}
 use Rattle.node_state.specs.declared.packet.Body.TheVariants as body
 use Rattle.node_state.specs.declared.packet.Packet.{Packet}
@@ -12,13 +11,11 @@ use Rattle.node_state.specs.HandOn.{Answering}
 use Rattle.node_state.specs.Bytes.{packet_of, event_in, event_of}
 use Rattle.node_state.specs.Following.{take_lookup, take_name, take_request, take_tell, take_entry, take_ack, take_vote, take_gone}
 use Rattle.node_state.specs.Ending.{end_step}
-use Rattle.node_state.specs.Step.{Given, Garbage, at_work, is_used, used_if, take_body, packet_rule, stepped}
+use Rattle.node_state.specs.Step.{Given, at_work, is_used, used_if, take_body, packet_rule, stepped}
 use Rattle.world_model.specs.World.{empty_world}
 use Rattle.provider_laws.proofs.resting.Law.{Resting}
 use Rattle.provider_laws.proofs.resting.Walking.{stepped_is}
-use Rattle.daemon_model.specs.Daemon.{Daemon}
-use Rattle.network_model.specs.Network.{Act, Net, no_net, acted, net_after}
-use Rattle.network_model.specs.Fits.{IsSpelledSend, NetworkRun}
+use Rattle.network_model.specs.Network.{no_net, acted, net_after}
 use Rattle.network_safety.specs.Strangers.{group_view, IsUnusedIf, IsNothingAt, StrangersChangeNothing, OtherDomainsAreUnused}
 use Rattle.network_safety.proofs.Quiet.{nothing, rests_quiet, garbage_quiet}
 use Rattle.network_safety.proofs.Stepping.{own_up}

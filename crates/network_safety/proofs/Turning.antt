@@ -1,5 +1,5 @@
 -- A turn of a daemon: a tick where one is due, a receive, and the message that is whole by it.
-use Rattle.std.proofs.Common.{◌≡◌, ◌≤◌, ◌^◌, ℕ, List, [], ◌∷◌, ◌++◌, Bool, true, false, Option, Some, None, refl, sym, ◌∙◌, subst, inl, inr, append-nil, append_assoc}
+use Rattle.std.proofs.Common.{◌≡◌, ℕ, List, [], ◌∷◌, ◌++◌, Bool, true, false, Option, Some, None, refl, sym, ◌∙◌, subst, inl, inr, append-nil}
 use Rattle.std.specs.Prelude.{◌⊎◌}
 use Rattle.rsct_packet.specs.Search.{Has}
 use Rattle.hags_io.specs.declared.link.LinkCall.{LinkCall}
@@ -10,7 +10,7 @@ use Rattle.node_state.specs.declared.packet.Body.TheVariants as body
 use Rattle.node_state.specs.declared.packet.Packet.{Packet}
 use Rattle.node_state.specs.HandOn.{Answering}
 use Rattle.node_state.specs.Bytes.{packet_of, bytes_of}
-use Rattle.node_state.specs.Step.{Ticks, Calls, stepped}
+use Rattle.node_state.specs.Step.{Ticks, stepped}
 use Rattle.world_model.specs.World.{World}
 use Rattle.world_model.specs.declared.event.Event.TheVariants as event
 use Rattle.world_laws.specs.world_answers.Answers.{Answered, goes_on}
