@@ -142,6 +142,8 @@ impl<C: Callbacks> Running<C> {
         ensures keeps { KeepsLink (L.places link.old) (L.places link.new) (L.opened link.old)
             (L.opened link.new) (L.faults link.old) (L.faults link.new) }
     {
+        // Read first: that it fits its field is said of a send that broke off before it, too.
+        let _number = self.number;
         let down = self.down_in(alloc, key)?;
         let (me, incarnation) = (self.me, self.incarnation);
         let number = &mut self.number;
