@@ -2,8 +2,8 @@
 import select
 import time
 
-import daemons
 import rough_network
+from hags_tools import daemons
 
 SLICE = 0.002  # seconds from one turn of a client to the next
 
