@@ -6,7 +6,7 @@ import subprocess
 import sys
 from dataclasses import dataclass, field
 
-import daemons
+from hags_tools import daemons
 
 HERE = pathlib.Path(__file__).resolve().parent
 TOP = HERE.parent.parent
@@ -84,7 +84,6 @@ class Session:
     incarnation: int = None
     calls: list = field(default_factory=list)  # commands with their answers
     lines: list = field(default_factory=list)  # what was heard
-    is_closed: bool = False
 
     def is_own(self, line):
         """Is this line of the daemon's transcript one that the client hears as an event?"""
@@ -233,7 +232,6 @@ class Driver:
         if kind == 20:
             return f"expel {group} 1 1.1.1.1"
         if kind == 21:
-            self.session.is_closed = True  # by the daemon too, whether it answers or not
             return "close"
         return self.chance.one_of(("raw flow", "raw state nobody db 1 x", f"vote {group} A", f"join {group} {self.session.instance}"))
 

@@ -4,8 +4,8 @@ import os
 import subprocess
 import time
 
-import daemons
 import drivers
+from hags_tools import daemons
 
 NODES = (1, 2, 3)
 SECONDS = 120  # the longest wait for one thing

@@ -68,7 +68,10 @@ static const row ROWS[] = {
     {"join gs-test db 65535", TAKEN, "asked 1.5.65535.7 7 db join\ntold 1.5.65535.7 7 GROUP_FULL 64"},
     {"join gs-test db 9", TAKEN, "asked 1.5.9.8 8 db join\nheard 1.5.9.8 1.1.5 db 13 once-join 1.5.9.8 ="},
     {"leave gs-test db 1", TAKEN, "asked 1.5.9.8 9 db leave\nheard 1.5.9.8 1.1.5 db 14 once-leave - ="},
-    {"join gs-test db 10", TAKEN, "asked 1.5.10.10 10 db join\nheard 1.5.10.10 1.1.5 db 15 once-join 1.5.10.10 ="},
+    /* another one comes and goes, and nothing tells the entries of it */
+    {"join gs-test db 10", TAKEN,
+     "asked 1.5.10.10 10 db join\nheard 1.5.10.10 1.1.5 db 15 once-join 1.5.10.10 =\n"
+     "heard 1.5.10.10 1.1.5 db 16 once-join 1.5.10.10," OTHER " =\nheard 1.5.10.10 1.1.5 db 17 once-fail 1.5.10.10 ="},
     {"message gs-test db 1 bye", LOSE, ""},
     {"client 1 gs-test -", TAKEN, ""},
     {"goodbye gs-test", TAKEN, ""},
@@ -386,7 +389,9 @@ int main(void) {
     EXPECT("approved 1 0: phases=1 phase=1 by=1.9 changed=4 now:1.9 changing:1.9 value=0\n");
     CHECK(ha_gs_goodbye(token) == HA_GS_OK && ha_gs_goodbye(token) == HA_GS_BAD_MEMBER_TOKEN);
     CHECK(join(10, &plain) == HA_GS_OK);
-    EXPECT("approved 1 0: phases=1 phase=1 by=1.10 changed=4 now:1.10 changing:1.10 value=0\n");
+    EXPECT("approved 1 0: phases=1 phase=1 by=1.10 changed=4 now:1.10 changing:1.10 value=0\n"
+           "approved 1 0: phases=1 phase=1 by=2.8 changed=4 now:1.10:2.8 changing:2.8 value=0\n"
+           "approved 2 0: phases=1 phase=1 by=0.0 changed=4 now:1.10 changing:2.8 reason=1 value=0\n");
 
     message.gs_message_request = (ha_gs_message_request_t){HA_GS_1_PHASE, 0, {3, "bye"}};
     CHECK(ha_gs_send_message(token, &message) == HA_GS_NO_INIT);

@@ -1,6 +1,6 @@
 """Compares what clients heard with what their daemons wrote, over lines alone."""
-import transcripts
-from transcripts import Fault
+from hags_tools import records
+from hags_tools.comparing import Fault
 
 
 def compare_events(session, life, least):
@@ -25,12 +25,10 @@ def begun_in(lives):
     """By request, as PROVIDER/NUMBER, the values with which it begins in the lists of these lives, None without one."""
     begun = {}
     for life in lives:
-        for line in life.lines:
-            words = line.split(" ")
-            if words[0] == "put" and words[5] in ("once", "begin"):
-                value = words[8] if words[6] == "state" else None
-                for request in transcripts.request_of(words[6:]):
-                    begun.setdefault(request, set()).add(value)
+        for _, record in life.records:
+            proposal = record.entry.proposal if isinstance(record, records.Put) else None
+            for request in proposal.requests if proposal else ():
+                begun.setdefault(request, set()).add(proposal.value)
     return begun
 
 
@@ -51,7 +49,7 @@ def compare_calls(session, life, is_whole, begun):
         if (kind, group) != (words[0], words[1]):
             raise Fault(f"{where}: {command}: carried out as {kind} {group}")
         values = begun.get(request, set())
-        if kind == "state" and any(value != f"={spelled(words[3])}" for value in values):
+        if kind == "state" and any(value != spelled(words[3]) for value in values):
             raise Fault(f"{where}: {command}: begun with {values}")
     for request in undecided(session, life, begun) if is_whole else ():
         raise Fault(f"{where}: {request}: taken, and nothing came of it")
