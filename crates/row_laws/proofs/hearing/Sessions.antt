@@ -108,7 +108,7 @@ fewer_told s p r y = by (takes_telling s p r y) (is_join_request (outstanding s 
 pub fewer_ended : (s : SessionState) (t : ClientToken) → ((a b : Provider) → Has a s.providers → Has b s.providers → a.provider ≡ b.provider → a.client ≡ b.client) → Fewer s (end_session s t)
 unfolding end_session
 fewer_ended s t owner =
-    fewer_kept s (end_session s t) (λ x. not (is_client_of t x)) (λ k. not (is_owned s.providers t k.provider)) refl refl (omega arith) (λ a b h k e. ap (λ (c : ClientToken). not (c.n == t.number)) (owner a b h k e)) refl refl (λ x k h e stays. ap not (unowned x k.provider h e stays s.providers (λ y i. i)))
+    fewer_kept s (end_session s t) (λ x. not (is_client_of t x)) (λ k. not (is_owned s.providers t k.provider)) refl refl (omega arith) (λ a b h k e. ap (λ (c : ClientToken). not (c.number == t.number)) (owner a b h k e)) refl refl (λ x k h e stays. ap not (unowned x k.provider h e stays s.providers (λ y i. i)))
   where
     -- whose provider stays has no other that goes
     unowned : (x : Provider) (p : ProviderId) → Has x s.providers → x.provider ≡ p → not (is_client_of t x) ≡ true → (ys : List Provider) → ((y : Provider) → Has y ys → Has y s.providers) → is_owned ys t p ≡ false
