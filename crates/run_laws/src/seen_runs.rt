@@ -18,7 +18,6 @@ pub fn requests_begin_once()
 
 /// Where the lines of each group are safe, as they are in every run, whoever an entry names asked in that group for what it
 /// begins, at whatever node the entry is put.
-#[tactic(auto, using(crate::proofs::seen_runs::Once::safe_entries_asked))]
 pub fn entries_were_asked()
     ensures { SafeEntriesWereAsked }
 {}
