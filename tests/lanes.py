@@ -11,7 +11,7 @@ SLICE = 0.002  # seconds from one turn of a client to the next
 class Lanes(rough_network.RoughNetwork):
     """Who stands in `actors` has `act`, which it does while this passes on what comes, and `close`."""
 
-    def __init__(self, chance, nodes=3):
+    def __init__(self, nodes, chance):
         super().__init__(nodes, chance)
         self.ends, self.actors = [], []  # the node of each lane; who acts
 

@@ -1,5 +1,4 @@
 """Compares what clients heard with what their daemons wrote, over lines alone."""
-from hags_tools import records
 from hags_tools.comparing import Fault
 
 
@@ -19,17 +18,6 @@ def compare_refusals(session, life):
     own = [line.split(" ", 2)[2] for line in life.lines if session.is_refusal(line)]
     if session.refused != own[: len(session.refused)] or len(own) > len(session.refused) + 1:
         raise Fault(f"{session.name} of {life.name}: it was refused {session.refused}\n  and not {own}")
-
-
-def begun_in(lives):
-    """By request, as PROVIDER/NUMBER, the values with which it begins in the lists of these lives, None without one."""
-    begun = {}
-    for life in lives:
-        for _, record in life.records:
-            proposal = record.entry.proposal if isinstance(record, records.Put) else None
-            for request in proposal.requests if proposal else ():
-                begun.setdefault(request, set()).add(proposal.value)
-    return begun
 
 
 def asked_by(session, life):

@@ -5,10 +5,10 @@ import context
 from hags_tools import comparing
 
 
-def faults_of(lines, goodbyes=False):
+def faults_of(lines, may_have_gone=comparing.nobody):
     """What is said of these lines as a whole cluster's; None where nothing is."""
     try:
-        comparing.compare(comparing.lives_of(lines), goodbyes)
+        comparing.compare(comparing.lives_of(lines), may_have_gone)
     except comparing.Fault as fault:
         return fault
     return None
@@ -20,7 +20,7 @@ class Agree(unittest.TestCase):
         for path in context.STORED:
             lines = path.read_text(encoding="ascii").splitlines()
             with self.subTest(path.stem):
-                self.assertIsNone(faults_of(lines, goodbyes=True))
+                self.assertIsNone(faults_of(lines, comparing.anybody))
                 compared += len(lines)
         self.assertGreater(compared, 10_000)
 

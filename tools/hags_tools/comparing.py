@@ -261,8 +261,8 @@ class Gathering:
 class Judging:
     """Goes through a life for the second time, and judges each line by what all have in common."""
 
-    def __init__(self, shared, life, goodbyes):
-        self.shared, self.life, self.goodbyes = shared, life, goodbyes
+    def __init__(self, shared, life, may_have_gone):
+        self.shared, self.life, self.may_have_gone = shared, life, may_have_gone
         self.view = None
         self.lengths = Counter()
         self.present = defaultdict(set)  # of a group, the own providers that take part
@@ -281,9 +281,9 @@ class Judging:
 
     def pass_over(self, count):
         """So many of those who are due have not heard the last entry: they said goodbye, or something is wrong."""
-        if count and not self.goodbyes:
-            raise Fault(f"{self.due[0]} has not heard the entry before")
         for provider in self.due[:count]:
+            if not self.may_have_gone(provider):
+                raise Fault(f"{provider} has not heard the entry before")
             for present in self.present.values():
                 present.discard(provider)
         del self.due[:count]
@@ -378,6 +378,17 @@ class Judging:
             raise Fault(f"the list has {listed(wanted[0])} ={wanted[1]}")
 
 
+def begun_in(lives):
+    """By request, as PROVIDER/NUMBER, the values with which it begins in the lists of these lives, None without one."""
+    begun = {}
+    for life in lives:
+        for _, record in life.records:
+            proposal = record.entry.proposal if isinstance(record, records.Put) else None
+            for request in proposal.requests if proposal else ():
+                begun.setdefault(request, set()).add(proposal.value if proposal.kind == "state" else None)
+    return begun
+
+
 def lives_of(lines):
     """The lives in a transcript of several nodes, as `hags run` writes it, or several daemons' one after the other. What the
     script shows, that a node is down and what is refused there no daemon writes."""
@@ -416,10 +427,20 @@ def gone_through(shared, life, reader):
             raise placed(Fault(f"names what no line before has: {error}"), life, number) from error
 
 
-def compare(lives, goodbyes=False):
+def nobody(provider):
+    """Of clients that say no goodbye: each of their providers hears all."""
+    return False
+
+
+def anybody(provider):
+    """Of clients that may all have said goodbye."""
+    return True
+
+
+def compare(lives, may_have_gone=nobody):
     """Compares the lives of all nodes, each node's in their order, and counts their lines by kind. Raises Fault where
-    they do not agree. A life's last step may be missing in part, as it is where its daemon was killed. With `goodbyes`
-    clients may have said goodbye: who has not heard an entry then hears none of that group any more."""
+    they do not agree. A life's last step may be missing in part, as it is where its daemon was killed. Where a provider's
+    client may have said goodbye, the provider may miss an entry, and then hears none of that group any more."""
     shared = Shared()
     last = {}
     lives = [life for life in lives if life.lines]
@@ -429,5 +450,5 @@ def compare(lives, goodbyes=False):
         last[life.node] = life.incarnation
         gone_through(shared, life, Gathering(shared, life))
     for life in lives:
-        gone_through(shared, life, Judging(shared, life, goodbyes))
+        gone_through(shared, life, Judging(shared, life, may_have_gone))
     return shared.counts

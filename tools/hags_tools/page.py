@@ -42,7 +42,7 @@ def faults_of(lines):
         elif not isinstance(record, records.Show) and record.node in incarnations:
             places.setdefault(incarnations[record.node], []).append(place)
     try:
-        comparing.compare(comparing.lives_of([line for _, line in own]), goodbyes=True)
+        comparing.compare(comparing.lives_of([line for _, line in own]), comparing.anybody)
     except comparing.Fault as fault:
         found = [places[fault.life.name][fault.number - 1]] if fault.life else []
         if fault.other:
