@@ -9,6 +9,7 @@ from hags_tools import daemons
 
 NODES = (1, 2, 3)
 SECONDS = 120  # the longest wait for one thing
+HEARTBEAT = (1, 30)  # a node is missed after three seconds: here no view may part, however busy the machine is
 OK, BAD_MEMBER_TOKEN = 0, 8
 JOIN, LEAVE, EXPEL, STATE, MESSAGE = 1, 3, 4, 5, 6  # ha_gs_request_t
 
@@ -107,7 +108,7 @@ def play(program, folder):
     """Plays it, and says how it went."""
     words = drivers.compiled(drivers.HERE / "gs_member.c", folder, [drivers.C / "ha_gs.c", drivers.C / "hags.c"])
     began = time.monotonic()
-    text = daemons.Plan(len(NODES), heartbeat=(1, 12)).settings(daemons.free_port(len(NODES)))
+    text = daemons.Plan(len(NODES), heartbeat=HEARTBEAT).settings(daemons.free_port(len(NODES)))
     cluster = daemons.Cluster([daemons.Daemon(program, node, text, folder, words=["--remote"]) for node in NODES])
     with cluster:
         count = tell(cluster, folder / "settings-1", words)
