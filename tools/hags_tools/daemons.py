@@ -6,6 +6,7 @@ import signal
 import socket
 import subprocess
 import time
+from collections import Counter
 from dataclasses import dataclass
 
 from hags_tools import records
@@ -212,6 +213,36 @@ class Cluster:
         if not view or view.frozen or any(other != view for other in others):
             return None
         return view if view.members == tuple(self.daemons[node].member() for node in sorted(nodes)) else None
+
+    def rings_of(self, nodes):
+        """The networks on which each of these nodes says that they, and they alone, are its ring."""
+        answers = self.ask("hats", nodes).values()
+        if None in answers:
+            return set()
+        wanted = f"members={','.join(map(str, sorted(nodes)))}"
+        are_whole = zip(*([line.split()[3] == wanted for line in lines] for lines in answers))
+        return {network for network, said in enumerate(are_whole, 1) if all(said)}
+
+    def left_behind(self, nodes):
+        """One of the fewest of these nodes with a view of their own, where all are in one ring of a network, and the least
+        node is in a view of all: then it asks for no other view, and nobody else does. None elsewhere."""
+        nodes = sorted(nodes)
+        views = self.views(nodes)
+        if None in views or views[0].members != tuple(self.daemons[node].member() for node in nodes):
+            return None
+        holders = Counter(views)
+        if len(holders) == 1 or not self.rings_of(nodes):
+            return None
+        return min(zip(nodes, views), key=lambda pair: holders[pair[1]])[0]
+
+    def help_left_behind(self, nodes):
+        """Does what docs/operating.md tells the operator to do where views stay apart: starts the daemon anew that was left
+        behind. Answers its node; None where there is none."""
+        node = self.left_behind(nodes)
+        if node:
+            self.daemons[node].kill()
+            self.start([node])
+        return node
 
     def wait_for_view(self, nodes, seconds=120):
         names = ", ".join(map(str, sorted(nodes)))
