@@ -1,36 +1,38 @@
 -- What a client does in a turn.
-use Rattle.std.proofs.Common.{◌≡◌, ℕ, zero, suc, ◌+◌, ◌==◌, ◌≤◌, min, Bool, true, false, List, [], ◌∷◌, ◌++◌, length, Option, Some, None, Result, Ok, Err, refl, sym, ◌∙◌, ap, subst, arith}
-use Rattle.std.specs.Prelude.{slice_get, if◌then◌else◌, IfErr}
+use Rattle.std.proofs.Common.{◌≡◌, ℕ, zero, suc, ◌==◌, Bool, true, false, List, [], ◌∷◌, length, Option, Some, None, refl, sym, ◌∙◌, ap, subst, arith}
+use Rattle.std.specs.Prelude.{slice_get, if◌then◌else◌, option_map}
 use Rattle.std.proofs.lemmas.Bool.{eqb-true}
-use Rattle.std.specs.Io.KnownBytes.{Appends}
-use Rattle.std.proofs.KnownBytes.{Appends-nil}
 use Rattle.rsct_packet.specs.Format.{EachFits}
 use Rattle.rsct_packet.specs.Ids.{risen}
-use Rattle.hags_io.specs.Edges.{GrowsByFront}
-use Rattle.hags_io.specs.Links.{Grows, Same}
 use Rattle.hags_io.specs.declared.link.LinkCall.{LinkCall}
 use Rattle.hags_io.specs.declared.link.LinkCall.TheVariants as call
-use Rattle.piece_link.specs.Joining.{Joining, Joined, joined_as, taken}
+use Rattle.hags_io.specs.Deeds.{Exchanged, Wrote}
+use Rattle.hags_io.specs.Telling.{Telling, Did}
+use Rattle.hags_io.specs.Fronts.{Went, WentFront, written}
+use Rattle.hags_io.proofs.FrontLaws.{went_nothing, went_on, went_as, none_went, still_went, went_front_on, went_front_more, write_failed}
+use Rattle.daemon_model.specs.Daemon.{joined_by, network_of}
+use Rattle.link_use.specs.declared.receiving.Receiving.{Receiving}
+use Rattle.link_use.specs.Receiving.{IsReceive, Receives, ReceivesFront}
 use Rattle.remote_session.specs.declared.far.DownSeen.{DownSeen}
 use Rattle.remote_session.specs.Client.{FarState, may_call, far_called, far_seen, far_taken}
-use Rattle.daemon_model.specs.Sent.{Went, WentFront}
-use Rattle.daemon_run.proofs.WentLaws.{went_on, all_went, none_went, same_went, went_front_on}
-use Rattle.daemon_run.proofs.GoesLaws.{none_front}
 use Rattle.client_run.specs.declared.client.Client.{Client}
-use Rattle.client_run.specs.declared.client.Stop.{Stop}
-use Rattle.client_run.specs.declared.client.Stop.TheVariants as stop
-use Rattle.client_run.specs.Turns.{made_with, call_made, up_piece, up_call, up_sent, written_of, after_seen, text_in, heard_in, seen_in, joined_with, text_taken, text_by, heard_by, seen_by, begun, turned, turn_calls, turn_text, turn_seen}
-use Rattle.client_run.specs.Running.{IsCall, Stays, IsLost, IsFull, IsFault, Hears, Ends, TakesAs, TakeEnds, ReceivesAs, ReceiveEnds, ReceiveBreaks, TurnsAs, TurnEnds, TurnBreaks}
+use Rattle.client_run.specs.Turns.{made_with, call_made, up_piece, up_call, up_sent, written_of, after_seen, text_in, heard_in, seen_in, joined, text_by, heard_by, seen_by, begun, turned, turn_deeds, turn_seen}
+use Rattle.client_run.specs.Running.{IsCall, Stays, Hears, Ends, ReceivesAs, ReceiveEnds, ReceiveFront, TurnsAs, TurnEnds, TurnFront}
 
 -- ---- texts
 
 -- nothing is written of an empty text
-pub empty_written : (x : Option (List ℕ)) (text : List ℕ) → (length text == 0) ≡ true → Appends x x text
-empty_written x [] e = Appends-nil x
-empty_written x (c ∷ text) e = let z : length (c ∷ text) ≡ 0 = eqb-true (length (c ∷ text)) 0 e in absurd (omega arith)
+pub empty_written : (t : Telling) (text : List ℕ) → (length text == 0) ≡ true → Went t t (written text)
+empty_written t [] e = went_nothing t
+empty_written t (c ∷ text) e = let z : length (c ∷ text) ≡ 0 = eqb-true (length (c ∷ text)) 0 e in absurd (omega arith)
 
-pub nothing_written : (x : Option (List ℕ)) → Appends x x []
-nothing_written x = Appends-nil x
+pub text_written : (t u : Telling) (text : List ℕ) → (length text == 0) ≡ false → Did t u (Wrote text true ∷ []) → Went t u (written text)
+text_written t u [] e h = absurd cc
+text_written t u (c ∷ text) e h = went_as t u (Wrote (c ∷ text) true) (Wrote (c ∷ text) true) refl h
+
+pub text_failed : (t u : Telling) (text : List ℕ) → (length text == 0) ≡ false → Did t u (Wrote text false ∷ []) → WentFront t u (written text)
+text_failed t u [] e h = absurd cc
+text_failed t u (c ∷ text) e h = write_failed t u (c ∷ text) [] h
 
 -- ---- the call that is made
 
@@ -63,124 +65,111 @@ made_no_call lines c line far made e f may is = made_as lines c line far false m
 
 -- ---- the Up that is sent
 
-pub up_went : (c : Client) (piece : List ℕ) (out : Bool) (a b : Option (List LinkCall)) → piece ≡ up_piece c.far c.number → Grows a b (call.Sent c.node c.network piece out ∷ []) → Went a b (up_call c ∷ [])
+pub up_went : (c : Client) (piece : List ℕ) (out : Bool) (t u : Telling) → piece ≡ up_piece c.far c.number → Did t u (Exchanged (call.Sent c.node c.network piece out) ∷ []) → Went t u (Exchanged (up_call c) ∷ [])
 unfolding up_call
-up_went c piece out a b is h = record {
-  calls = call.Sent c.node c.network piece out ∷ [];
-  told = h;
-  are = ap (λ (p : List ℕ). call.Sent c.node c.network p true ∷ []) is;
-}
+up_went c piece out t u is h = went_as t u (Exchanged (call.Sent c.node c.network piece out)) (Exchanged (up_call c)) (ap (λ (p : List ℕ). Exchanged (call.Sent c.node c.network p true)) is) h
 
 -- ---- a message
 
 abbrev with_end : Client → FarState → Client
 with_end r far = record r { far = far }
 
-pub hears_as : (r s : Client) (far : FarState) (v : DownSeen) (m : List ℕ) (x y : Option (List ℕ)) → far ≡ far_taken r.far m → v ≡ far_seen r.far m → s ≡ after_seen (with_end r far) v → Appends x y (written_of (with_end r far) v) → Stays v
-    → Hears r s (Some m) x y
-hears_as r s far v m x y f e is written stays = record {
+pub hears_as : (r s : Client) (far : FarState) (v : DownSeen) (m : List ℕ) (t u : Telling) → far ≡ far_taken r.far m → v ≡ far_seen r.far m → s ≡ after_seen (with_end r far) v → Went t u (written (written_of (with_end r far) v)) → Stays v
+    → Hears r s m t u
+hears_as r s far v m t u f e is went stays = record {
   is = is ∙ (ap (λ (g : FarState). after_seen (with_end r g) v) f ∙ ap (λ (w : DownSeen). after_seen (with_end r (far_taken r.far m)) w) e);
-  written = subst (λ (w : DownSeen). Appends x y (written_of (with_end r (far_taken r.far m)) w)) e (subst (λ (g : FarState). Appends x y (written_of (with_end r g) v)) f written);
+  went = subst (λ (w : DownSeen). Went t u (written (written_of (with_end r (far_taken r.far m)) w))) e (subst (λ (g : FarState). Went t u (written (written_of (with_end r g) v))) f went);
   stays = subst Stays e stays;
 }
 
-pub ends_as : (P : DownSeen → Type 0) (r : Client) (far : FarState) (v : DownSeen) (m : List ℕ) (x y : Option (List ℕ)) → far ≡ far_taken r.far m → v ≡ far_seen r.far m → P v → Appends x y (written_of (with_end r far) v) → Ends P r (Some m) x y
-ends_as P r far v m x y f e p written = record {
+pub ends_as : (P : DownSeen → Type 0) (r : Client) (far : FarState) (v : DownSeen) (m : List ℕ) (t u : Telling) → far ≡ far_taken r.far m → v ≡ far_seen r.far m → P v → Went t u (written (written_of (with_end r far) v)) → Ends P r m t u
+ends_as P r far v m t u f e p went = record {
   ended = subst P e p;
-  written = subst (λ (w : DownSeen). Appends x y (written_of (with_end r (far_taken r.far m)) w)) e (subst (λ (g : FarState). Appends x y (written_of (with_end r g) v)) f written);
+  went = subst (λ (w : DownSeen). Went t u (written (written_of (with_end r (far_taken r.far m)) w))) e (subst (λ (g : FarState). Went t u (written (written_of (with_end r g) v))) f went);
 }
 
-pub front_as : (r : Client) (far : FarState) (v : DownSeen) (m : List ℕ) (x y : Option (List ℕ)) → far ≡ far_taken r.far m → v ≡ far_seen r.far m → GrowsByFront x y (written_of (with_end r far) v) → GrowsByFront x y (text_in r (Some m))
-front_as r far v m x y f e front = subst (λ (w : DownSeen). GrowsByFront x y (written_of (with_end r (far_taken r.far m)) w)) e (subst (λ (g : FarState). GrowsByFront x y (written_of (with_end r g) v)) f front)
-
--- what only a fault stops is not over
-pub not_lost : {T : Type 0} (P : Type 0) (r : Result T Stop) → IfErr r IsFault → r ≡ Err stop.Lost → P
-not_lost P r h e = let no : ⊥ = subst (λ (q : Result _ Stop). IfErr q IsFault) e h in absurd no
-
-pub not_full : {T : Type 0} (P : Type 0) (r : Result T Stop) → IfErr r IsFault → r ≡ Err stop.Full → P
-not_full P r h e = let no : ⊥ = subst (λ (q : Result _ Stop). IfErr q IsFault) e h in absurd no
-
--- ---- a datagram
-
-pub takes_none : (r : Client) (j : Joining) (bytes : List ℕ) (x : Option (List ℕ)) → joined_as j None ≡ taken r.joiner bytes → TakesAs r (record r { joiner = j }) bytes x x
-takes_none r j bytes x h = record {
-  is = ap (λ (t : Joined). heard_in (record r { joiner = t.joining }) t.message) h;
-  written = subst (λ (t : Joined). Appends x x (text_in (record r { joiner = t.joining }) t.message)) h (Appends-nil x);
-  stays = subst (λ (t : Joined). Stays (seen_in r t.message)) h tt;
-}
-
-pub takes_some : (r s : Client) (j : Joining) (m bytes : List ℕ) (x y : Option (List ℕ)) → joined_as j (Some m) ≡ taken r.joiner bytes → Hears (record r { joiner = j }) s (Some m) x y → TakesAs r s bytes x y
-takes_some r s j m bytes x y h p = record {
-  is = p.is ∙ ap (λ (t : Joined). heard_in (record r { joiner = t.joining }) t.message) h;
-  written = subst (λ (t : Joined). Appends x y (text_in (record r { joiner = t.joining }) t.message)) h p.written;
-  stays = subst (λ (t : Joined). Stays (seen_in r t.message)) h p.stays;
-}
-
-pub take_ends : (P : DownSeen → Type 0) (r : Client) (j : Joining) (m bytes : List ℕ) (x y : Option (List ℕ)) → joined_as j (Some m) ≡ taken r.joiner bytes → Ends P (record r { joiner = j }) (Some m) x y → TakeEnds P r bytes x y
-take_ends P r j m bytes x y h p = record {
-  ended = subst (λ (t : Joined). P (seen_in r t.message)) h p.ended;
-  written = subst (λ (t : Joined). Appends x y (text_in (record r { joiner = t.joining }) t.message)) h p.written;
-}
-
-pub front_none : (r : Client) (j : Joining) (bytes : List ℕ) (x : Option (List ℕ)) → joined_as j None ≡ taken r.joiner bytes → GrowsByFront x x (text_taken r bytes)
-front_none r j bytes x h = none_front x (text_taken r bytes)
-
-pub front_some : (r : Client) (j : Joining) (m bytes : List ℕ) (x y : Option (List ℕ)) → joined_as j (Some m) ≡ taken r.joiner bytes → GrowsByFront x y (text_in (record r { joiner = j }) (Some m)) → GrowsByFront x y (text_taken r bytes)
-front_some r j m bytes x y h p = subst (λ (t : Joined). GrowsByFront x y (text_in (record r { joiner = t.joining }) t.message)) h p
+pub front_as : (r : Client) (far : FarState) (v : DownSeen) (m : List ℕ) (t u : Telling) → far ≡ far_taken r.far m → v ≡ far_seen r.far m → WentFront t u (written (written_of (with_end r far) v)) → WentFront t u (written (text_in r (Some m)))
+front_as r far v m t u f e front = subst (λ (w : DownSeen). WentFront t u (written (written_of (with_end r (far_taken r.far m)) w))) e (subst (λ (g : FarState). WentFront t u (written (written_of (with_end r g) v))) f front)
 
 -- ---- a receive
 
-one_went : (a b : Option (List LinkCall)) (network : ℕ) (bytes : List ℕ) → Grows a b (call.Received network bytes ∷ []) → Went a b (call.Received network bytes ∷ [])
-one_went a b network bytes h = record { calls = call.Received network bytes ∷ []; told = h; are = refl }
+no_message : (n : ℕ) (o : Option (List ℕ)) → ◌≡◌ {A = Option (ℕ × List ℕ)} None (option_map (λ m. (n, m)) o) → o ≡ None
+no_message n None e = refl
+no_message n (Some m) e = absurd cc
 
-quiet_went : (a b : Option (List LinkCall)) → Grows a b (call.Quiet ∷ []) → Went a b (call.Quiet ∷ [])
-quiet_went a b h = record { calls = call.Quiet ∷ []; told = h; are = refl }
+second : Option (ℕ × List ℕ) → List ℕ
+second None = []
+second (Some x) = x.1
 
-failed_went : (a b : Option (List LinkCall)) → Grows a b (call.Failed ∷ []) → Went a b (call.Failed ∷ [])
-failed_went a b h = record { calls = call.Failed ∷ []; told = h; are = refl }
+one_message : (n network : ℕ) (message : List ℕ) (o : Option (List ℕ)) → ◌≡◌ {A = Option (ℕ × List ℕ)} (Some (network, message)) (option_map (λ m. (n, m)) o) → o ≡ Some message
+unfolding second
+one_message n network message None e = absurd cc
+one_message n network message (Some m) e = ap Some (sym (ap second e))
 
-pub receives_datagram : (r s : Client) (network : ℕ) (bytes : List ℕ) (a b : Option (List LinkCall)) (x y : Option (List ℕ)) → Grows a b (call.Received network bytes ∷ []) → TakesAs (record r { failed = 0 }) s bytes x y → ReceivesAs r s a b x y
+got_went : (t u : Telling) (got : LinkCall) → IsReceive got → Did t u (Exchanged got ∷ []) → Went t u (Exchanged got ∷ [])
+got_went t u (call.Received k b) r h = went_as t u (Exchanged (call.Received k b)) (Exchanged (call.Received k b)) refl h
+got_went t u call.Quiet r h = went_as t u (Exchanged call.Quiet) (Exchanged call.Quiet) refl h
+got_went t u call.Failed r h = went_as t u (Exchanged call.Failed) (Exchanged call.Failed) refl h
+got_went t u (call.Sent n k b o) r h = absurd r
+
+-- the client as it received
+abbrev received : Client → Receiving → Client
+received r q = record r { receiving = q }
+
+-- no message is whole by it
+pub receives_nothing : (r : Client) (q : Receiving) (t u : Telling) → Receives r.receiving q None t u → ReceivesAs r (received r q) t u
 unfolding heard_by text_by seen_by
-receives_datagram r s network bytes a b x y h p = record {
-  got = call.Received network bytes;
-  receive = tt;
-  went = one_went a b network bytes h;
-  written = p.written;
-  is = p.is;
-  stays = p.stays;
-}
+receives_nothing r q t u h =
+    let none : (joined_by h.got r.receiving.joiner).message ≡ None = no_message (network_of h.got) (joined_by h.got r.receiving.joiner).message h.whole_is in
+    record {
+      got = h.got;
+      receive = h.receive;
+      went = subst (λ (m : Option (List ℕ)). Went t u (Exchanged h.got ∷ written (text_in (joined h.got r) m))) (sym none) (got_went t u h.got h.receive h.told);
+      is = ap (received r) h.is ∙ sym (ap (heard_in (joined h.got r)) none);
+      stays = subst (λ (m : Option (List ℕ)). Stays (seen_in r m)) (sym none) tt;
+    }
 
-pub receives_quiet : (r : Client) (a b : Option (List LinkCall)) (x : Option (List ℕ)) → Grows a b (call.Quiet ∷ []) → ReceivesAs r (record r { failed = 0 }) a b x x
+pub receives_message : (r s : Client) (q : Receiving) (network : ℕ) (message : List ℕ) (t u v : Telling) → Receives r.receiving q (Some (network, message)) t u → Hears (received r q) s message u v → ReceivesAs r s t v
 unfolding heard_by text_by seen_by
-receives_quiet r a b x h = record { got = call.Quiet; receive = tt; went = quiet_went a b h; written = Appends-nil x; is = refl; stays = tt }
+receives_message r s q network message t u v h n =
+    let whole : (joined_by h.got r.receiving.joiner).message ≡ Some message = one_message (network_of h.got) network message (joined_by h.got r.receiving.joiner).message h.whole_is in
+    let m : Hears (joined h.got r) s message u v = subst (λ (x : Receiving). Hears (received r x) s message u v) h.is n in
+    record {
+      got = h.got;
+      receive = h.receive;
+      went = subst (λ (o : Option (List ℕ)). Went t v (Exchanged h.got ∷ written (text_in (joined h.got r) o))) (sym whole)
+          (went_on t u v (Exchanged h.got ∷ []) (written (text_in (joined h.got r) (Some message))) (got_went t u h.got h.receive h.told) m.went);
+      is = m.is ∙ sym (ap (heard_in (joined h.got r)) whole);
+      stays = subst (λ (o : Option (List ℕ)). Stays (seen_in r o)) (sym whole) m.stays;
+    }
 
-pub receives_failed : (r : Client) (n : ℕ) (a b : Option (List LinkCall)) (x : Option (List ℕ)) → n ≡ min (r.failed + 1) 16 → Grows a b (call.Failed ∷ []) → ReceivesAs r (record r { failed = n }) a b x x
-unfolding heard_by text_by seen_by
-receives_failed r n a b x is h = record {
-  got = call.Failed;
-  receive = tt;
-  went = failed_went a b h;
-  written = Appends-nil x;
-  is = ap (λ (k : ℕ). record r { failed = k }) is;
-  stays = tt;
-}
-
-pub receive_ends : (P : DownSeen → Type 0) (r : Client) (network : ℕ) (bytes : List ℕ) (a b : Option (List LinkCall)) (x y : Option (List ℕ)) → Grows a b (call.Received network bytes ∷ []) → TakeEnds P (record r { failed = 0 }) bytes x y → ReceiveEnds P r a b x y
+pub receive_ends : (P : DownSeen → Type 0) (r : Client) (q : Receiving) (network : ℕ) (message : List ℕ) (t u v : Telling) → Receives r.receiving q (Some (network, message)) t u → Ends P (received r q) message u v → ReceiveEnds P r t v
 unfolding text_by seen_by
-receive_ends P r network bytes a b x y h p = record { got = call.Received network bytes; receive = tt; went = one_went a b network bytes h; written = p.written; ended = p.ended }
+receive_ends P r q network message t u v h n =
+    let whole : (joined_by h.got r.receiving.joiner).message ≡ Some message = one_message (network_of h.got) network message (joined_by h.got r.receiving.joiner).message h.whole_is in
+    let m : Ends P (joined h.got r) message u v = subst (λ (x : Receiving). Ends P (received r x) message u v) h.is n in
+    record {
+      got = h.got;
+      receive = h.receive;
+      went = subst (λ (o : Option (List ℕ)). Went t v (Exchanged h.got ∷ written (text_in (joined h.got r) o))) (sym whole)
+          (went_on t u v (Exchanged h.got ∷ []) (written (text_in (joined h.got r) (Some message))) (got_went t u h.got h.receive h.told) m.went);
+      ended = subst (λ (o : Option (List ℕ)). P (seen_in r o)) (sym whole) m.ended;
+    }
 
-pub breaks_datagram : (r : Client) (network : ℕ) (bytes : List ℕ) (a b : Option (List LinkCall)) (x y : Option (List ℕ)) → Grows a b (call.Received network bytes ∷ []) → GrowsByFront x y (text_taken (record r { failed = 0 }) bytes) → ReceiveBreaks r a b x y
+pub front_message : (r : Client) (q : Receiving) (network : ℕ) (message : List ℕ) (t u v : Telling) → Receives r.receiving q (Some (network, message)) t u → WentFront u v (written (text_in (received r q) (Some message))) → ReceiveFront r t v
 unfolding text_by
-breaks_datagram r network bytes a b x y h front = record { got = call.Received network bytes; receive = tt; went = all_went a b _ (one_went a b network bytes h); front = front }
+front_message r q network message t u v h n =
+    let whole : (joined_by h.got r.receiving.joiner).message ≡ Some message = one_message (network_of h.got) network message (joined_by h.got r.receiving.joiner).message h.whole_is in
+    let m : WentFront u v (written (text_in (joined h.got r) (Some message))) = subst (λ (x : Receiving). WentFront u v (written (text_in (received r x) (Some message)))) h.is n in
+    record {
+      got = h.got;
+      receive = h.receive;
+      front = subst (λ (o : Option (List ℕ)). WentFront t v (Exchanged h.got ∷ written (text_in (joined h.got r) o))) (sym whole)
+          (went_front_on t u v (Exchanged h.got ∷ []) (written (text_in (joined h.got r) (Some message))) (got_went t u h.got h.receive h.told) m);
+    }
 
-pub breaks_quiet : (r : Client) (a b : Option (List LinkCall)) (x : Option (List ℕ)) → Grows a b (call.Quiet ∷ []) → ReceiveBreaks r a b x x
-breaks_quiet r a b x h = record { got = call.Quiet; receive = tt; went = all_went a b _ (quiet_went a b h); front = none_front x _ }
-
-pub breaks_failed : (r : Client) (a b : Option (List LinkCall)) (x : Option (List ℕ)) → Grows a b (call.Failed ∷ []) → ReceiveBreaks r a b x x
-breaks_failed r a b x h = record { got = call.Failed; receive = tt; went = all_went a b _ (failed_went a b h); front = none_front x _ }
-
-pub breaks_none : (r : Client) (a b : Option (List LinkCall)) (x : Option (List ℕ)) → Same a b → ReceiveBreaks r a b x x
-breaks_none r a b x h = record { got = call.Quiet; receive = tt; went = same_went a b _ h; front = none_front x _ }
+pub front_none : (r : Client) (t u : Telling) → ReceivesFront t u → ReceiveFront r t u
+front_none r t u h = record { got = h.got; receive = h.receive; front = went_front_more t u (Exchanged h.got ∷ []) (written (text_by h.got r)) h.front }
 
 -- ---- a turn
 
@@ -188,29 +177,29 @@ breaks_none r a b x h = record { got = call.Quiet; receive = tt; went = same_wen
 stands : (lines : List (List ℕ)) (r q p : Client) → q ≡ call_made lines r → p ≡ up_sent q → p ≡ begun lines r
 stands lines r q p made sent = sent ∙ ap up_sent made
 
-up_of : (lines : List (List ℕ)) (r q : Client) (a b : Option (List LinkCall)) → q ≡ call_made lines r → Went a b (up_call q ∷ []) → Went a b (up_call (call_made lines r) ∷ [])
-up_of lines r q a b made w = subst (λ (c : Client). Went a b (up_call c ∷ [])) made w
+up_of : (lines : List (List ℕ)) (r q : Client) (t u : Telling) → q ≡ call_made lines r → Went t u (Exchanged (up_call q) ∷ []) → Went t u (Exchanged (up_call (call_made lines r)) ∷ [])
+up_of lines r q t u made w = subst (λ (c : Client). Went t u (Exchanged (up_call c) ∷ [])) made w
 
-pub turns_as : (lines : List (List ℕ)) (r q p s : Client) (a b d : Option (List LinkCall)) (x y : Option (List ℕ)) → q ≡ call_made lines r → p ≡ up_sent q → Went a b (up_call q ∷ []) → ReceivesAs p s b d x y → TurnsAs lines r s a d x y
-unfolding turned turn_calls turn_text turn_seen
-turns_as lines r q p s a b d x y made sent w h =
-    let g : ReceivesAs (begun lines r) s b d x y = subst (λ (c : Client). ReceivesAs c s b d x y) (stands lines r q p made sent) h in
-    record { got = g.got; receive = g.receive; went = went_on a b d _ _ (up_of lines r q a b made w) g.went; written = g.written; is = g.is; stays = g.stays }
+pub turns_as : (lines : List (List ℕ)) (r q p s : Client) (t u v : Telling) → q ≡ call_made lines r → p ≡ up_sent q → Went t u (Exchanged (up_call q) ∷ []) → ReceivesAs p s u v → TurnsAs lines r s t v
+unfolding turned turn_deeds turn_seen
+turns_as lines r q p s t u v made sent w h =
+    let g : ReceivesAs (begun lines r) s u v = subst (λ (c : Client). ReceivesAs c s u v) (stands lines r q p made sent) h in
+    record { got = g.got; receive = g.receive; went = went_on t u v _ _ (up_of lines r q t u made w) g.went; is = g.is; stays = g.stays }
 
-pub turn_ends : (P : DownSeen → Type 0) (lines : List (List ℕ)) (r q p : Client) (a b d : Option (List LinkCall)) (x y : Option (List ℕ)) → q ≡ call_made lines r → p ≡ up_sent q → Went a b (up_call q ∷ []) → ReceiveEnds P p b d x y → TurnEnds P lines r a d x y
-unfolding turn_calls turn_text turn_seen
-turn_ends P lines r q p a b d x y made sent w h =
-    let g : ReceiveEnds P (begun lines r) b d x y = subst (λ (c : Client). ReceiveEnds P c b d x y) (stands lines r q p made sent) h in
-    record { got = g.got; receive = g.receive; went = went_on a b d _ _ (up_of lines r q a b made w) g.went; written = g.written; ended = g.ended }
+pub turn_ends : (P : DownSeen → Type 0) (lines : List (List ℕ)) (r q p : Client) (t u v : Telling) → q ≡ call_made lines r → p ≡ up_sent q → Went t u (Exchanged (up_call q) ∷ []) → ReceiveEnds P p u v → TurnEnds P lines r t v
+unfolding turn_deeds turn_seen
+turn_ends P lines r q p t u v made sent w h =
+    let g : ReceiveEnds P (begun lines r) u v = subst (λ (c : Client). ReceiveEnds P c u v) (stands lines r q p made sent) h in
+    record { got = g.got; receive = g.receive; went = went_on t u v _ _ (up_of lines r q t u made w) g.went; ended = g.ended }
 
-pub turn_breaks : (lines : List (List ℕ)) (r q p : Client) (a b d : Option (List LinkCall)) (x y : Option (List ℕ)) → q ≡ call_made lines r → p ≡ up_sent q → Went a b (up_call q ∷ []) → ReceiveBreaks p b d x y → TurnBreaks lines r a d x y
-unfolding turn_calls turn_text
-turn_breaks lines r q p a b d x y made sent w h =
-    let g : ReceiveBreaks (begun lines r) b d x y = subst (λ (c : Client). ReceiveBreaks c b d x y) (stands lines r q p made sent) h in
-    record { got = g.got; receive = g.receive; went = went_front_on a b d _ _ (up_of lines r q a b made w) g.went; front = g.front }
+pub turn_front : (lines : List (List ℕ)) (r q p : Client) (t u v : Telling) → q ≡ call_made lines r → p ≡ up_sent q → Went t u (Exchanged (up_call q) ∷ []) → ReceiveFront p u v → TurnFront lines r t v
+unfolding turn_deeds
+turn_front lines r q p t u v made sent w h =
+    let g : ReceiveFront (begun lines r) u v = subst (λ (c : Client). ReceiveFront c u v) (stands lines r q p made sent) h in
+    record { got = g.got; receive = g.receive; front = went_front_on t u v _ _ (up_of lines r q t u made w) g.front }
 
-pub turn_breaks_call : (lines : List (List ℕ)) (r : Client) (a : Option (List LinkCall)) (x : Option (List ℕ)) → TurnBreaks lines r a a x x
-turn_breaks_call lines r a x = record { got = call.Quiet; receive = tt; went = none_went a _; front = none_front x _ }
+pub turn_unbegun : (lines : List (List ℕ)) (r : Client) (t : Telling) → TurnFront lines r t t
+turn_unbegun lines r t = record { got = call.Quiet; receive = tt; front = none_went t _ }
 
-pub turn_breaks_send : (lines : List (List ℕ)) (r : Client) (a b : Option (List LinkCall)) (x : Option (List ℕ)) → Same a b → TurnBreaks lines r a b x x
-turn_breaks_send lines r a b x h = record { got = call.Quiet; receive = tt; went = same_went a b _ h; front = none_front x _ }
+pub turn_unsent : (lines : List (List ℕ)) (r : Client) (t u : Telling) → Did t u [] → TurnFront lines r t u
+turn_unsent lines r t u h = record { got = call.Quiet; receive = tt; front = still_went t u _ h }

@@ -1,16 +1,18 @@
 -- What a client does in its turns, by what it receives: what it sends, what it writes, and how it stands then.
-use Rattle.std.specs.Prelude.{ℕ, ◌+◌, Bool, true, false, List, [], ◌∷◌, ◌++◌, codes, decimal, drop, flat_map, length, slice_get, Option, Some, None, if◌then◌else◌}
+use Rattle.std.specs.Prelude.{ℕ, ◌+◌, Bool, true, List, [], ◌∷◌, ◌++◌, codes, decimal, drop, flat_map, length, slice_get, Option, Some, None, if◌then◌else◌}
 use Rattle.rsct_packet.specs.Ids.{risen}
 use Rattle.hags_io.specs.declared.link.LinkCall.{LinkCall}
 use Rattle.hags_io.specs.declared.link.LinkCall.TheVariants as call
 use Rattle.piece_link.specs.declared.piece.PieceHead.{PieceHead}
-use Rattle.piece_link.specs.Joining.{taken}
 use Rattle.piece_link.specs.Pieces.{head_text}
 use Rattle.remote_session.specs.declared.far.DownSeen.{DownSeen}
 use Rattle.remote_session.specs.declared.far.DownSeen.TheVariants as seen
 use Rattle.remote_session.specs.Messages.{up_text}
 use Rattle.remote_session.specs.Client.{FarState, may_call, far_called, up_from, far_seen, far_taken}
-use Rattle.daemon_model.specs.Daemon.{joined_by, failed_by}
+use Rattle.daemon_model.specs.Daemon.{joined_by}
+use Rattle.hags_io.specs.Deeds.{Deed, Exchanged}
+use Rattle.hags_io.specs.Fronts.{written}
+use Rattle.link_use.specs.Receiving.{received_by}
 use Rattle.client_run.specs.declared.client.Client.{Client}
 
 -- ---- the call that is made
@@ -95,21 +97,13 @@ abbrev pub text_in : Client → Option (List ℕ) → List ℕ
 text_in c None = []
 text_in c (Some message) = written_of (far_after c message) (far_seen c.far message)
 
--- the bytes of a datagram
-
-abbrev pub joined_with : List ℕ → Client → Client
-joined_with bytes c = record c { joiner = (taken c.joiner bytes).joining }
-
-abbrev pub text_taken : Client → List ℕ → List ℕ
-text_taken c bytes = text_in (joined_with bytes c) (taken c.joiner bytes).message
-
 -- ---- a receive
 
 abbrev pub joined : LinkCall → Client → Client
-joined got c = record c { joiner = (joined_by got c.joiner).joining; failed = failed_by got c.failed }
+joined got c = record c { receiving = received_by got c.receiving }
 
 abbrev pub message_by : LinkCall → Client → Option (List ℕ)
-message_by got c = (joined_by got c.joiner).message
+message_by got c = (joined_by got c.receiving.joiner).message
 
 unfoldable pub seen_by : LinkCall → Client → DownSeen
 seen_by got c = seen_in c (message_by got c)
@@ -128,11 +122,9 @@ begun lines c = up_sent (call_made lines c)
 unfoldable pub turned : List (List ℕ) → Client → LinkCall → Client
 turned lines c got = heard_by got (begun lines c)
 
-unfoldable pub turn_calls : List (List ℕ) → Client → LinkCall → List LinkCall
-turn_calls lines c got = up_call (call_made lines c) ∷ got ∷ []
-
-unfoldable pub turn_text : List (List ℕ) → Client → LinkCall → List ℕ
-turn_text lines c got = text_by got (begun lines c)
+-- the Up goes out, a receive is done, and what it brings is written
+unfoldable pub turn_deeds : List (List ℕ) → Client → LinkCall → List Deed
+turn_deeds lines c got = Exchanged (up_call (call_made lines c)) ∷ Exchanged got ∷ written (text_by got (begun lines c))
 
 -- what the message that was whole by it was to the client's end
 unfoldable pub turn_seen : List (List ℕ) → Client → LinkCall → DownSeen
@@ -144,17 +136,12 @@ unfoldable pub turned_all : List (List ℕ) → Client → List LinkCall → Cli
 turned_all lines c [] = c
 turned_all lines c (got ∷ gots) = turned_all lines (turned lines c got) gots
 
--- all that was received and sent, with each send as if it went out
-unfoldable pub all_calls : List (List ℕ) → Client → List LinkCall → List LinkCall
-all_calls lines c [] = []
-all_calls lines c (got ∷ gots) = turn_calls lines c got ++ all_calls lines (turned lines c got) gots
-
--- all that was written
-unfoldable pub all_text : List (List ℕ) → Client → List LinkCall → List ℕ
-all_text lines c [] = []
-all_text lines c (got ∷ gots) = turn_text lines c got ++ all_text lines (turned lines c got) gots
+-- all that is done in them, in its order
+unfoldable pub all_deeds : List (List ℕ) → Client → List LinkCall → List Deed
+all_deeds lines c [] = []
+all_deeds lines c (got ∷ gots) = turn_deeds lines c got ++ all_deeds lines (turned lines c got) gots
 
 -- opens each word of this file, for a computation
 unfoldable pub turns_opens : Unit {0}
-unfolding call_made up_piece up_call event_lines answer_line told_text told_with seen_by heard_by text_by turned turn_calls turn_text turn_seen turned_all all_calls all_text
+unfolding call_made up_piece up_call event_lines answer_line told_text told_with seen_by heard_by text_by turned turn_deeds turn_seen turned_all all_deeds
 turns_opens = tt

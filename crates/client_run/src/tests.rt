@@ -5,7 +5,7 @@ ghost use Rattle.rsct_packet.specs.Format.{EachFits};
 ghost use Rattle.client_run.specs.Running.{IsCall};
 
 use crate::{ClientFault, Usage, use_daemon};
-use hags_io::{LinkFails, MemClock, MemLink, MemSink};
+use hags_io::{History, LinkFails, MemClock, MemLink, MemSink, Parts};
 use node_state::{Config, Mode};
 use rsct_packet::{List, Mask, NoMemory};
 use std::alloc::Global;
@@ -98,21 +98,16 @@ fn ends(
     turns: u32,
     want: &[u8],
 ) -> Result<(Result<(), ClientFault>, bool), NoMemory> {
-    let mut link = link_of(alloc, pieces)?;
-    let mut clock = MemClock::new(vec![in alloc; 7]?);
-    let mut out = MemSink::new(alloc, Vec::new(alloc));
+    let mut outside = Parts {
+        out: MemSink::new(alloc, Vec::new(alloc)),
+        link: link_of(alloc, pieces)?,
+        clock: MemClock::new(vec![in alloc; 7]?),
+        history: History::new(),
+    };
     let lines = one_call(alloc, b"client 1 a -")?;
     let usage = Usage { node: 1, turns };
-    let ended = use_daemon(
-        alloc,
-        &settings(),
-        &lines,
-        usage,
-        &mut out,
-        &mut link,
-        &mut clock,
-    );
-    Ok((ended, out.held() == want))
+    let ended = use_daemon(alloc, &settings(), &lines, usage, &mut outside);
+    Ok((ended, outside.out.held() == want))
 }
 
 #[test]

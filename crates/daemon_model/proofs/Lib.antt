@@ -1,2 +1,5 @@
-pub mod AloneLaws
 pub mod ActionLaws
+pub mod AddLaws
+pub mod AloneLaws
+pub mod DoingLaws
+pub mod MadeLaws

@@ -1,7 +1,9 @@
 pub mod Sent
 pub mod Daemon
 pub mod Actions
+pub mod Doings
 pub mod Settings
 pub mod Lives
+pub mod Laws
 pub mod Samples
 pub mod Opens

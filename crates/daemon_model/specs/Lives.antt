@@ -1,13 +1,10 @@
--- How a daemon that ran over a link, a sink and a clock lived as it is defined.
-use Rattle.std.specs.Prelude.{◌≡◌, ℕ, Bool, ◌<◌, ◌≤◌, List, [], ◌∷◌, length, Option}
-use Rattle.std.specs.Io.KnownBytes.{Appends}
-use Rattle.hags_io.specs.Edges.{GrowsByFront}
-use Rattle.hags_io.specs.Links.{Counts}
-use Rattle.hags_io.specs.declared.link.LinkCall.{LinkCall}
+-- How a daemon that ran over an outside lived as it is defined.
+use Rattle.std.specs.Prelude.{◌≡◌, ℕ, Bool, ◌<◌, ◌≤◌, List, [], ◌∷◌, length}
+use Rattle.hags_io.specs.Telling.{Telling}
 use Rattle.node_state.specs.declared.state.Core.{Core}
 use Rattle.world_model.specs.declared.script.Script.{Script}
-use Rattle.daemon_model.specs.Sent.{Made, MadeFront}
-use Rattle.daemon_model.specs.Daemon.{Daemon, Life, Turn, opening_calls, own_calls, life_moments, begun_for, opened_all, turned, lived, records_text}
+use Rattle.daemon_model.specs.Daemon.{Daemon, Life, Turn, opening_calls, own_calls, begun_for, opened_all, turned, lived}
+use Rattle.daemon_model.specs.Doings.{life_doings, Made, MadeFront}
 
 -- so many receives that fail in a row end a daemon
 abbrev pub most_failed : ℕ
@@ -25,42 +22,36 @@ abbrev pub GoesOn : Daemon → List Turn → Type 0
 GoesOn d [] = Unit {0}
 GoesOn d (t ∷ ts) = ((turned d t).failed < most_failed) × GoesOn (turned d t) ts
 
--- The daemon lived this life, whose calls are those of the settings, and served clients on other machines or not: the clock
--- was read at its moments, the link's list grew by what it receives and sends, each packet of that is spelled, and the
--- lines of its records were written.
-pub record Lived (script : Script) (me incarnation : ℕ) (remote : Bool) (life : Life) (a b : Option (List LinkCall)) (x y : Option (List ℕ)) (u v : Option (List ℕ)) : Type 0 where
+-- The daemon lived this life, whose calls are those of the settings, and served clients on other machines or not: what it did
+-- are the doings of that life, in their order.
+pub record Lived (script : Script) (me incarnation : ℕ) (remote : Bool) (life : Life) (old new : Telling) : Type 0 where
   pub serves : life.remote ≡ remote
   pub opening : opening_calls life ≡ own_calls me script.lines
-  pub moments : Counts u v (life_moments life)
-  pub made : Made a b (last_of script me incarnation life).calls
-  pub written : Appends x y (records_text (last_of script me incarnation life).records)
+  pub made : Made old new (life_doings script.config me incarnation life)
 
--- It broke off on the way: of what is received and sent, and of the lines, there is a front. Each packet of which a piece
--- was sent is spelled.
-pub record LivedFront (script : Script) (me incarnation : ℕ) (remote : Bool) (life : Life) (a b : Option (List LinkCall)) (x y : Option (List ℕ)) (u v : Option (List ℕ)) : Type 0 where
+-- It broke off on the way: what it did are a front of those doings.
+pub record LivedFront (script : Script) (me incarnation : ℕ) (remote : Bool) (life : Life) (old new : Telling) : Type 0 where
   pub serves : life.remote ≡ remote
   pub opening : opening_calls life ≡ own_calls me script.lines
-  pub moments : Counts u v (life_moments life)
-  pub made : MadeFront a b (last_of script me incarnation life).calls
-  pub front : GrowsByFront x y (records_text (last_of script me incarnation life).records)
+  pub made : MadeFront old new (life_doings script.config me incarnation life)
 
 -- it did all its turns, and its node is in this state
-pub record ServesAs (script : Script) (me incarnation : ℕ) (remote : Bool) (turns : ℕ) (core : Core) (a b : Option (List LinkCall)) (x y : Option (List ℕ)) (u v : Option (List ℕ)) : Type 0 where
+pub record ServesAs (script : Script) (me incarnation : ℕ) (remote : Bool) (turns : ℕ) (core : Core) (old new : Telling) : Type 0 where
   pub life : Life
-  pub lived : Lived script me incarnation remote life a b x y u v
+  pub lived : Lived script me incarnation remote life old new
   pub so_many : length life.turns ≡ turns
   pub goes_on : GoesOn (first_of script me incarnation life) life.turns
   pub core_is : core ≡ (last_of script me incarnation life).core
 
 -- at most so many turns, and in the last of them the receive failed, and so many before it in a row
-pub record ServesTo (script : Script) (me incarnation : ℕ) (remote : Bool) (turns : ℕ) (a b : Option (List LinkCall)) (x y : Option (List ℕ)) (u v : Option (List ℕ)) : Type 0 where
+pub record ServesTo (script : Script) (me incarnation : ℕ) (remote : Bool) (turns : ℕ) (old new : Telling) : Type 0 where
   pub life : Life
-  pub lived : Lived script me incarnation remote life a b x y u v
+  pub lived : Lived script me incarnation remote life old new
   pub at_most : length life.turns ≤ turns
   pub ended : most_failed ≤ (last_of script me incarnation life).failed
 
--- at most so many turns, and it broke off in the last of them, or before them
-pub record ServesFront (script : Script) (me incarnation : ℕ) (remote : Bool) (turns : ℕ) (a b : Option (List LinkCall)) (x y : Option (List ℕ)) (u v : Option (List ℕ)) : Type 0 where
+-- at most so many turns, and it broke off in the last of them, or before them; or it did them all
+pub record ServesFront (script : Script) (me incarnation : ℕ) (remote : Bool) (turns : ℕ) (old new : Telling) : Type 0 where
   pub life : Life
-  pub lived : LivedFront script me incarnation remote life a b x y u v
+  pub lived : LivedFront script me incarnation remote life old new
   pub at_most : length life.turns ≤ turns

@@ -1,8 +1,7 @@
--- What a daemon sends: each packet in pieces. And how what a link tells compares with that: a send that fails is a lost packet.
-use Rattle.std.specs.Prelude.{◌≡◌, ℕ, ◌+◌, ◌<◌, ◌^◌, ◌==◌, ◌&&◌, not, Bool, true, false, List, [], ◌∷◌, ◌++◌, map, Option, Some}
+-- What a daemon sends: each packet in pieces. A send that fails is a lost packet.
+use Rattle.std.specs.Prelude.{◌≡◌, ℕ, ◌+◌, ◌<◌, ◌^◌, ◌==◌, ◌&&◌, not, Bool, true, false, List, [], ◌∷◌, ◌++◌, map, Some}
 use Rattle.hags_io.specs.declared.link.LinkCall.{LinkCall}
 use Rattle.hags_io.specs.declared.link.LinkCall.TheVariants as call
-use Rattle.hags_io.specs.Links.{Grows}
 use Rattle.piece_link.specs.Pieces.{can_cut, message_by, pieces_of}
 use Rattle.node_state.specs.declared.packet.Packet.{Packet}
 use Rattle.node_state.specs.Bytes.{packet_of, bytes_of}
@@ -104,7 +103,7 @@ unfoldable pub number_after : ℕ → List Packet → ℕ
 number_after number [] = number
 number_after number (p ∷ ps) = number_after (number_over number p) ps
 
--- ---- what a link tells of them
+-- ---- as if all went out
 
 -- each send as if it went out
 abbrev pub as_sent : LinkCall → LinkCall
@@ -112,19 +111,6 @@ as_sent (call.Sent node network bytes out) = call.Sent node network bytes true
 as_sent (call.Received network bytes) = call.Received network bytes
 as_sent call.Quiet = call.Quiet
 as_sent call.Failed = call.Failed
-
--- the link's list grew by these, whether the sends among them went out or not
-pub record Went (before after : Option (List LinkCall)) (more : List LinkCall) : Type 0 where
-  pub calls : List LinkCall
-  pub told : Grows before after calls
-  pub are : map as_sent calls ≡ more
-
--- it grew by a front of these
-pub record WentFront (before after : Option (List LinkCall)) (more : List LinkCall) : Type 0 where
-  pub calls : List LinkCall
-  pub back : List LinkCall
-  pub told : Grows before after calls
-  pub are : map as_sent calls ++ back ≡ more
 
 -- ---- what a daemon makes of them
 
@@ -142,18 +128,6 @@ IsSpelledIf (OfMessage number) = number < 2 ^ 64
 abbrev pub AllSpelled : List Exchange → Type 0
 AllSpelled [] = Unit {0}
 AllSpelled (x ∷ xs) = IsSpelledIf x.of × AllSpelled xs
-
--- the link's list grew by these, whether the sends among them went out or not; and each message among them is spelled
-pub record Made (before after : Option (List LinkCall)) (more : List Exchange) : Type 0 where
-  pub went : Went before after (map call_of more)
-  pub spelled : AllSpelled more
-
--- it grew by a front of these
-pub record MadeFront (before after : Option (List LinkCall)) (more : List Exchange) : Type 0 where
-  pub front : List Exchange
-  pub back : List Exchange
-  pub whole : front ++ back ≡ more
-  pub made : Made before after front
 
 -- opens each word of this file, for a computation
 unfoldable pub sent_opens : Unit {0}

@@ -5,6 +5,7 @@ ghost use Rattle.node_state.specs.declared.config.Config.{Config};
 ghost use Rattle.node_state.specs.HandOn.{Answering};
 ghost use Rattle.daemon_model.specs.Daemon.{Daemon, Life, joined_by, received, given, heard, lived};
 ghost use Rattle.daemon_model.specs.Actions.{LivesAreActions};
+ghost use Rattle.daemon_model.specs.Laws.{LivesAreDoings, FrontsOfFronts, WrittenFirst, FrontsExchange, PlacingsArePlaces};
 
 /// A daemon that serves no clients on other machines never has a session of one, and a message is one for its node.
 #[tactic(auto, using(crate::proofs::AloneLaws::lived_alone, crate::proofs::AloneLaws::heard_alone))]
@@ -19,4 +20,20 @@ pub fn alone_without_other_machines()
 #[tactic(auto, using(crate::proofs::ActionLaws::lives_are_actions))]
 pub fn lives_are_actions()
     ensures { LivesAreActions }
+{}
+
+/// What a daemon does at its edges, in its order, is what its life exchanges and records.
+pub fn lives_are_doings()
+    ensures lives { LivesAreDoings }
+    ensures fronts { FrontsExchange }
+    ensures places { PlacingsArePlaces }
+{}
+
+/// What a daemon did up to now is a front of a life's doings, whether it goes on, is killed, or ends by want of memory, a
+/// full disk or a lost link: what is said of all that it came to do (`ServesFront`) is so of each front of that. And where
+/// a packet of a step went out, the lines of all records up to that step's were written before.
+#[tactic(auto, using(crate::proofs::DoingLaws::fronts_of_fronts, crate::proofs::DoingLaws::written_first))]
+pub fn did_up_to_now()
+    ensures fronts { FrontsOfFronts }
+    ensures written { WrittenFirst }
 {}

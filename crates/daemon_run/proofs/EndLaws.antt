@@ -1,183 +1,160 @@
 -- How a daemon's whole life comes together.
-use Rattle.std.proofs.Common.{◌≡◌, ℕ, ◌≤◌, Bool, true, false, List, [], ◌∷◌, map, Option, Some, None, refl, sym, ap, subst, arith}
-use Rattle.hags_io.specs.declared.link.LinkCall.{LinkCall}
-use Rattle.hags_io.specs.Links.{Counts, Grows}
+use Rattle.std.proofs.Common.{◌≡◌, ℕ, ◌+◌, ◌≤◌, Bool, true, false, List, [], ◌∷◌, ◌++◌, map, refl, sym, ◌∙◌, ap, ap₂, subst, append_assoc, append-nil, arith}
+use Rattle.std.specs.Prelude.{flat_map, Option}
+use Rattle.hags_io.specs.Deeds.{Deed, Read, Opened}
+use Rattle.hags_io.specs.Edges.{Rose}
+use Rattle.hags_io.specs.Telling.{Telling, Did}
+use Rattle.hags_io.specs.Fronts.{EndsByWrite, EndsByReceive}
+use Rattle.hags_io.proofs.DeedLaws.{did_on}
+use Rattle.hags_io.proofs.FrontLaws.{went_as, rose_by_write, rose_by_receive}
 use Rattle.client_callbacks.specs.declared.votes.VoteItem.{VoteItem}
 use Rattle.client_callbacks.specs.Handed.{Handed}
-use Rattle.node_core.specs.Node.{NodeView}
+use Rattle.link_use.proofs.OpenLaws.{rose_after}
+use Rattle.node_state.specs.declared.config.Config.{Config}
 use Rattle.node_state.specs.declared.state.Core.{Core}
 use Rattle.node_state.specs.Step.{at_work}
 use Rattle.world_model.specs.declared.script.Script.{Script}
-use Rattle.daemon_model.specs.Sent.{Exchange, call_of, Went, Made, MadeFront}
-use Rattle.daemon_model.specs.Daemon.{Daemon, Life, Turn, begun_for, opened_all, turned_all, lived, turn_moments}
-use Rattle.daemon_model.specs.Lives.{GoesOn, Lived, ServesAs, ServesTo, ServesFront, most_failed}
+use Rattle.daemon_model.specs.Daemon.{Daemon, Opening, Turn, Life, fresh, begun_for, opened_all, lived}
+use Rattle.daemon_model.specs.Actions.{Action, Opens, did_all, turn_actions, life_actions}
+use Rattle.daemon_model.specs.Doings.{Doing, Reads, since, doings_of, life_doings, Made, MadeFront}
+use Rattle.daemon_model.specs.Lives.{GoesOn, Lived, LivedFront, ServesAs, ServesTo, ServesFront, most_failed}
+use Rattle.daemon_model.specs.Settings.{placings, openings}
+use Rattle.daemon_model.proofs.ActionLaws.{lives_are_actions, opens_done}
+use Rattle.daemon_model.proofs.AddLaws.{did_append, doings_append}
+use Rattle.daemon_model.proofs.MadeLaws.{made_on, all_made, made_front_on, made_front_more}
 use Rattle.daemon_run.specs.declared.hosted.Hosted.{Hosted}
 use Rattle.daemon_run.specs.declared.running.Running.{Running}
 use Rattle.daemon_run.specs.Hosting.{Known}
-use Rattle.daemon_run.specs.Doing.{daemon_of, Passes}
-use Rattle.daemon_run.specs.Calling.{Reached, BeginsAs, BeginBreaks}
-use Rattle.daemon_run.specs.Ends.{NothingDone, Opens, WasOpened, EndsByLink, NotOpened, Ran, HandsOver}
+use Rattle.daemon_run.specs.Doing.{daemon_of, Acts, Passes}
+use Rattle.daemon_run.specs.Calling.{opening_doings, opened_by, BeginsAs, BeginBreaks}
+use Rattle.daemon_run.specs.Ends.{HandsOver}
 use Rattle.daemon_run.specs.Audience.{Audience, no_audience, OpeningHands, TurnsHand, Attend, AttendWith}
-use Rattle.hags_io.specs.Links.{Same, Tells, was_opened}
-use Rattle.daemon_run.specs.Serving.{TurnsDone, TurnsEnded, TurnsBroken}
-use Rattle.daemon_run.proofs.ServeLaws.{counts_on}
-use Rattle.daemon_run.proofs.CallLaws.{reached_on, stopped_on}
+use Rattle.daemon_run.specs.Serving.{acts_in, TurnsDone, TurnsEnded, TurnsFront}
 
--- no turn was begun
-pub serves_none : (remote : Bool) (script : Script) (me inc moment turns : ℕ) (a b : Option (List LinkCall)) (x y u v : Option (List ℕ)) → Counts u v (moment ∷ []) → BeginBreaks remote script me inc moment a b x y → ServesFront script me inc remote turns a b x y u v
-unfolding lived turned_all
-serves_none remote script me inc moment turns a b x y u v at h = record {
-  life = record { remote = remote; start = moment; opening = h.opening; turns = [] };
-  lived = record { serves = refl; opening = h.are; moments = at; made = h.stopped.made; front = h.stopped.front };
-  at_most = omega arith;
-}
+-- ---- the doings of a life, part by part
+
+read_made : (t u : Telling) (moment : ℕ) → Did t u (Read moment ∷ []) → Made t u (Reads moment ∷ [])
+read_made t u moment h = record { went = went_as t u (Read moment) (Read moment) refl h; spelled = tt }
+
+-- the start, the calls of the settings, and the turns
+life_parts : (remote : Bool) (c : Config) (me inc moment : ℕ) (os : List Opening) (ts : List Turn)
+    → Reads moment ∷ (opening_doings remote c me inc moment os ++ doings_of (opened_by remote c me inc moment os) (acts_in ts)) ≡ life_doings c me inc (record { remote = remote; start = moment; opening = os; turns = ts })
+unfolding life_doings
+life_parts remote c me inc moment os ts =
+    let d : Daemon = begun_for remote c me inc moment in
+    let first : List Doing = since (fresh remote c me inc moment) d in
+    ap (λ x. Reads moment ∷ x)
+    (append_assoc first (doings_of d (map Opens os)) (doings_of (did_all d (map Opens os)) (acts_in ts)) ∙ ap (λ x. first ++ x) (sym (doings_append d (map Opens os) (acts_in ts))))
+
+last_is : (remote : Bool) (c : Config) (me inc moment : ℕ) (os : List Opening) (ts : List Turn) → lived c me inc (record { remote = remote; start = moment; opening = os; turns = ts }) ≡ did_all (opened_by remote c me inc moment os) (acts_in ts)
+last_is remote c me inc moment os ts =
+    lives_are_actions c me inc (record { remote = remote; start = moment; opening = os; turns = ts }) ∙ did_append (begun_for remote c me inc moment) (map Opens os) (acts_in ts)
 
 module _ {C : Type 0} where
-  pub lived_as : {A B : Known → List (Hosted C) → Audience → Type 0} (remote : Bool) (script : Script) (me inc moment : ℕ) (s t : Running C) (turns : List Turn) (a b c : Option (List LinkCall)) (x y z u v w : Option (List ℕ)) → Counts u v (moment ∷ []) → (h : BeginsAs A B remote script me inc moment s a b x y)
-      → Reached (turned_all (opened_all (begun_for remote script.config me inc moment) h.opening) turns) t a c x z → Counts v w (turn_moments turns)
-      → Lived script me inc remote (record { remote = remote; start = moment; opening = h.opening; turns = turns }) a c x z u w
-  unfolding lived
-  lived_as remote script me inc moment s t turns a b c x y z u v w at h r moments = record {
-    serves = refl;
-    opening = h.are;
-    moments = counts_on u v w (moment ∷ []) (turn_moments turns) at moments;
-    made = r.made;
-    written = r.written;
-  }
+  -- the daemon after its turns
+  after_turns : {A B : Known → List (Hosted C) → Audience → Type 0} (remote : Bool) (script : Script) (me inc moment : ℕ) (s q : Running C) (ts : List Turn) (t u v w : Telling) → (h : BeginsAs A B remote script me inc moment s t u) → (n : Acts s q v w (acts_in ts))
+      → did_all (opened_by remote script.config me inc moment h.opening) (acts_in ts)
+      ≡ daemon_of q ((opened_by remote script.config me inc moment h.opening).calls ++ n.calls) ((opened_by remote script.config me inc moment h.opening).records ++ n.records)
+  after_turns remote script me inc moment s q ts t u v w h n =
+      let d : Daemon = opened_by remote script.config me inc moment h.opening in
+      ap (λ (e : Daemon). did_all e (acts_in ts)) h.is ∙ n.is d.calls d.records
 
-  unfoldable pub serves_all : {A B D : Known → List (Hosted C) → Audience → Type 0} (remote : Bool) (script : Script) (me inc moment count : ℕ) (s t : Running C) (a b c : Option (List LinkCall)) (x y z u v w : Option (List ℕ)) → Counts u v (moment ∷ []) → BeginsAs A B remote script me inc moment s a b x y → TurnsDone D s t count b c y z v w
-      → ServesAs script me inc remote count (at_work t.node.core) a c x z u w
-  unfolding lived
-  serves_all remote script me inc moment count s t a b c x y z u v w at h q =
-      let d : Daemon = opened_all (begun_for remote script.config me inc moment) h.opening in
-      let r = reached_on d s t (λ e. turned_all e q.turns) a b c x y z h.reached q.done.goes in
+  lived_as : {A B : Known → List (Hosted C) → Audience → Type 0} (remote : Bool) (script : Script) (me inc moment : ℕ) (s q : Running C) (ts : List Turn) (t u v w : Telling) → Did t u (Read moment ∷ []) → (h : BeginsAs A B remote script me inc moment s u v)
+      → Acts s q v w (acts_in ts) → Lived script me inc remote (record { remote = remote; start = moment; opening = h.opening; turns = ts }) t w
+  lived_as remote script me inc moment s q ts t u v w at h n =
+      let d : Daemon = opened_by remote script.config me inc moment h.opening in
+      let done : n.done ≡ doings_of d (acts_in ts) = sym (ap (λ (e : Daemon). doings_of e (acts_in ts)) h.is ∙ n.are d.calls d.records) in
       record {
-        life = record { remote = remote; start = moment; opening = h.opening; turns = q.turns };
-        lived = lived_as remote script me inc moment s t q.turns a b c x y z u v w at h r q.done.moments;
-        so_many = q.so_many;
-        goes_on = subst (λ (e : Daemon). GoesOn e q.turns) (sym h.reached.is) (q.goes_on d.calls d.records);
-        core_is = sym (ap (λ (e : Daemon). e.core) r.is);
+        serves = refl;
+        opening = h.are;
+        made = subst (Made t w) (ap (λ x. Reads moment ∷ (opening_doings remote script.config me inc moment h.opening ++ x)) done ∙ life_parts remote script.config me inc moment h.opening ts)
+            (made_on t u w (Reads moment ∷ []) (opening_doings remote script.config me inc moment h.opening ++ n.done) (read_made t u moment at)
+            (made_on u v w (opening_doings remote script.config me inc moment h.opening) n.done h.made n.made));
+      }
+
+  pub serves_all : {A B D : Known → List (Hosted C) → Audience → Type 0} (remote : Bool) (script : Script) (me inc moment count : ℕ) (s q : Running C) (t u v w : Telling) → Did t u (Read moment ∷ []) → BeginsAs A B remote script me inc moment s u v → TurnsDone D s q count v w
+      → ServesAs script me inc remote count (at_work q.node.core) t w
+  serves_all remote script me inc moment count s q t u v w at h n =
+      let d : Daemon = opened_by remote script.config me inc moment h.opening in
+      record {
+        life = record { remote = remote; start = moment; opening = h.opening; turns = n.turns };
+        lived = lived_as remote script me inc moment s q n.turns t u v w at h n.acts;
+        so_many = n.so_many;
+        goes_on = subst (λ (e : Daemon). GoesOn e n.turns) (sym (opens_done (begun_for remote script.config me inc moment) h.opening ∙ h.is)) (n.goes_on d.calls d.records);
+        core_is = sym (ap (λ (e : Daemon). e.core) (last_is remote script.config me inc moment h.opening n.turns ∙ after_turns remote script me inc moment s q n.turns u v v w h n.acts));
       }
 
   -- and what it handed to its clients
-  pub hands_over : {P Q : Known → Type 0} {R : C → List Handed → Type 0} {votes : C → Option (List (Option VoteItem))} (remote : Bool) (script : Script) (me inc moment count : ℕ) (s t : Running C) (a b c : Option (List LinkCall)) (x y z u v w : Option (List ℕ)) → Counts u v (moment ∷ [])
-      → BeginsAs (AttendWith P R votes) (AttendWith Q R votes) remote script me inc moment s a b x y → TurnsDone (Attend R votes) s t count b c y z v w → HandsOver P R votes script me inc remote count t.node a c x z u w
-  unfolding lived serves_all
-  hands_over {P = P} {Q = Q} {R = R} {votes = votes} remote script me inc moment count s t a b c x y z u v w at h q = record {
-    serves = serves_all remote script me inc moment count s t a b c x y z u v w at h q;
+  pub hands_over : {P Q : Known → Type 0} {R : C → List Handed → Type 0} {votes : C → Option (List (Option VoteItem))} (remote : Bool) (script : Script) (me inc moment count : ℕ) (s q : Running C) (t u v w : Telling) → Did t u (Read moment ∷ [])
+      → BeginsAs (AttendWith P R votes) (AttendWith Q R votes) remote script me inc moment s u v → TurnsDone (Attend R votes) s q count v w → HandsOver P R votes script me inc remote count q.node t w
+  unfolding serves_all
+  hands_over {P = P} {Q = Q} {R = R} {votes = votes} remote script me inc moment count s q t u v w at h n = record {
+    serves = serves_all remote script me inc moment count s q t u v w at h n;
     last = next.0;
-    hands = (first.0, first.1, subst (λ (e : Daemon). TurnsHand e q.turns first.0 next.0) (sym h.reached.is) next.1);
+    hands = (first.0, first.1, subst (λ (e : Daemon). TurnsHand e n.turns first.0 next.0) (sym (opens_done (begun_for remote script.config me inc moment) h.opening ∙ h.is)) next.1);
     stand = λ known held. next.2 known (first.2 known (attends_first known held)).attend;
   }
     where
       d : Daemon
-      d = opened_all (begun_for remote script.config me inc moment) h.opening
+      d = opened_by remote script.config me inc moment h.opening
 
       first : (m : Audience) × OpeningHands (begun_for remote script.config me inc moment) h.opening no_audience m × Passes (AttendWith P R votes) (AttendWith Q R votes) [] s.node.clients no_audience m
       first = h.attends no_audience
 
-      next : (n : Audience) × TurnsHand (daemon_of s d.calls d.records) q.turns first.0 n × Passes (Attend R votes) (Attend R votes) s.node.clients t.node.clients first.0 n
-      next = q.attends d.calls d.records first.0
+      next : (y : Audience) × TurnsHand (daemon_of s d.calls d.records) n.turns first.0 y × Passes (Attend R votes) (Attend R votes) s.node.clients q.node.clients first.0 y
+      next = n.attends d.calls d.records first.0
 
       -- no session, and the objects as they were handed in
       attends_first : (known : Known) → P known → AttendWith P R votes known [] no_audience
       attends_first known held = record { left = held; attend = record { stand = tt; even = refl; logs = tt; boxed = refl } }
 
-  pub serves_to : {A B : Known → List (Hosted C) → Audience → Type 0} (remote : Bool) (script : Script) (me inc moment count : ℕ) (s t : Running C) (a b c : Option (List LinkCall)) (x y z u v w : Option (List ℕ)) → Counts u v (moment ∷ []) → BeginsAs A B remote script me inc moment s a b x y → TurnsEnded s t count b c y z v w
-      → ServesTo script me inc remote count a c x z u w
-  unfolding lived
-  serves_to remote script me inc moment count s t a b c x y z u v w at h q =
-      let d : Daemon = opened_all (begun_for remote script.config me inc moment) h.opening in
-      let r = reached_on d s t (λ e. turned_all e q.turns) a b c x y z h.reached q.done.goes in
+  pub serves_to : {A B : Known → List (Hosted C) → Audience → Type 0} (remote : Bool) (script : Script) (me inc moment count : ℕ) (s q : Running C) (t u v w : Telling) → Did t u (Read moment ∷ []) → BeginsAs A B remote script me inc moment s u v → TurnsEnded s q count v w
+      → ServesTo script me inc remote count t w
+  serves_to remote script me inc moment count s q t u v w at h n = record {
+    life = record { remote = remote; start = moment; opening = h.opening; turns = n.turns };
+    lived = lived_as remote script me inc moment s q n.turns t u v w at h n.acts;
+    at_most = n.at_most;
+    ended = subst (λ (k : ℕ). most_failed ≤ k)
+        (sym (ap (λ (e : Daemon). e.failed) (last_is remote script.config me inc moment h.opening n.turns ∙ after_turns remote script me inc moment s q n.turns u v v w h n.acts))) n.ended;
+  }
+
+  pub serves_front : {A B : Known → List (Hosted C) → Audience → Type 0} (remote : Bool) (script : Script) (me inc moment count : ℕ) (s : Running C) (t u v w : Telling) → Did t u (Read moment ∷ []) → BeginsAs A B remote script me inc moment s u v → TurnsFront s count v w
+      → ServesFront script me inc remote count t w
+  serves_front remote script me inc moment count s t u v w at h n =
+      let d : Daemon = opened_by remote script.config me inc moment h.opening in
       record {
-        life = record { remote = remote; start = moment; opening = h.opening; turns = q.turns };
-        lived = lived_as remote script me inc moment s t q.turns a b c x y z u v w at h r q.done.moments;
-        at_most = q.at_most;
-        ended = subst (λ (n : ℕ). most_failed ≤ n) (sym (ap (λ (e : Daemon). e.failed) r.is)) q.ended;
+        life = record { remote = remote; start = moment; opening = h.opening; turns = n.turns };
+        lived = record {
+          serves = refl;
+          opening = h.are;
+          made = subst (MadeFront t w)
+              (ap (λ x. Reads moment ∷ (opening_doings remote script.config me inc moment h.opening ++ x)) (sym (ap (λ (e : Daemon). doings_of e (acts_in n.turns)) h.is)) ∙ life_parts remote script.config me inc moment h.opening n.turns)
+              (made_front_on t u w (Reads moment ∷ []) (opening_doings remote script.config me inc moment h.opening ++ doings_of (daemon_of s d.calls d.records) (acts_in n.turns)) (read_made t u moment at)
+              (made_front_on u v w (opening_doings remote script.config me inc moment h.opening) (doings_of (daemon_of s d.calls d.records) (acts_in n.turns)) h.made (n.breaks d.calls d.records)));
+        };
+        at_most = n.at_most;
       }
 
-  pub serves_front : {A B : Known → List (Hosted C) → Audience → Type 0} (remote : Bool) (script : Script) (me inc moment count : ℕ) (s : Running C) (a b c : Option (List LinkCall)) (x y z u v w : Option (List ℕ)) → Counts u v (moment ∷ []) → BeginsAs A B remote script me inc moment s a b x y → TurnsBroken s count b c y z v w
-      → ServesFront script me inc remote count a c x z u w
-  unfolding lived
-  serves_front remote script me inc moment count s a b c x y z u v w at h q =
-      let d : Daemon = opened_all (begun_for remote script.config me inc moment) h.opening in
-      let r = stopped_on d s (λ e. turned_all e q.turns) a b c x y z h.reached q.breaks in
-      record {
-        life = record { remote = remote; start = moment; opening = h.opening; turns = q.turns };
-        lived = record { serves = refl; opening = h.are; moments = counts_on u v w (moment ∷ []) (turn_moments q.turns) at q.moments; made = r.made; front = r.front };
-        at_most = q.at_most;
-      }
-
--- ---- the link
-
-pub tells_kept : {A : Type 0} (a b c : Option A) (f : A → A) → Tells a b f → Same b c → Tells a c f
-tells_kept None b c f p q = tt
-tells_kept (Some x) b c f p q = let at : Same (Some (f x)) c = subst (λ o. Same o c) p q in at
-
-pub same_tells : {A : Type 0} (a b c : Option A) (f : A → A) → Same a b → Tells b c f → Tells a c f
-same_tells None b c f p q = tt
-same_tells (Some x) b c f p q = let at : Tells (Some x) c f = subst (λ o. Tells o c f) p q in at
-
-pub nothing_done : (a b : Option (List LinkCall)) (x u : Option (List ℕ)) → Same a b → NothingDone a b x x u u
-nothing_done a b x u h = record { calls = h; held = refl; moments = refl }
-
-pub opens_closed : (o q r : Option (Option (ℕ × Bool))) (port status : ℕ) (done : Bool) (N P : Type 0) → done ≡ false → status ≡ 6 → Same o q → Tells q r (was_opened port done) → N → Opens o r port status N P
-opens_closed o q r port status done N P e is same told n = record {
-  done = done;
-  told = same_tells o q r (was_opened port done) same told;
-  closed = λ closed. (is, n);
-  ended = λ was at. absurd cc;
+-- it broke off as it began
+pub serves_begun : (remote : Bool) (script : Script) (me inc moment count : ℕ) (t u v : Telling) → Did t u (Read moment ∷ []) → BeginBreaks remote script me inc moment u v → ServesFront script me inc remote count t v
+unfolding doings_of
+serves_begun remote script me inc moment count t u v at h = record {
+  life = record { remote = remote; start = moment; opening = h.opening; turns = [] };
+  lived = record {
+    serves = refl;
+    opening = h.are;
+    made = subst (MadeFront t v) (ap (λ x. Reads moment ∷ x) (sym (append-nil (opening_doings remote script.config me inc moment h.opening))) ∙ life_parts remote script.config me inc moment h.opening [])
+        (made_front_on t u v (Reads moment ∷ []) (opening_doings remote script.config me inc moment h.opening) (read_made t u moment at) h.made);
+  };
+  at_most = omega arith;
 }
 
-pub opens_open : (o q r s : Option (Option (ℕ × Bool))) (port status : ℕ) (done : Bool) (N P : Type 0) → done ≡ true → Same o q → Tells q r (was_opened port done) → Same r s → (status ≡ 6 → P) → Opens o s port status N P
-opens_open o q r s port status done N P e same told kept p = record {
-  done = done;
-  told = tells_kept o r s (was_opened port done) (same_tells o q r (was_opened port done) same told) kept;
-  closed = λ closed. absurd cc;
-  ended = λ was at. p at;
-}
+-- ---- the count of failures rose
 
-pub not_opened : (o p q : Option (Option (ℕ × Bool))) (done : Bool) (N P : Type 0) → done ≡ false → Same o p → Tells p q (was_opened 0 done) → N → EndsByLink o q N P
-not_opened o p q done N P is same told n = NotOpened (subst (λ (t : Bool). WasOpened o q t) is (same_tells o p q (was_opened 0 done) same told)) n
+pub rose_writing : (c : Config) (port : ℕ) (done : Bool) (script : Script) (me inc : ℕ) (remote : Bool) (turns : ℕ) (t u v : Telling) → Did t u (openings c port done) → ServesFront script me inc remote turns u v → EndsByWrite v → Rose t.write_faults v.write_faults
+rose_writing c port done script me inc remote turns t u v h p e =
+    rose_after (placings c) (Opened port done) p.lived.made.went.deeds t u v h p.lived.made.went.told (λ d ds x. rose_by_write t v d ds x e)
 
-pub ran : (o q : Option (Option (ℕ × Bool))) (N P : Type 0) → P → EndsByLink o q N P
-ran o q N P p = Ran p
-
--- ---- what came before, with no call that is told
-
-grows_before : (a q b : Option (List LinkCall)) (xs : List LinkCall) → Same a q → Grows q b xs → Grows a b xs
-grows_before None q b xs h p = tt
-grows_before (Some ys) q b xs h p = let at : Grows (Some ys) b xs = subst (λ o. Grows o b xs) h p in at
-
-pub went_before : (a q b : Option (List LinkCall)) (xs : List LinkCall) → Same a q → Went q b xs → Went a b xs
-went_before a q b xs h w = record { calls = w.calls; told = grows_before a q b w.calls h w.told; are = w.are }
-
-made_before : (a q b : Option (List LinkCall)) (xs : List Exchange) → Same a q → Made q b xs → Made a b xs
-made_before a q b xs h m = record { went = went_before a q b (map call_of xs) h m.went; spelled = m.spelled }
-
-made_front_before : (a q b : Option (List LinkCall)) (xs : List Exchange) → Same a q → MadeFront q b xs → MadeFront a b xs
-made_front_before a q b xs h m = record { front = m.front; back = m.back; whole = m.whole; made = made_before a q b m.front h m.made }
-
-pub lived_before : (remote : Bool) (script : Script) (me inc : ℕ) (life : Life) (a q b : Option (List LinkCall)) (x y u v : Option (List ℕ)) → Same a q → Lived script me inc remote life q b x y u v → Lived script me inc remote life a b x y u v
-lived_before remote script me inc life a q b x y u v h l = record { serves = l.serves; opening = l.opening; moments = l.moments; made = made_before a q b _ h l.made; written = l.written }
-
-unfoldable pub serves_all_before : (remote : Bool) (script : Script) (me inc turns : ℕ) (core : Core) (a q b : Option (List LinkCall)) (x y u v : Option (List ℕ)) → Same a q → ServesAs script me inc remote turns core q b x y u v → ServesAs script me inc remote turns core a b x y u v
-serves_all_before remote script me inc turns core a q b x y u v h p =
-    record { life = p.life; lived = lived_before remote script me inc p.life a q b x y u v h p.lived; so_many = p.so_many; goes_on = p.goes_on; core_is = p.core_is }
-
-pub hands_over_before : {C : Type 0} {P : Known → Type 0} {R : C → List Handed → Type 0} {votes : C → Option (List (Option VoteItem))} (remote : Bool) (script : Script) (me inc turns : ℕ) (node : NodeView (Hosted C)) (a q b : Option (List LinkCall)) (x y u v : Option (List ℕ)) → Same a q
-    → HandsOver P R votes script me inc remote turns node q b x y u v → HandsOver P R votes script me inc remote turns node a b x y u v
-unfolding serves_all_before
-hands_over_before remote script me inc turns node a q b x y u v h p =
-    record { serves = serves_all_before remote script me inc turns (at_work node.core) a q b x y u v h p.serves; last = p.last; hands = p.hands; stand = p.stand }
-
-pub serves_to_before : (remote : Bool) (script : Script) (me inc turns : ℕ) (a q b : Option (List LinkCall)) (x y u v : Option (List ℕ)) → Same a q → ServesTo script me inc remote turns q b x y u v → ServesTo script me inc remote turns a b x y u v
-serves_to_before remote script me inc turns a q b x y u v h p =
-    record { life = p.life; lived = lived_before remote script me inc p.life a q b x y u v h p.lived; at_most = p.at_most; ended = p.ended }
-
-pub serves_front_before : (remote : Bool) (script : Script) (me inc turns : ℕ) (a q b : Option (List LinkCall)) (x y u v : Option (List ℕ)) → Same a q → ServesFront script me inc remote turns q b x y u v → ServesFront script me inc remote turns a b x y u v
-serves_front_before remote script me inc turns a q b x y u v h p = record {
-  life = p.life;
-  lived = record { serves = p.lived.serves; opening = p.lived.opening; moments = p.lived.moments; made = made_front_before a q b _ h p.lived.made; front = p.lived.front };
-  at_most = p.at_most;
-}
+pub rose_receiving : (c : Config) (port : ℕ) (done : Bool) (script : Script) (me inc : ℕ) (remote : Bool) (turns : ℕ) (t u v : Telling) → Did t u (openings c port done) → ServesFront script me inc remote turns u v → EndsByReceive v → Rose t.link_faults v.link_faults
+rose_receiving c port done script me inc remote turns t u v h p e =
+    rose_after (placings c) (Opened port done) p.lived.made.went.deeds t u v h p.lived.made.went.told (λ d ds x. rose_by_receive t v d ds x e)

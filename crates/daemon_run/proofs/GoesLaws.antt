@@ -1,182 +1,143 @@
 -- Parts of a daemon's run, one after the other.
-use Rattle.std.proofs.Common.{◌≡◌, ℕ, zero, suc, ◌+◌, ◌==◌, true, ◌<◌, ◌≤◌, List, [], ◌∷◌, ◌++◌, length, take, get_or, Option, refl, sym, ◌∙◌, ap, ap₂, subst, append_assoc, append-nil, add-one, arith}
-use Rattle.std.proofs.Math.Seq.{take-suc}
-use Rattle.std.proofs.lemmas.Bool.{eqb-true}
-use Rattle.std.proofs.lemmas.Grind.{flat_map-append}
-use Rattle.std.specs.Io.KnownBytes.{Appends}
-use Rattle.std.proofs.KnownBytes.{Appends-nil, Appends-trans}
-use Rattle.hags_io.specs.Edges.{GrowsByFront}
-use Rattle.hags_io.specs.declared.link.LinkCall.{LinkCall}
+use Rattle.std.proofs.Common.{◌≡◌, List, [], ◌∷◌, ◌++◌, map, refl, sym, ◌∙◌, ap, ap₂, subst, append_assoc, append-nil}
+use Rattle.std.proofs.lemmas.List.{map-append}
+use Rattle.hags_io.specs.Telling.{Telling}
 use Rattle.node_state.specs.declared.happened.Happened.{Happened}
-use Rattle.world_model.specs.Text.{line_of}
-use Rattle.daemon_model.specs.Sent.{Exchange, Made, MadeFront}
-use Rattle.daemon_model.specs.Daemon.{Daemon, records_text}
+use Rattle.daemon_model.specs.Sent.{Exchange}
+use Rattle.daemon_model.specs.Daemon.{Daemon}
+use Rattle.daemon_model.specs.Actions.{Action, did_all}
+use Rattle.daemon_model.specs.Doings.{Doing, Exchanges, writes, step_doings, since, doings_of, Made, MadeFront}
+use Rattle.daemon_model.proofs.AddLaws.{Adds, since_is, doings_append, did_append}
+use Rattle.daemon_model.proofs.MadeLaws.{made_nothing, made_on, all_made, none_made, made_front_on, made_front_more}
 use Rattle.daemon_run.specs.Hosting.{Known}
 use Rattle.daemon_run.specs.declared.hosted.Hosted.{Hosted}
 use Rattle.daemon_run.specs.declared.running.Running.{Running}
 use Rattle.daemon_run.specs.Audience.{Audience}
-use Rattle.daemon_run.specs.Doing.{daemon_of, Goes, Broke, Breaks, Passes, Attends}
-use Rattle.daemon_run.proofs.MadeLaws.{made_nothing, made_on, made_front_on, made_front_more}
+use Rattle.daemon_run.specs.Doing.{daemon_of, Comes, Goes, Breaks, Acts, ActsBreak, Passes, Attends}
 
--- ---- lines
+-- more packets of a step go out
+step_more : (records : List Happened) (calls more : List Exchange) → step_doings records calls ++ map Exchanges more ≡ step_doings records (calls ++ more)
+step_more records calls more = append_assoc (writes records) (map Exchanges calls) (map Exchanges more) ∙ ap (λ t. writes records ++ t) (sym (map-append Exchanges calls more))
 
--- a front as long as the list is the list
-pub all_taken : {X : Type 0} (i : ℕ) (xs : List X) → length xs ≤ i → take i xs ≡ xs
-all_taken zero [] le = refl
-all_taken zero (x ∷ xs) le = absurd (omega arith)
-all_taken (suc i) [] le = refl
-all_taken (suc i) (x ∷ xs) le = let below : length xs ≤ i = omega arith in ap (λ t. x ∷ t) (all_taken i xs below)
-
-pub text_append : (xs ys : List Happened) → records_text (xs ++ ys) ≡ records_text xs ++ records_text ys
-unfolding records_text
-text_append xs ys = flat_map-append line_of xs ys
-
-pub no_text : records_text [] ≡ []
-unfolding records_text
-no_text = refl
-
-one_text : (r : Happened) → records_text (r ∷ []) ≡ line_of r
-unfolding records_text
-one_text r = append-nil (line_of r)
-
-pub text_next : (i : ℕ) (r : Happened) (rs : List Happened) (line : List ℕ) → i < length rs → r ≡ get_or rs i r → line ≡ line_of r → records_text (take i rs) ++ line ≡ records_text (take (i + 1) rs)
-text_next i r rs line h is e =
-    let at : take (i + 1) rs ≡ take i rs ++ r ∷ [] = rw add-one (take-suc rs i r h ∙ ap (λ x. take i rs ++ x ∷ []) (sym is)) in
-    ap (λ t. records_text (take i rs) ++ t) (e ∙ sym (one_text r)) ∙ (sym (text_append (take i rs) (r ∷ [])) ∙ ap records_text (sym at))
-
-pub text_all : (i : ℕ) (rs : List Happened) (text : List ℕ) → length rs ≤ i → text ≡ records_text (take i rs) → text ≡ records_text rs
-text_all i rs text le e = e ∙ ap records_text (all_taken i rs le)
-
-pub nothing_written : (x : Option (List ℕ)) → Appends x x (records_text [])
-unfolding records_text
-nothing_written x = Appends-nil x
-
-pub none_written : (x : Option (List ℕ)) (rs : List Happened) → (length rs == 0) ≡ true → Appends x x (records_text rs)
-none_written x [] e = nothing_written x
-none_written x (r ∷ rs) e = let z : length (r ∷ rs) ≡ 0 = eqb-true (length (r ∷ rs)) 0 e in absurd (omega arith)
-
-pub written_on : (x y z : Option (List ℕ)) (rs qs : List Happened) → Appends x y (records_text rs) → Appends y z (records_text qs) → Appends x z (records_text (rs ++ qs))
-written_on x y z rs qs p q = subst (Appends x z) (sym (text_append rs qs)) (Appends-trans x y z _ _ p q)
-
-pub none_front : (x : Option (List ℕ)) (text : List ℕ) → GrowsByFront x x text
-none_front x text = record { front = []; back = text; whole = refl; grows = Appends-nil x }
-
-pub all_front : (x y : Option (List ℕ)) (text : List ℕ) → Appends x y text → GrowsByFront x y text
-all_front x y text h = record { front = text; back = []; whole = append-nil text; grows = h }
-
-pub front_after : (x y z : Option (List ℕ)) (s t : List ℕ) → Appends x y s → GrowsByFront y z t → GrowsByFront x z (s ++ t)
-front_after x y z s t p q = record { front = s ++ q.front; back = q.back; whole = append_assoc s q.front q.back ∙ ap (λ u. s ++ u) q.whole; grows = Appends-trans x y z _ _ p q.grows }
-
-front_before : (x y : Option (List ℕ)) (s t : List ℕ) → GrowsByFront x y s → GrowsByFront x y (s ++ t)
-front_before x y s t p = record { front = p.front; back = p.back ++ t; whole = sym (append_assoc p.front p.back t) ∙ ap (λ u. u ++ t) p.whole; grows = p.grows }
-
-pub front_on : (x y z : Option (List ℕ)) (rs qs : List Happened) → Appends x y (records_text rs) → GrowsByFront y z (records_text qs) → GrowsByFront x z (records_text (rs ++ qs))
-front_on x y z rs qs p q = subst (GrowsByFront x z) (sym (text_append rs qs)) (front_after x y z _ _ p q)
-
-pub front_more : (x y : Option (List ℕ)) (rs qs : List Happened) → GrowsByFront x y (records_text rs) → GrowsByFront x y (records_text (rs ++ qs))
-front_more x y rs qs p = subst (GrowsByFront x y) (sym (text_append rs qs)) (front_before x y _ _ p)
-
--- ---- what a daemon does later adds to what it did, whatever it is
-
-pub record Adds (d e : Daemon) : Type 0 where
+-- what adds packets alone
+pub record AddsCalls (d e : Daemon) : Type 0 where
   pub calls : List Exchange
   pub called : e.calls ≡ d.calls ++ calls
-  pub records : List Happened
-  pub recorded : e.records ≡ d.records ++ records
-
-pub adds_none : (d : Daemon) → Adds d d
-adds_none d = record { calls = []; called = sym (append-nil d.calls); records = []; recorded = sym (append-nil d.records) }
-
-pub adds_on : (d e f : Daemon) → Adds d e → Adds e f → Adds d f
-adds_on d e f p q = record {
-  calls = p.calls ++ q.calls;
-  called = q.called ∙ (ap (λ t. t ++ q.calls) p.called ∙ append_assoc d.calls p.calls q.calls);
-  records = p.records ++ q.records;
-  recorded = q.recorded ∙ (ap (λ t. t ++ q.records) p.recorded ∙ append_assoc d.records p.records q.records);
-}
-
--- ---- what broke off, after something or before it
-
-broke_after : (before calls : List Exchange) (noted records : List Happened) (a b c : Option (List LinkCall)) (x y z : Option (List ℕ)) (e : Daemon) → Made a b calls → Appends x y (records_text records)
-    → Broke (before ++ calls) (noted ++ records) b c y z e → Broke before noted a c x z e
-broke_after before calls noted records a b c x y z e made written q = record {
-  calls = calls ++ q.calls;
-  called = q.called ∙ append_assoc before calls q.calls;
-  made = made_front_on a b c calls q.calls made q.made;
-  records = records ++ q.records;
-  recorded = q.recorded ∙ append_assoc noted records q.records;
-  front = front_on x y z records q.records written q.front;
-}
-
-broke_before : (before : List Exchange) (noted : List Happened) (a b : Option (List LinkCall)) (x y : Option (List ℕ)) (d e : Daemon) → Broke before noted a b x y d → Adds d e → Broke before noted a b x y e
-broke_before before noted a b x y d e p q = record {
-  calls = p.calls ++ q.calls;
-  called = q.called ∙ (ap (λ t. t ++ q.calls) p.called ∙ append_assoc before p.calls q.calls);
-  made = made_front_more a b p.calls q.calls p.made;
-  records = p.records ++ q.records;
-  recorded = q.recorded ∙ (ap (λ t. t ++ q.records) p.recorded ∙ append_assoc noted p.records q.records);
-  front = front_more x y p.records q.records p.front;
-}
+  pub recorded : e.records ≡ d.records
 
 module _ {C : Type 0} where
-  -- ---- parts that are done
+  pub comes_on : (r s t : Running C) (f g : Daemon → Daemon) (cs ds : List Exchange) (rs qs : List Happened) → Comes r s f cs rs → Comes s t g ds qs → Comes r t (λ d. g (f d)) (cs ++ ds) (rs ++ qs)
+  comes_on r s t f g cs ds rs qs p q before noted = ap g (p before noted) ∙ (q (before ++ cs) (noted ++ rs) ∙ ap₂ (daemon_of t) (append_assoc before cs ds) (append_assoc noted rs qs))
 
-  pub goes_none : (r : Running C) (a : Option (List LinkCall)) (x : Option (List ℕ)) → Goes r r a a x x (λ d. d)
-  goes_none r a x = record {
-    calls = [];
-    records = [];
-    is = λ before noted. ap₂ (daemon_of r) (sym (append-nil before)) (sym (append-nil noted));
-    made = made_nothing a;
-    written = nothing_written x;
-  }
+  -- ---- in one step
 
-  pub goes_on : (r s t : Running C) (a b c : Option (List LinkCall)) (x y z : Option (List ℕ)) (f g : Daemon → Daemon) → Goes r s a b x y f → Goes s t b c y z g → Goes r t a c x z (λ d. g (f d))
-  goes_on r s t a b c x y z f g p q = record {
-    calls = p.calls ++ q.calls;
-    records = p.records ++ q.records;
-    is = λ before noted.
-        ap g (p.is before noted)
-        ∙ (q.is (before ++ p.calls) (noted ++ p.records) ∙ ap₂ (daemon_of t) (append_assoc before p.calls q.calls) (append_assoc noted p.records q.records));
-    made = made_on a b c p.calls q.calls p.made q.made;
-    written = written_on x y z p.records q.records p.written q.written;
-  }
+  pub goes_none : (r : Running C) (t : Telling) → Goes r r t t (λ d. d)
+  goes_none r t = record { calls = []; records = []; is = λ before noted. ap₂ (daemon_of r) (sym (append-nil before)) (sym (append-nil noted)); made = made_nothing t }
 
   -- the same thing said otherwise
-  pub goes_as : (r q s : Running C) (a b : Option (List LinkCall)) (x y : Option (List ℕ)) (f g : Daemon → Daemon) → ((before : List Exchange) (noted : List Happened) → f (daemon_of r before noted) ≡ g (daemon_of q before noted))
-      → Goes q s a b x y g → Goes r s a b x y f
-  goes_as r q s a b x y f g same p = record { calls = p.calls; records = p.records; is = λ before noted. same before noted ∙ p.is before noted; made = p.made; written = p.written }
+  pub goes_as : (r q s : Running C) (t u : Telling) (f g : Daemon → Daemon) → ((before : List Exchange) (noted : List Happened) → f (daemon_of r before noted) ≡ g (daemon_of q before noted)) → Goes q s t u g → Goes r s t u f
+  goes_as r q s t u f g same p = record { calls = p.calls; records = p.records; is = λ before noted. same before noted ∙ p.is before noted; made = p.made }
 
-  -- ---- what they hand
+  -- and then nothing more is done, whatever changes
+  pub goes_still : (r q s : Running C) (t u : Telling) (f g : Daemon → Daemon) → Goes r q t u f → ((before : List Exchange) (noted : List Happened) → g (daemon_of q before noted) ≡ daemon_of s before noted) → Goes r s t u (λ d. g (f d))
+  goes_still r q s t u f g p same = record { calls = p.calls; records = p.records; is = λ before noted. ap g (p.is before noted) ∙ same (before ++ p.calls) (noted ++ p.records); made = p.made }
 
-  -- in one part and in the next
-  pub attends_on : (A B D : Known → List (Hosted C) → Audience → Type 0) (r s t : Running C) (a b : Option (List LinkCall)) (x y : Option (List ℕ)) (f : Daemon → Daemon) (H K : Daemon → Audience → Audience → Type 0) → Goes r s a b x y f
-      → Attends A B r s H → Attends B D s t K → Attends A D r t (λ d u w. (v : Audience) × H d u v × K (f d) v w)
-  attends_on A B D r s t a b x y f H K p h k before noted u =
+  -- and then more packets go out
+  pub goes_more : (r q s : Running C) (t u v : Telling) (f g : Daemon → Daemon) (more : List Exchange) → Goes r q t u f → Comes q s g more [] → Made u v (map Exchanges more) → Goes r s t v (λ d. g (f d))
+  goes_more r q s t u v f g more p next made = record {
+    calls = p.calls ++ more;
+    records = p.records;
+    is = λ before noted. comes_on r q s f g p.calls more p.records [] p.is next before noted ∙ ap (daemon_of s (before ++ (p.calls ++ more))) (ap (λ x. noted ++ x) (append-nil p.records));
+    made = subst (Made t v) (step_more p.records p.calls more) (made_on t u v (step_doings p.records p.calls) (map Exchanges more) p.made made);
+  }
+
+  -- what is since then
+  pub since_comes : (r s : Running C) (f : Daemon → Daemon) (calls : List Exchange) (records : List Happened) → Comes r s f calls records → (before : List Exchange) (noted : List Happened) → since (daemon_of r before noted) (f (daemon_of r before noted)) ≡ step_doings records calls
+  since_comes r s f calls records is before noted =
+      since_is (daemon_of r before noted) (f (daemon_of r before noted)) calls records (ap (λ (d : Daemon). d.calls) (is before noted)) (ap (λ (d : Daemon). d.records) (is before noted))
+
+  -- ---- a step that broke off
+
+  pub breaks_none : (r : Running C) (t : Telling) (f : Daemon → Daemon) → Breaks r t t f
+  breaks_none r t f before noted = none_made t (since (daemon_of r before noted) (f (daemon_of r before noted)))
+
+  -- another that stands alike with what it did
+  pub breaks_as : (r q : Running C) (t u : Telling) (f g : Daemon → Daemon) → ((before : List Exchange) (noted : List Happened) → f (daemon_of r before noted) ≡ g (daemon_of q before noted)) → Breaks q t u g → Breaks r t u f
+  unfolding since
+  breaks_as r q t u f g same p before noted = subst (λ (d : Daemon). MadeFront t u (since (daemon_of q before noted) d)) (sym (same before noted)) (p before noted)
+
+  -- it broke off where all was done
+  pub breaks_late : (r s : Running C) (t u : Telling) (f : Daemon → Daemon) → Goes r s t u f → Breaks r t u f
+  breaks_late r s t u f p before noted = subst (MadeFront t u) (sym (since_comes r s f p.calls p.records p.is before noted)) (all_made t u (step_doings p.records p.calls) p.made)
+
+  -- it broke off as more packets went out
+  pub breaks_on : (r q : Running C) (t u v : Telling) (f g : Daemon → Daemon) (more : List Exchange) → Goes r q t u f
+      → ((before : List Exchange) (noted : List Happened) → (g (daemon_of q before noted)).calls ≡ before ++ more) → ((before : List Exchange) (noted : List Happened) → (g (daemon_of q before noted)).records ≡ noted)
+      → MadeFront u v (map Exchanges more) → Breaks r t v (λ d. g (f d))
+  breaks_on r q t u v f g more p called recorded made before noted =
+      let d : Daemon = daemon_of r before noted in
+      let calls : (g (f d)).calls ≡ before ++ (p.calls ++ more) = ap (λ (e : Daemon). (g e).calls) (p.is before noted) ∙ (called (before ++ p.calls) (noted ++ p.records) ∙ append_assoc before p.calls more) in
+      let records : (g (f d)).records ≡ noted ++ p.records = ap (λ (e : Daemon). (g e).records) (p.is before noted) ∙ recorded (before ++ p.calls) (noted ++ p.records) in
+      subst (MadeFront t v) (step_more p.records p.calls more ∙ sym (since_is d (g (f d)) (p.calls ++ more) p.records calls records))
+      (made_front_on t u v (step_doings p.records p.calls) (map Exchanges more) p.made made)
+
+  -- it broke off before more packets went out
+  pub breaks_more : (r : Running C) (t u : Telling) (f g : Daemon → Daemon) → Breaks r t u f → ((d : Daemon) → Adds d (f d)) → ((e : Daemon) → AddsCalls e (g e)) → Breaks r t u (λ d. g (f d))
+  breaks_more r t u f g p adds more before noted =
+      let d : Daemon = daemon_of r before noted in
+      let a : Adds d (f d) = adds d in
+      let m : AddsCalls (f d) (g (f d)) = more (f d) in
+      let calls : (g (f d)).calls ≡ d.calls ++ (a.calls ++ m.calls) = m.called ∙ (ap (λ x. x ++ m.calls) a.called ∙ append_assoc d.calls a.calls m.calls) in
+      let records : (g (f d)).records ≡ d.records ++ a.records = m.recorded ∙ a.recorded in
+      let first : since d (f d) ≡ step_doings a.records a.calls = since_is d (f d) a.calls a.records a.called a.recorded in
+      subst (MadeFront t u) (ap (λ x. x ++ map Exchanges m.calls) first ∙ (step_more a.records a.calls m.calls ∙ sym (since_is d (g (f d)) (a.calls ++ m.calls) a.records calls records)))
+      (made_front_more t u (since d (f d)) (map Exchanges m.calls) (p before noted))
+
+  -- ---- acts
+
+  pub acts_none : (r : Running C) (t : Telling) → Acts r r t t []
+  unfolding did_all doings_of
+  acts_none r t = record { calls = []; records = []; is = λ before noted. ap₂ (daemon_of r) (sym (append-nil before)) (sym (append-nil noted)); done = []; are = λ before noted. refl; made = made_nothing t }
+
+  pub acts_on : (r s q : Running C) (t u v : Telling) (acts more : List Action) → Acts r s t u acts → Acts s q u v more → Acts r q t v (acts ++ more)
+  acts_on r s q t u v acts more p n = record {
+    calls = p.calls ++ n.calls;
+    records = p.records ++ n.records;
+    is = λ before noted. did_append (daemon_of r before noted) acts more ∙ comes_on r s q (λ d. did_all d acts) (λ d. did_all d more) p.calls n.calls p.records n.records p.is n.is before noted;
+    done = p.done ++ n.done;
+    are = λ before noted.
+        doings_append (daemon_of r before noted) acts more
+        ∙ ap₂ (λ x y. x ++ y) (p.are before noted) (ap (λ (d : Daemon). doings_of d more) (p.is before noted) ∙ n.are (before ++ p.calls) (noted ++ p.records));
+    made = made_on t u v p.done n.done p.made n.made;
+  }
+
+  pub acts_break_none : (r : Running C) (t : Telling) (acts : List Action) → ActsBreak r t t acts
+  acts_break_none r t acts before noted = none_made t (doings_of (daemon_of r before noted) acts)
+
+  -- it broke off where all was done
+  pub acts_break_late : (r s : Running C) (t u : Telling) (acts : List Action) → Acts r s t u acts → ActsBreak r t u acts
+  acts_break_late r s t u acts p before noted = subst (MadeFront t u) (sym (p.are before noted)) (all_made t u p.done p.made)
+
+  -- in a later act
+  pub acts_break_on : (r s : Running C) (t u v : Telling) (acts more : List Action) → Acts r s t u acts → ActsBreak s u v more → ActsBreak r t v (acts ++ more)
+  acts_break_on r s t u v acts more p n before noted =
+      subst (MadeFront t v)
+      (sym (doings_append (daemon_of r before noted) acts more ∙ ap₂ (λ x y. x ++ y) (p.are before noted) (ap (λ (d : Daemon). doings_of d more) (p.is before noted))))
+      (made_front_on t u v p.done (doings_of (daemon_of s (before ++ p.calls) (noted ++ p.records)) more) p.made (n (before ++ p.calls) (noted ++ p.records)))
+
+  -- or before
+  pub acts_break_more : (r : Running C) (t u : Telling) (acts more : List Action) → ActsBreak r t u acts → ActsBreak r t u (acts ++ more)
+  acts_break_more r t u acts more p before noted =
+      subst (MadeFront t u) (sym (doings_append (daemon_of r before noted) acts more)) (made_front_more t u (doings_of (daemon_of r before noted) acts) (doings_of (did_all (daemon_of r before noted) acts) more) (p before noted))
+
+  -- ---- what they hand, in one part and in the next
+
+  pub attends_on : (A B D : Known → List (Hosted C) → Audience → Type 0) (r s q : Running C) (f : Daemon → Daemon) (cs : List Exchange) (rs : List Happened) (H K : Daemon → Audience → Audience → Type 0) → Comes r s f cs rs
+      → Attends A B r s H → Attends B D s q K → Attends A D r q (λ d u w. (v : Audience) × H d u v × K (f d) v w)
+  attends_on A B D r s q f cs rs H K is h k before noted u =
       let one : (v : Audience) × H (daemon_of r before noted) u v × Passes A B r.node.clients s.node.clients u v = h before noted u in
-      let next : (w : Audience) × K (daemon_of s (before ++ p.calls) (noted ++ p.records)) one.0 w × Passes B D s.node.clients t.node.clients one.0 w = k (before ++ p.calls) (noted ++ p.records) one.0 in (
+      let next : (w : Audience) × K (daemon_of s (before ++ cs) (noted ++ rs)) one.0 w × Passes B D s.node.clients q.node.clients one.0 w = k (before ++ cs) (noted ++ rs) one.0 in (
         next.0,
-        (one.0, one.1, subst (λ (d : Daemon). K d one.0 next.0) (sym (p.is before noted)) next.1),
+        (one.0, one.1, subst (λ (d : Daemon). K d one.0 next.0) (sym (is before noted)) next.1),
         λ known held. next.2 known (one.2 known held),
       )
-
-  -- ---- parts that broke off
-
-  pub breaks_as : (r q : Running C) (a b : Option (List LinkCall)) (x y : Option (List ℕ)) (f g : Daemon → Daemon) → ((before : List Exchange) (noted : List Happened) → f (daemon_of r before noted) ≡ g (daemon_of q before noted))
-      → Breaks q a b x y g → Breaks r a b x y f
-  breaks_as r q a b x y f g same p = λ before noted. subst (Broke before noted a b x y) (sym (same before noted)) (p before noted)
-
-  -- it broke off in the later part
-  pub breaks_on : (r s : Running C) (a b c : Option (List LinkCall)) (x y z : Option (List ℕ)) (f g : Daemon → Daemon) → Goes r s a b x y f → Breaks s b c y z g → Breaks r a c x z (λ d. g (f d))
-  breaks_on r s a b c x y z f g p q = λ before noted.
-      broke_after before p.calls noted p.records a b c x y z (g (f (daemon_of r before noted))) p.made p.written
-      (subst (λ d. Broke (before ++ p.calls) (noted ++ p.records) b c y z (g d)) (sym (p.is before noted)) (q (before ++ p.calls) (noted ++ p.records)))
-
-  -- it broke off before
-  pub breaks_more : (r : Running C) (a b : Option (List LinkCall)) (x y : Option (List ℕ)) (f g : Daemon → Daemon) → Breaks r a b x y f → ((d : Daemon) → Adds d (g d)) → Breaks r a b x y (λ d. g (f d))
-  breaks_more r a b x y f g p q = λ before noted. broke_before before noted a b x y (f (daemon_of r before noted)) (g (f (daemon_of r before noted))) (p before noted) (q (f (daemon_of r before noted)))
-
-  -- nothing of it was done
-  pub breaks_none : (r : Running C) (a b : Option (List LinkCall)) (x : Option (List ℕ)) (g : Daemon → Daemon) → ((more : List Exchange) → MadeFront a b more) → ((d : Daemon) → Adds d (g d)) → Breaks r a b x x g
-  breaks_none r a b x g none q = λ before noted.
-      let h = q (daemon_of r before noted) in
-      record { calls = h.calls; called = h.called; made = none h.calls; records = h.records; recorded = h.recorded; front = none_front x (records_text h.records) }

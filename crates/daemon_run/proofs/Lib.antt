@@ -1,6 +1,4 @@
-pub mod KeepLaws
-pub mod WentLaws
-pub mod MadeLaws
+pub mod WriteLaws
 pub mod GoesLaws
 pub mod HostLaws
 pub mod AudienceLaws
@@ -8,7 +6,6 @@ pub mod NodeLaws
 pub mod StepLaws
 pub mod TurnLaws
 pub mod ServeLaws
-pub mod PlaceLaws
 pub mod CallLaws
 pub mod EndLaws
 pub mod RemoteLaws

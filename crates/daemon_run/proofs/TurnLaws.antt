@@ -1,43 +1,34 @@
 -- The parts of a turn, and turns.
-use Rattle.std.proofs.Common.{◌≡◌, ℕ, ◌+◌, ◌-◌, ◌≤◌, ◌<◌, min, Bool, true, false, List, [], ◌∷◌, ◌++◌, Option, Some, None, refl, sym, ◌∙◌, ap, subst, append-nil}
+use Rattle.std.proofs.Common.{◌≡◌, ℕ, ◌+◌, ◌-◌, ◌≤◌, ◌<◌, Bool, true, false, List, [], ◌∷◌, ◌++◌, Option, Some, None, refl, sym, ◌∙◌, ap, ap₂, subst, append_assoc, append-nil}
+use Rattle.std.specs.Prelude.{option_map}
 use Rattle.std.proofs.lemmas.Bool.{le-leb, lt-leb}
 use Rattle.hags_io.specs.declared.link.LinkCall.{LinkCall}
 use Rattle.hags_io.specs.declared.link.LinkCall.TheVariants as call
-use Rattle.hags_io.specs.Links.{Grows, Same, Counts}
-use Rattle.piece_link.specs.Joining.{Joining, Joined, joined_as, taken}
+use Rattle.hags_io.specs.Deeds.{Read, Exchanged}
+use Rattle.hags_io.specs.Telling.{Telling, Did}
+use Rattle.hags_io.specs.Fronts.{Went, WentFront}
+use Rattle.hags_io.proofs.FrontLaws.{went_as}
+use Rattle.link_use.specs.declared.receiving.Receiving.{Receiving}
+use Rattle.link_use.specs.Receiving.{IsReceive, Receives, ReceivesFront, received_by, whole_by}
+use Rattle.link_use.proofs.SendLaws.{each_front}
+use Rattle.piece_link.specs.Joining.{Joining}
 use Rattle.node_state.specs.declared.happened.Happened.{Happened}
 use Rattle.node_state.specs.HandOn.{Answering}
 use Rattle.node_state.specs.Step.{Ticks, at_work}
 use Rattle.daemon_model.specs.Sent.{Exchange, plain, as_sent}
-use Rattle.daemon_model.specs.Daemon.{Daemon, Turn, stepped_by, is_due, ticked_if, ticked, joined_by, received, up_in, given_on, network_of, heard, turned}
+use Rattle.daemon_model.specs.Daemon.{Daemon, Turn, stepped_by, is_due, ticked_if, ticked, joined_by, received, up_in, given_on, network_of, heard}
+use Rattle.daemon_model.specs.Actions.{Action, Hears, did, did_all, turn_actions}
+use Rattle.daemon_model.specs.Actions as actions
+use Rattle.daemon_model.specs.Doings.{Doing, Reads, Exchanges, step_doings, since, doings, doings_of, Made, MadeFront}
+use Rattle.daemon_model.proofs.MadeLaws.{made_nothing, made_on, all_made, none_made, made_front_on, made_front_more}
 use Rattle.daemon_run.specs.Hosting.{Known}
 use Rattle.daemon_run.specs.declared.hosted.Hosted.{Hosted}
 use Rattle.daemon_run.specs.declared.running.Running.{Running}
 use Rattle.remote_session.specs.Daemon.{SeenUp, NotUp, KeysFull, KnownKey, CallMade}
-use Rattle.daemon_run.specs.Audience.{Audience, StepHands, TickHands, BroughtHands, GivenHands, TakenHands, HeardHands}
-use Rattle.daemon_run.specs.Doing.{daemon_of, Passes, Goes, StepsAs, StepBreaks, TicksAs, TickBreaks, GivesAs, GiveBreaks, taken_in, TakesAs, TakeBreaks, HearsAs, HearBreaks, TurnsAs, TurnBreaks}
-use Rattle.daemon_run.proofs.MadeLaws.{same_made, none_made, plain_made}
-use Rattle.daemon_run.proofs.GoesLaws.{Adds, attends_on, adds_none, adds_on, goes_none, goes_on, goes_as, breaks_as, breaks_on, breaks_more, breaks_none, nothing_written}
-use Rattle.daemon_run.proofs.StepLaws.{silent, adds_step}
-use Rattle.daemon_run.proofs.RemoteLaws.{adds_given}
-
--- ---- what each part adds
-
-adds_tick : (moment : ℕ) (f : Answering) (due : Bool) (d : Daemon) → Adds d (ticked_if due moment f d)
-adds_tick moment f true d = let h = adds_step None f Ticks (record d { last = moment }) in record { calls = h.calls; called = h.called; records = h.records; recorded = h.recorded }
-adds_tick moment f false d = adds_none d
-
-adds_received : (got : LinkCall) (d : Daemon) → Adds d (received got d)
-unfolding received
-adds_received got d = record { calls = plain (as_sent got) ∷ []; called = refl; records = []; recorded = sym (append-nil d.records) }
-
-pub adds_heard : (got : LinkCall) (f : Answering) (d : Daemon) → Adds d (heard got f d)
-unfolding heard
-adds_heard got f d = adds_on d (received got d) _ (adds_received got d) (adds_given (network_of got) (joined_by got d.joining).message f (received got d))
-
-pub adds_turn : (t : Turn) (d : Daemon) → Adds d (turned d t)
-unfolding turned
-adds_turn t d = adds_on d (ticked t.moment t.tick d) _ (adds_tick t.moment t.tick (is_due d.last t.moment) d) (adds_heard t.got t.answers (ticked t.moment t.tick d))
+use Rattle.daemon_run.specs.Audience.{Audience, StepHands, TickHands, BroughtHands, GivenHands, HeardHands}
+use Rattle.daemon_run.specs.Doing.{daemon_of, Comes, Goes, Breaks, Acts, ActsBreak, Passes, Attends, StepsAs, StepBreaks, TicksAs, TickBreaks, GivesAs, GiveBreaks, HearsAs, HearBreaks, TurnsAs, TurnBreaks}
+use Rattle.daemon_run.proofs.GoesLaws.{goes_none, goes_as, since_comes, breaks_as, acts_on, acts_break_none, acts_break_on, acts_break_more, attends_on}
+use Rattle.daemon_run.proofs.StepLaws.{silent}
 
 -- ---- when a tick is due
 
@@ -47,25 +38,59 @@ due last moment h = le-leb 100 (moment - last) h
 undue : (last moment : ℕ) → moment - last < 100 → is_due last moment ≡ false
 undue last moment h = lt-leb 100 (moment - last) h
 
-adds_taken : (network : ℕ) (bytes : List ℕ) (f : Answering) (d : Daemon) → Adds d (taken_in network bytes f d)
-adds_taken network bytes f d =
-    let h = adds_given network (taken d.joining bytes).message f (record d { joining = (taken d.joining bytes).joining }) in
-    record { calls = h.calls; called = h.called; records = h.records; recorded = h.recorded }
+-- ---- what is made of one deed
 
--- a datagram is told, and then taken in
-abbrev told_of : LinkCall → Daemon → Daemon
-told_of got d = record d { failed = 0; calls = d.calls ++ plain (as_sent got) ∷ [] }
+read_made : (t u : Telling) (moment : ℕ) → Did t u (Read moment ∷ []) → Made t u (Reads moment ∷ [])
+read_made t u moment h = record { went = went_as t u (Read moment) (Read moment) refl h; spelled = tt }
+
+got_same : (got : LinkCall) → IsReceive got → as_sent got ≡ got
+got_same (call.Received k b) h = refl
+got_same call.Quiet h = refl
+got_same call.Failed h = refl
+got_same (call.Sent n k b o) h = absurd h
+
+got_made : (t u : Telling) (got : LinkCall) → IsReceive got → Did t u (Exchanged got ∷ []) → Made t u (Exchanges (plain (as_sent got)) ∷ [])
+got_made t u (call.Received k b) r h = record { went = went_as t u (Exchanged (call.Received k b)) (Exchanged (call.Received k b)) refl h; spelled = (tt, tt) }
+got_made t u call.Quiet r h = record { went = went_as t u (Exchanged call.Quiet) (Exchanged call.Quiet) refl h; spelled = (tt, tt) }
+got_made t u call.Failed r h = record { went = went_as t u (Exchanged call.Failed) (Exchanged call.Failed) refl h; spelled = (tt, tt) }
+got_made t u (call.Sent n k b o) r h = absurd r
+
+got_front : (t u : Telling) (got : LinkCall) → IsReceive got → WentFront t u (Exchanged got ∷ []) → MadeFront t u (Exchanges (plain (as_sent got)) ∷ [])
+got_front t u got r w =
+    each_front plain (λ c. refl) (λ c. tt) t u (as_sent got ∷ []) (subst (λ (c : LinkCall). WentFront t u (Exchanged c ∷ [])) (sym (got_same got r)) w)
 
 -- what an Up or a message hands does not hang on what is joined, or on how many receives failed
-brought_alike : (u : SeenUp) (message : List ℕ) (f : Answering) (d : Daemon) (j : Joining) (n : ℕ) (old new : Audience) → BroughtHands u message f (record d { joining = j; failed = n }) old new → BroughtHands u message f d old new
-brought_alike NotUp message f d j n old new h = h
-brought_alike (KeysFull key limit) message f d j n old new h = h
-brought_alike (KnownKey key) message f d j n old new h = h
-brought_alike (CallMade key line) message f d j n old new h = h
+brought_alike : (u : SeenUp) (message : List ℕ) (f : Answering) (d : Daemon) (j : Joining) (n : ℕ) (cs : List Exchange) (old new : Audience) → BroughtHands u message f (record d { joining = j; failed = n; calls = cs }) old new → BroughtHands u message f d old new
+brought_alike NotUp message f d j n cs old new h = h
+brought_alike (KeysFull key limit) message f d j n cs old new h = h
+brought_alike (KnownKey key) message f d j n cs old new h = h
+brought_alike (CallMade key line) message f d j n cs old new h = h
 
-hands_alike : (m : Option (List ℕ)) (f : Answering) (d : Daemon) (j : Joining) (n : ℕ) (old new : Audience) → GivenHands m f (record d { joining = j; failed = n }) old new → GivenHands m f d old new
-hands_alike None f d j n old new h = h
-hands_alike (Some message) f d j n old new h = brought_alike (up_in d.sessions message) message f d j n old new h
+hands_alike : (m : Option (List ℕ)) (f : Answering) (d : Daemon) (j : Joining) (n : ℕ) (cs : List Exchange) (old new : Audience) → GivenHands m f (record d { joining = j; failed = n; calls = cs }) old new → GivenHands m f d old new
+hands_alike None f d j n cs old new h = h
+hands_alike (Some message) f d j n cs old new h = brought_alike (up_in d.sessions message) message f d j n cs old new h
+
+-- the message and its network, where one is whole
+first : Option (ℕ × List ℕ) → ℕ
+first None = 0
+first (Some x) = x.0
+
+second : Option (ℕ × List ℕ) → List ℕ
+second None = []
+second (Some x) = x.1
+
+whole_message : (got : LinkCall) (j : Joining) (network : ℕ) (message : List ℕ) (o : Option (List ℕ)) → ◌≡◌ {A = Option (ℕ × List ℕ)} (Some (network, message)) (option_map (λ m. (network_of got, m)) o) → (o ≡ Some message) × (network_of got ≡ network)
+unfolding first second
+whole_message got j network message None e = absurd cc
+whole_message got j network message (Some m) e = (ap Some (sym (ap second e)), sym (ap first e))
+
+no_message : (got : LinkCall) (o : Option (List ℕ)) → ◌≡◌ {A = Option (ℕ × List ℕ)} None (option_map (λ m. (network_of got, m)) o) → o ≡ None
+no_message got None e = refl
+no_message got (Some m) e = absurd cc
+
+none_same : (m n : ℕ) (f : Answering) → given_on m None f ≡ given_on n None f
+unfolding given_on
+none_same m n f = refl
 
 module _ {C : Type 0} where
   -- ---- a tick
@@ -74,147 +99,175 @@ module _ {C : Type 0} where
       → ticked moment f (daemon_of r before noted) ≡ stepped_by f Ticks (daemon_of (record r { last = moment }) before noted)
   tick_is r moment f le before noted = ap (λ q. ticked_if q moment f (daemon_of r before noted)) (due r.last moment le)
 
-  pub tick_done : {A : Known → List (Hosted C) → Audience → Type 0} (r s : Running C) (moment : ℕ) (a b : Option (List LinkCall)) (x y : Option (List ℕ)) → 100 ≤ moment - r.last → StepsAs A A None (record r { last = moment }) s a b x y Ticks → TicksAs A r s a b x y moment
-  tick_done {A = A} r s moment a b x y le h = record {
+  pub tick_done : {A : Known → List (Hosted C) → Audience → Type 0} (r s : Running C) (moment : ℕ) (t u : Telling) → 100 ≤ moment - r.last → StepsAs A A None (record r { last = moment }) s t u Ticks → TicksAs A r s t u moment
+  tick_done {A = A} r s moment t u le h = record {
     answers = h.answers;
-    goes = goes_as r (record r { last = moment }) s a b x y (ticked moment h.answers) (stepped_by h.answers Ticks) (tick_is r moment h.answers le) h.goes;
-    attends = λ before noted u.
-        let t : (v : Audience) × StepHands h.answers Ticks (at_work r.node.core) u v × Passes A A r.node.clients s.node.clients u v = h.attends before noted u in (
-          t.0,
-          subst (λ q. TickHands q h.answers (at_work r.node.core) u t.0) (sym (due r.last moment le)) t.1,
-          t.2,
+    goes = goes_as r (record r { last = moment }) s t u (ticked moment h.answers) (stepped_by h.answers Ticks) (tick_is r moment h.answers le) h.goes;
+    attends = λ before noted z.
+        let a : (v : Audience) × StepHands h.answers Ticks (at_work r.node.core) z v × Passes A A r.node.clients s.node.clients z v = h.attends before noted z in (
+          a.0,
+          subst (λ q. TickHands q h.answers (at_work r.node.core) z a.0) (sym (due r.last moment le)) a.1,
+          a.2,
         );
   }
 
-  pub tick_broke : (r : Running C) (moment : ℕ) (a b : Option (List LinkCall)) (x y : Option (List ℕ)) → 100 ≤ moment - r.last → StepBreaks None (record r { last = moment }) a b x y Ticks → TickBreaks r a b x y moment
-  tick_broke r moment a b x y le h = record { answers = h.answers; breaks = breaks_as r (record r { last = moment }) a b x y (ticked moment h.answers) (stepped_by h.answers Ticks) (tick_is r moment h.answers le) h.breaks }
+  pub tick_broke : (r : Running C) (moment : ℕ) (t u : Telling) → 100 ≤ moment - r.last → StepBreaks None (record r { last = moment }) t u Ticks → TickBreaks r t u moment
+  tick_broke r moment t u le h = record { answers = h.answers; breaks = breaks_as r (record r { last = moment }) t u (ticked moment h.answers) (stepped_by h.answers Ticks) (tick_is r moment h.answers le) h.breaks }
 
-  pub tick_not : {A : Known → List (Hosted C) → Audience → Type 0} (r : Running C) (moment : ℕ) (a : Option (List LinkCall)) (x : Option (List ℕ)) → moment - r.last < 100 → TicksAs A r r a a x x moment
-  tick_not r moment a x lt = record {
+  pub tick_not : {A : Known → List (Hosted C) → Audience → Type 0} (r : Running C) (moment : ℕ) (t : Telling) → moment - r.last < 100 → TicksAs A r r t t moment
+  tick_not r moment t lt = record {
     answers = silent;
-    goes = goes_as r r r a a x x (ticked moment silent) (λ d. d) (λ before noted. ap (λ q. ticked_if q moment silent (daemon_of r before noted)) (undue r.last moment lt)) (goes_none r a x);
-    attends = λ before noted u. (u, subst (λ q. TickHands q silent (at_work r.node.core) u u) (sym (undue r.last moment lt)) refl, λ known held. held);
+    goes = goes_as r r r t t (ticked moment silent) (λ d. d) (λ before noted. ap (λ q. ticked_if q moment silent (daemon_of r before noted)) (undue r.last moment lt)) (goes_none r t);
+    attends = λ before noted z. (z, subst (λ q. TickHands q silent (at_work r.node.core) z z) (sym (undue r.last moment lt)) refl, λ known held. held);
   }
 
-  -- ---- no message
-
-  pub give_nothing : {A : Known → List (Hosted C) → Audience → Type 0} (r : Running C) (network : ℕ) (a : Option (List LinkCall)) (x : Option (List ℕ)) → GivesAs A r r a a x x network None
-  unfolding given_on
-  give_nothing r network a x = record {
-    answers = silent;
-    goes = goes_as r r r a a x x (given_on network None silent) (λ d. d) (λ before noted. refl) (goes_none r a x);
-    attends = λ before noted u. (u, refl, λ known held. held);
+  -- the clock was read, and the node ticked where that was due
+  tick_acts : {A : Known → List (Hosted C) → Audience → Type 0} (r s : Running C) (moment : ℕ) (t u v : Telling) → Did t u (Read moment ∷ []) → (p : TicksAs A r s u v moment) → Acts r s t v (actions.Ticks moment p.answers ∷ [])
+  unfolding did_all did doings_of doings
+  tick_acts r s moment t u v at p = record {
+    calls = p.goes.calls;
+    records = p.goes.records;
+    is = p.goes.is;
+    done = Reads moment ∷ step_doings p.goes.records p.goes.calls;
+    are = λ before noted. append-nil _ ∙ ap (λ x. Reads moment ∷ x) (since_comes r s (ticked moment p.answers) p.goes.calls p.goes.records p.goes.is before noted);
+    made = made_on t u v (Reads moment ∷ []) (step_doings p.goes.records p.goes.calls) (read_made t u moment at) p.goes.made;
   }
 
-  -- ---- a datagram
-
-  take_is : (r : Running C) (network : ℕ) (bytes : List ℕ) (j : Joining) (m : Option (List ℕ)) (f : Answering) → joined_as j m ≡ taken r.joiner bytes → (before : List Exchange) (noted : List Happened)
-      → taken_in network bytes f (daemon_of r before noted) ≡ given_on network m f (daemon_of (record r { joiner = j }) before noted)
-  take_is r network bytes j m f h before noted = ap (λ (t : Joined). given_on network t.message f (record (daemon_of r before noted) { joining = t.joining })) (sym h)
-
-  pub take_done : {A : Known → List (Hosted C) → Audience → Type 0} (r s : Running C) (network : ℕ) (bytes : List ℕ) (j : Joining) (m : Option (List ℕ)) (a b : Option (List LinkCall)) (x y : Option (List ℕ)) → joined_as j m ≡ taken r.joiner bytes → GivesAs A (record r { joiner = j }) s a b x y network m
-      → TakesAs A r s a b x y network bytes
-  take_done {A = A} r s network bytes j m a b x y is h = record {
-    answers = h.answers;
-    goes = goes_as r (record r { joiner = j }) s a b x y (taken_in network bytes h.answers) (given_on network m h.answers) (take_is r network bytes j m h.answers is) h.goes;
-    attends = λ before noted u.
-        let t : (v : Audience) × GivenHands m h.answers (daemon_of (record r { joiner = j }) before noted) u v × Passes A A r.node.clients s.node.clients u v = h.attends before noted u in (
-          t.0,
-          subst (λ (z : Joined). GivenHands z.message h.answers (daemon_of r before noted) u t.0) is (hands_alike m h.answers (daemon_of r before noted) j r.failed u t.0 t.1),
-          t.2,
-        );
-  }
-
-  pub take_broke : (r : Running C) (network : ℕ) (bytes : List ℕ) (j : Joining) (m : Option (List ℕ)) (a b : Option (List LinkCall)) (x y : Option (List ℕ)) → joined_as j m ≡ taken r.joiner bytes → GiveBreaks (record r { joiner = j }) a b x y network m → TakeBreaks r a b x y network bytes
-  take_broke r network bytes j m a b x y is h =
-      record { answers = h.answers; breaks = breaks_as r (record r { joiner = j }) a b x y (taken_in network bytes h.answers) (given_on network m h.answers) (take_is r network bytes j m h.answers is) h.breaks }
-
-  pub take_none : (r : Running C) (network : ℕ) (bytes : List ℕ) (a : Option (List LinkCall)) (x : Option (List ℕ)) → TakeBreaks r a a x x network bytes
-  take_none r network bytes a x = record { answers = silent; breaks = breaks_none r a a x (taken_in network bytes silent) (none_made a) (adds_taken network bytes silent) }
+  tick_acts_break : (r : Running C) (moment : ℕ) (t u v : Telling) → Did t u (Read moment ∷ []) → (p : TickBreaks r u v moment) → ActsBreak r t v (actions.Ticks moment p.answers ∷ [])
+  unfolding doings_of doings
+  tick_acts_break r moment t u v at p before noted =
+      subst (MadeFront t v) (sym (append-nil (Reads moment ∷ since (daemon_of r before noted) (ticked moment p.answers (daemon_of r before noted)))))
+      (made_front_on t u v (Reads moment ∷ []) (since (daemon_of r before noted) (ticked moment p.answers (daemon_of r before noted))) (read_made t u moment at) (p.breaks before noted))
 
   -- ---- a receive
 
-  -- what is told of a receive stands before what comes of it
-  after_receive : (r q : Running C) (got : LinkCall) (a b : Option (List LinkCall)) (x : Option (List ℕ)) (f : Daemon → Daemon) → as_sent got ≡ got → Grows a b (got ∷ [])
-      → ((before : List Exchange) (noted : List Happened) → f (daemon_of r before noted) ≡ daemon_of q (before ++ plain (as_sent got) ∷ []) noted) → Goes r q a b x x f
-  after_receive r q got a b x f same h is = record {
-    calls = plain (as_sent got) ∷ [];
-    records = [];
-    is = λ before noted. is before noted ∙ ap (daemon_of q (before ++ plain (as_sent got) ∷ [])) (sym (append-nil noted));
-    made = plain_made a b (as_sent got ∷ []) (record { calls = got ∷ []; told = h; are = refl });
-    written = nothing_written x;
+  -- the daemon as it received
+  abbrev after_receive : Running C → LinkCall → Running C
+  after_receive r got = record r { receiving = received_by got r.receiving }
+
+  received_is : (r : Running C) (got : LinkCall) (before : List Exchange) (noted : List Happened) → received got (daemon_of r before noted) ≡ daemon_of (after_receive r got) (before ++ plain (as_sent got) ∷ []) noted
+  unfolding received
+  received_is r got before noted = refl
+
+  -- what comes of the receive, by what is given then
+  heard_comes : (r s : Running C) (got : LinkCall) (network : ℕ) (m : Option (List ℕ)) (f : Answering) (cs : List Exchange) (rs : List Happened) → (joined_by got r.receiving.joiner).message ≡ m → given_on (network_of got) m f ≡ given_on network m f → Comes (after_receive r got) s (given_on network m f) cs rs → Comes r s (heard got f) (plain (as_sent got) ∷ cs) rs
+  unfolding heard
+  heard_comes r s got network m f cs rs is same h before noted =
+      let e : Daemon = daemon_of (after_receive r got) (before ++ plain (as_sent got) ∷ []) noted in
+      ap (given_on (network_of got) (joined_by got r.receiving.joiner).message f) (received_is r got before noted)
+      ∙ (ap (λ (o : Option (List ℕ)). given_on (network_of got) o f e) is
+      ∙ (ap (λ (g : Daemon → Daemon). g e) same
+      ∙ (h (before ++ plain (as_sent got) ∷ []) noted ∙ ap (λ (x : List Exchange). daemon_of s x (noted ++ rs)) (append_assoc before (plain (as_sent got) ∷ []) cs))))
+
+  hear_acts : (r s : Running C) (got : LinkCall) (f : Answering) (cs : List Exchange) (rs : List Happened) (t u v : Telling) → IsReceive got → Did t u (Exchanged got ∷ []) → Comes r s (heard got f) (plain (as_sent got) ∷ cs) rs
+      → ((before : List Exchange) (noted : List Happened) → since (received got (daemon_of r before noted)) (heard got f (daemon_of r before noted)) ≡ step_doings rs cs) → Made u v (step_doings rs cs) → Acts r s t v (Hears got f ∷ [])
+  unfolding did_all did doings_of doings
+  hear_acts r s got f cs rs t u v receive told is are made = record {
+    calls = plain (as_sent got) ∷ cs;
+    records = rs;
+    is = is;
+    done = Exchanges (plain (as_sent got)) ∷ step_doings rs cs;
+    are = λ before noted. append-nil _ ∙ ap (λ x. Exchanges (plain (as_sent got)) ∷ x) (are before noted);
+    made = made_on t u v (Exchanges (plain (as_sent got)) ∷ []) (step_doings rs cs) (got_made t u got receive told) made;
   }
 
-  hear_is : (r : Running C) (k : ℕ) (bytes : List ℕ) (f : Answering) (before : List Exchange) (noted : List Happened)
-      → heard (call.Received k bytes) f (daemon_of r before noted) ≡ taken_in k bytes f (told_of (call.Received k bytes) (daemon_of r before noted))
-  unfolding heard received
-  hear_is r k bytes f before noted = refl
+  since_heard : (r s : Running C) (got : LinkCall) (m : Option (List ℕ)) (network : ℕ) (f : Answering) (cs : List Exchange) (rs : List Happened) → (joined_by got r.receiving.joiner).message ≡ m → given_on (network_of got) m f ≡ given_on network m f
+      → Comes (after_receive r got) s (given_on network m f) cs rs → (before : List Exchange) (noted : List Happened) → since (received got (daemon_of r before noted)) (heard got f (daemon_of r before noted)) ≡ step_doings rs cs
+  unfolding heard
+  since_heard r s got m network f cs rs is same h before noted =
+      let e : Daemon = daemon_of (after_receive r got) (before ++ plain (as_sent got) ∷ []) noted in
+      ap (λ (d : Daemon). since d (given_on (network_of got) (joined_by got r.receiving.joiner).message f d)) (received_is r got before noted)
+      ∙ (ap (λ (o : Option (List ℕ)). since e (given_on (network_of got) o f e)) is
+      ∙ (ap (λ (g : Daemon → Daemon). since e (g e)) same
+      ∙ since_comes (after_receive r got) s (given_on network m f) cs rs h (before ++ plain (as_sent got) ∷ []) noted))
 
-  told_goes : (r : Running C) (k : ℕ) (bytes : List ℕ) (a b : Option (List LinkCall)) (x : Option (List ℕ)) → Grows a b (call.Received k bytes ∷ []) → Goes r (record r { failed = 0 }) a b x x (told_of (call.Received k bytes))
-  told_goes r k bytes a b x h = after_receive r (record r { failed = 0 }) (call.Received k bytes) a b x (told_of (call.Received k bytes)) refl h (λ before noted. refl)
+  given_none : (q : Running C) (network : ℕ) (f : Answering) → Comes q q (given_on network None f) [] []
+  unfolding given_on
+  given_none q network f before noted = ap₂ (daemon_of q) (sym (append-nil before)) (sym (append-nil noted))
 
-  pub hear_done : {A : Known → List (Hosted C) → Audience → Type 0} (r s : Running C) (k : ℕ) (bytes : List ℕ) (a b c : Option (List LinkCall)) (x y : Option (List ℕ)) → Grows a b (call.Received k bytes ∷ []) → TakesAs A (record r { failed = 0 }) s b c x y k bytes → HearsAs A r s a c x y
-  hear_done {A = A} r s k bytes a b c x y h g = record {
-    got = call.Received k bytes;
-    answers = g.answers;
-    goes = goes_as r r s a c x y (heard (call.Received k bytes) g.answers) (λ d. taken_in k bytes g.answers (told_of (call.Received k bytes) d)) (hear_is r k bytes g.answers)
-        (goes_on r (record r { failed = 0 }) s a b c x x y (told_of (call.Received k bytes)) (taken_in k bytes g.answers) (told_goes r k bytes a b x h) g.goes);
-    attends = λ before noted u.
-        let t : (v : Audience) × TakenHands bytes g.answers (daemon_of (record r { failed = 0 }) before noted) u v × Passes A A r.node.clients s.node.clients u v = g.attends before noted u in (
-          t.0,
-          hands_alike (taken r.joiner bytes).message g.answers (daemon_of r before noted) r.joiner 0 u t.0 t.1,
-          t.2,
-        );
-  }
+  -- no message is whole
+  pub hear_nothing : {A : Known → List (Hosted C) → Audience → Type 0} (r : Running C) (q : Receiving) (t u : Telling) → Receives r.receiving q None t u → HearsAs A r (record r { receiving = q }) t u
+  hear_nothing {A = A} r q t u h =
+      let none : (joined_by h.got r.receiving.joiner).message ≡ None = no_message h.got (joined_by h.got r.receiving.joiner).message h.whole_is in
+      let s : Running C = after_receive r h.got in
+      let acts : Acts r s t u (Hears h.got silent ∷ []) =
+      hear_acts r s h.got silent [] [] t u u h.receive h.told
+          (heard_comes r s h.got 0 None silent [] [] none (none_same (network_of h.got) 0 silent) (given_none s 0 silent))
+          (since_heard r s h.got None 0 silent [] [] none (none_same (network_of h.got) 0 silent) (given_none s 0 silent)) (made_nothing u) in
+      record {
+        got = h.got;
+        answers = silent;
+        acts = subst (λ (x : Receiving). Acts r (record r { receiving = x }) t u (Hears h.got silent ∷ [])) (sym h.is) acts;
+        attends = λ before noted z. (z, subst (λ (o : Option (List ℕ)). GivenHands o silent (daemon_of r before noted) z z) (sym none) refl, λ known held. held);
+      }
 
-  pub hear_broke : (r : Running C) (k : ℕ) (bytes : List ℕ) (a b c : Option (List LinkCall)) (x y : Option (List ℕ)) → Grows a b (call.Received k bytes ∷ []) → TakeBreaks (record r { failed = 0 }) b c x y k bytes → HearBreaks r a c x y
-  hear_broke r k bytes a b c x y h g = record {
-    got = call.Received k bytes;
-    answers = g.answers;
-    breaks = breaks_as r r a c x y (heard (call.Received k bytes) g.answers) (λ d. taken_in k bytes g.answers (told_of (call.Received k bytes) d)) (hear_is r k bytes g.answers)
-        (breaks_on r (record r { failed = 0 }) a b c x x y (told_of (call.Received k bytes)) (taken_in k bytes g.answers) (told_goes r k bytes a b x h) g.breaks);
-  }
+  -- a message is whole
+  pub hear_done : {A : Known → List (Hosted C) → Audience → Type 0} (r s : Running C) (q : Receiving) (network : ℕ) (message : List ℕ) (t u v : Telling) → Receives r.receiving q (Some (network, message)) t u → GivesAs A (record r { receiving = q }) s u v network message
+      → HearsAs A r s t v
+  hear_done {A = A} r s q network message t u v h given =
+      let whole : ((joined_by h.got r.receiving.joiner).message ≡ Some message) × (network_of h.got ≡ network) = whole_message h.got r.receiving.joiner network message (joined_by h.got r.receiving.joiner).message h.whole_is in
+      let g : GivesAs A (after_receive r h.got) s u v network message = subst (λ (x : Receiving). GivesAs A (record r { receiving = x }) s u v network message) h.is given in
+      let same : given_on (network_of h.got) (Some message) g.answers ≡ given_on network (Some message) g.answers = ap (λ (n : ℕ). given_on n (Some message) g.answers) whole.1 in
+      record {
+        got = h.got;
+        answers = g.answers;
+        acts = hear_acts r s h.got g.answers g.goes.calls g.goes.records t u v h.receive h.told
+            (heard_comes r s h.got network (Some message) g.answers g.goes.calls g.goes.records whole.0 same g.goes.is)
+            (since_heard r s h.got (Some message) network g.answers g.goes.calls g.goes.records whole.0 same g.goes.is) g.goes.made;
+        attends = λ before noted z.
+            let a : (w : Audience) × GivenHands (Some message) g.answers (daemon_of (after_receive r h.got) before noted) z w × Passes A A r.node.clients s.node.clients z w = g.attends before noted z in (
+              a.0,
+              subst (λ (o : Option (List ℕ)). GivenHands o g.answers (daemon_of r before noted) z a.0) (sym whole.0)
+                  (hands_alike (Some message) g.answers (daemon_of r before noted) (received_by h.got r.receiving).joiner (received_by h.got r.receiving).failed before z a.0 a.1),
+              a.2,
+            );
+      }
 
-  pub hear_quiet : {A : Known → List (Hosted C) → Audience → Type 0} (r : Running C) (a b : Option (List LinkCall)) (x : Option (List ℕ)) → Grows a b (call.Quiet ∷ []) → HearsAs A r (record r { failed = 0 }) a b x x
-  unfolding heard received given_on
-  hear_quiet r a b x h = record { got = call.Quiet; answers = silent; goes = after_receive r (record r { failed = 0 }) call.Quiet a b x (heard call.Quiet silent) refl h (λ before noted. refl); attends = λ before noted u. (u, refl, λ known held. held) }
-
-  pub hear_failed : {A : Known → List (Hosted C) → Audience → Type 0} (r : Running C) (n : ℕ) (a b : Option (List LinkCall)) (x : Option (List ℕ)) → n ≡ min (r.failed + 1) 16 → Grows a b (call.Failed ∷ []) → HearsAs A r (record r { failed = n }) a b x x
-  unfolding heard received given_on
-  hear_failed r n a b x is h = record {
-    got = call.Failed;
-    answers = silent;
-    goes = after_receive r (record r { failed = n }) call.Failed a b x (heard call.Failed silent) refl h (λ before noted. ap (λ (k : ℕ). daemon_of (record r { failed = k }) (before ++ plain call.Failed ∷ []) noted) (sym is));
-    attends = λ before noted u. (u, refl, λ known held. held);
-  }
+  pub hear_broke : (r : Running C) (q : Receiving) (network : ℕ) (message : List ℕ) (t u v : Telling) → Receives r.receiving q (Some (network, message)) t u → GiveBreaks (record r { receiving = q }) u v network message → HearBreaks r t v
+  unfolding doings_of doings heard
+  hear_broke r q network message t u v h given =
+      let whole : ((joined_by h.got r.receiving.joiner).message ≡ Some message) × (network_of h.got ≡ network) = whole_message h.got r.receiving.joiner network message (joined_by h.got r.receiving.joiner).message h.whole_is in
+      let g : GiveBreaks (after_receive r h.got) u v network message = subst (λ (x : Receiving). GiveBreaks (record r { receiving = x }) u v network message) h.is given in
+      record {
+        got = h.got;
+        answers = g.answers;
+        breaks = λ before noted.
+            let e : Daemon = daemon_of (after_receive r h.got) (before ++ plain (as_sent h.got) ∷ []) noted in
+            let rest : since (received h.got (daemon_of r before noted)) (heard h.got g.answers (daemon_of r before noted)) ≡ since e (given_on network (Some message) g.answers e) =
+            ap (λ (d : Daemon). since d (given_on (network_of h.got) (joined_by h.got r.receiving.joiner).message g.answers d)) (received_is r h.got before noted)
+                ∙ (ap (λ (o : Option (List ℕ)). since e (given_on (network_of h.got) o g.answers e)) whole.0 ∙ ap (λ (n : ℕ). since e (given_on n (Some message) g.answers e)) whole.1) in
+            subst (MadeFront t v) (sym (append-nil _ ∙ ap (λ x. Exchanges (plain (as_sent h.got)) ∷ x) rest))
+            (made_front_on t u v (Exchanges (plain (as_sent h.got)) ∷ []) (since e (given_on network (Some message) g.answers e)) (got_made t u h.got h.receive h.told) (g.breaks (before ++ plain (as_sent h.got) ∷ []) noted));
+      }
 
   -- a daemon that had no memory to receive
-  pub hear_none : (r : Running C) (a b : Option (List LinkCall)) (x : Option (List ℕ)) → Same a b → HearBreaks r a b x x
-  hear_none r a b x h = record { got = call.Quiet; answers = silent; breaks = breaks_none r a b x (heard call.Quiet silent) (λ more. same_made a b more h) (adds_heard call.Quiet silent) }
+  pub hear_none : (r : Running C) (t u : Telling) → ReceivesFront t u → HearBreaks r t u
+  unfolding doings_of doings
+  hear_none r t u h = record {
+    got = h.got;
+    answers = silent;
+    breaks = λ before noted.
+        subst (MadeFront t u) (sym (append-nil (Exchanges (plain (as_sent h.got)) ∷ since (received h.got (daemon_of r before noted)) (heard h.got silent (daemon_of r before noted)))))
+        (made_front_more t u (Exchanges (plain (as_sent h.got)) ∷ []) (since (received h.got (daemon_of r before noted)) (heard h.got silent (daemon_of r before noted))) (got_front t u h.got h.receive h.front));
+  }
 
   -- ---- a turn
 
-  pub turn_done : {A : Known → List (Hosted C) → Audience → Type 0} (r s t : Running C) (moment : ℕ) (a b c : Option (List LinkCall)) (x y z u v : Option (List ℕ)) → Counts u v (moment ∷ []) → TicksAs A r s a b x y moment → HearsAs A s t b c y z → TurnsAs A r t a c x z u v
-  unfolding turned
-  turn_done {A = A} r s t moment a b c x y z u v at p q = record {
-    turn = record { moment = moment; tick = p.answers; got = q.got; answers = q.answers };
-    moments = at;
-    goes = goes_on r s t a b c x y z (ticked moment p.answers) (heard q.got q.answers) p.goes q.goes;
-    attends = attends_on A A A r s t a b x y (ticked moment p.answers) (λ d. TickHands (is_due d.last moment) p.answers d.core) (HeardHands q.got q.answers) p.goes p.attends q.attends;
+  pub turn_done : {A : Known → List (Hosted C) → Audience → Type 0} (r q s : Running C) (moment : ℕ) (t u v w : Telling) → Did t u (Read moment ∷ []) → TicksAs A r q u v moment → HearsAs A q s v w → TurnsAs A r s t w
+  turn_done {A = A} r q s moment t u v w at p h = record {
+    turn = record { moment = moment; tick = p.answers; got = h.got; answers = h.answers };
+    acts = acts_on r q s t v w (actions.Ticks moment p.answers ∷ []) (Hears h.got h.answers ∷ []) (tick_acts r q moment t u v at p) h.acts;
+    attends = attends_on A A A r q s (ticked moment p.answers) p.goes.calls p.goes.records (λ d. TickHands (is_due d.last moment) p.answers d.core) (HeardHands h.got h.answers) p.goes.is p.attends h.attends;
   }
 
-  pub turn_broke : {A : Known → List (Hosted C) → Audience → Type 0} (r s : Running C) (moment : ℕ) (a b c : Option (List LinkCall)) (x y z u v : Option (List ℕ)) → Counts u v (moment ∷ []) → TicksAs A r s a b x y moment → HearBreaks s b c y z → TurnBreaks r a c x z u v
-  unfolding turned
-  turn_broke r s moment a b c x y z u v at p q = record {
-    turn = record { moment = moment; tick = p.answers; got = q.got; answers = q.answers };
-    moments = at;
-    breaks = breaks_on r s a b c x y z (ticked moment p.answers) (heard q.got q.answers) p.goes q.breaks;
+  pub turn_broke : {A : Known → List (Hosted C) → Audience → Type 0} (r q : Running C) (moment : ℕ) (t u v w : Telling) → Did t u (Read moment ∷ []) → TicksAs A r q u v moment → HearBreaks q v w → TurnBreaks r t w
+  turn_broke r q moment t u v w at p h = record {
+    turn = record { moment = moment; tick = p.answers; got = h.got; answers = h.answers };
+    breaks = acts_break_on r q t v w (actions.Ticks moment p.answers ∷ []) (Hears h.got h.answers ∷ []) (tick_acts r q moment t u v at p) h.breaks;
   }
 
-  pub turn_ends : (r : Running C) (moment : ℕ) (a b : Option (List LinkCall)) (x y u v : Option (List ℕ)) → Counts u v (moment ∷ []) → TickBreaks r a b x y moment → TurnBreaks r a b x y u v
-  unfolding turned
-  turn_ends r moment a b x y u v at p = record {
+  pub turn_ends : (r : Running C) (moment : ℕ) (t u v : Telling) → Did t u (Read moment ∷ []) → TickBreaks r u v moment → TurnBreaks r t v
+  turn_ends r moment t u v at p = record {
     turn = record { moment = moment; tick = p.answers; got = call.Quiet; answers = silent };
-    moments = at;
-    breaks = breaks_more r a b x y (ticked moment p.answers) (heard call.Quiet silent) p.breaks (adds_heard call.Quiet silent);
+    breaks = acts_break_more r t v (actions.Ticks moment p.answers ∷ []) (Hears call.Quiet silent ∷ []) (tick_acts_break r moment t u v at p);
   }

@@ -1,4 +1,3 @@
-pub mod Keeping
 pub mod Hosting
 pub mod Audience
 pub mod Doing

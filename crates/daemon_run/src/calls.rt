@@ -1,21 +1,20 @@
 //! The calls of the settings: those of the own node's clients.
-ghost use Rattle.std.specs.Prelude.{◌≡◌, ◌≤◌, ℕ, ◌∷◌, [], List, OnOk, OnErr, IfOk, IfSome, IsTrue, Some, None, Err, false, is_none};
-ghost use Rattle.hags_io.specs.Edges.{Rose};
+ghost use Rattle.std.specs.Prelude.{◌≡◌, ◌≤◌, ℕ, ◌∷◌, [], List, OnOk, OnErr, IfOk, IfErr, IfSome, IsTrue, Some, None, false, is_none};
+ghost use Rattle.link_use.specs.Stops.{StopsBy};
 ghost use Rattle.node_state.specs.declared.call.CallLine.TheVariants as call;
 ghost use Rattle.node_state.specs.Step.{Calls};
 ghost use Rattle.daemon_model.specs.Daemon.{own_call, own_calls};
 ghost use Rattle.daemon_run.specs.Hosting.{Known, StandWhere};
 ghost use Rattle.daemon_run.specs.Audience.{is_boxed, first_for, left_for, Attend, AttendWith};
-ghost use Rattle.daemon_run.specs.Keeping.{KeepsLink};
-ghost use Rattle.daemon_run.specs.Doing.{IsSame, IsStep, StepsAs, StepBreaks, KeySteps};
+ghost use Rattle.daemon_run.specs.Doing.{IsSame, IsStep, StepsAs, StepBreaks, CallSteps};
 ghost use Rattle.remote_clients.specs.Clients.{IsPlain};
 ghost use Rattle.daemon_run.specs.Calling.{CallsAs, CallsBreak};
 
 use crate::hosted::Hosted;
 use crate::running::Running;
-use crate::writing::Stop;
 use client_callbacks::{BoxedClient, Callbacks, DaemonClient, ScriptClient};
-use hags_io::{Link, Sink};
+use hags_io::Outside;
+use link_use::Stop;
 use node_core::NodeEvent;
 use node_state::CallLine;
 use rsct_packet::NoMemory;
@@ -75,7 +74,7 @@ fn own_call(me: u8, line: &Line) -> Option<&CallLine>
 }
 
 impl<C: Callbacks> Running<C> {
-    /// A client begins its session.
+    /// A client begins its session. One whose votes are none of an object takes none.
     fn begin_session<H: Hosts<C>>(
         &mut self,
         alloc: Global,
@@ -87,26 +86,8 @@ impl<C: Callbacks> Running<C> {
             (AttendWith (H.stand hosts.old) C.stands_for C.script)
             (AttendWith (H.stand hosts.new) C.stands_for C.script) self.old self.new
             (Calls (call.Init node name.now votes.now))) }
-        ensures same { IsSame self.old self.new }
-    {
-        let client = hosts.client(alloc, votes)?;
-        match self.node.begin_session(alloc, name, Hosted { client }) {
-            Ok(()) => Ok(()),
-            Err(_) => Err(NoMemory),
-        }
-    }
-
-    /// A client whose votes are none of an object begins its session.
-    fn begin_plain_session<H: Hosts<C>>(
-        &mut self,
-        alloc: Global,
-        name: &[u8],
-        votes: &[u8],
-        hosts: &mut H,
-    ) -> Result<(), NoMemory>
-        requires { is_boxed votes.now ≡ false }
-        ensures does { OnOk result ((node : ℕ) → IsStep (Attend C.stands_for C.script)
-            (Attend C.stands_for C.script) self.old self.new
+        ensures plain { is_boxed votes.now ≡ false → OnOk result ((node : ℕ) → IsStep
+            (Attend C.stands_for C.script) (Attend C.stands_for C.script) self.old self.new
             (Calls (call.Init node name.now votes.now))) }
         ensures same { IsSame self.old self.new }
     {
@@ -129,7 +110,7 @@ impl<C: Callbacks> Running<C> {
         }
     }
 
-    /// A call happens to the node.
+    /// A call happens to the node. A plain one takes no object.
     #[tactic(auto, using(crate::proofs::NodeLaws::within_kept, crate::proofs::NodeLaws::goodbye_kept))]
     fn call<H: Hosts<C>>(
         &mut self,
@@ -140,6 +121,8 @@ impl<C: Callbacks> Running<C> {
         ensures does { OnOk result (IsStep (AttendWith (H.stand hosts.old) C.stands_for C.script)
             (AttendWith (H.stand hosts.new) C.stands_for C.script) self.old self.new
             (Calls call.now)) }
+        ensures plain { IsPlain call.now → OnOk result (IsStep (Attend C.stands_for C.script)
+            (Attend C.stands_for C.script) self.old self.new (Calls call.now)) }
         ensures same { IsSame self.old self.new }
     {
         match call {
@@ -151,145 +134,77 @@ impl<C: Callbacks> Running<C> {
         }
     }
 
-    /// A call of a client on another machine happens to the node; a client that it makes has no object.
-    fn call_plain<H: Hosts<C>>(
+    /// A call happens, of this key or of none, and what it leaves is written and sent, and comes to who is to hear it.
+    /// Answers whether it was refused.
+    #[tactic(auto, using(crate::proofs::StepLaws::step_done, crate::proofs::StepLaws::call_step_done, crate::proofs::StepLaws::step_broke, crate::proofs::StepLaws::step_none))]
+    pub(crate) fn carry_call<H: Hosts<C>, O: Outside>(
         &mut self,
         alloc: Global,
+        calling: Option<u32>,
         call: &CallLine,
         hosts: &mut H,
-    ) -> Result<(), NoMemory>
-        requires { IsPlain call.now }
-        ensures does { OnOk result (IsStep (Attend C.stands_for C.script)
-            (Attend C.stands_for C.script) self.old self.new (Calls call.now)) }
-        ensures same { IsSame self.old self.new }
-    {
-        match call {
-            CallLine::Init { name, votes, .. } => {
-                self.begin_plain_session(alloc, name.as_slice(), votes.as_slice(), hosts)
-            }
-            CallLine::Goodbye { client } => self.say_goodbye(alloc, client.as_slice()),
-            _ => self.happen(alloc, NodeEvent::Call(call)),
-        }
-    }
-
-    /// A call of a key happens; what it leaves is sent and written, and comes to who is to hear it. Answers whether it was
-    /// refused.
-    #[tactic(auto, using(crate::proofs::StepLaws::key_step_done, crate::proofs::StepLaws::step_broke, crate::proofs::StepLaws::step_none, crate::proofs::KeepLaws::keeps_itself))]
-    pub(crate) fn carry_key_call<H: Hosts<C>, K: Sink, L: Link>(
-        &mut self,
-        alloc: Global,
-        key: u32,
-        call: &CallLine,
-        hosts: &mut H,
-        out: &mut K,
-        link: &mut L,
+        outside: &mut O,
     ) -> Result<bool, Stop>
-        requires within { self.old.me ≤ 32 }
-        requires plain { IsPlain call.now }
-        ensures done { IfOk result (λ refused. KeySteps (Attend C.stands_for C.script) self.old
-            self.new refused (L.calls link.old) (L.calls link.new) (K.held out.old)
-            (K.held out.new) key call.now) }
-        ensures broke { OnErr result (StepBreaks (Some key) self.old (L.calls link.old)
-            (L.calls link.new) (K.held out.old) (K.held out.new) (Calls call.now)) }
-        ensures same { IsSame self.old self.new }
-        ensures keeps { KeepsLink (L.places link.old) (L.places link.new) (L.opened link.old)
-            (L.opened link.new) (L.faults link.old) (L.faults link.new) }
-        ensures later { K.faults out.old ≤ K.faults out.new }
-        ensures fault { result ≡ Err Stop.WriteFault
-            → Rose (K.faults out.old) (K.faults out.new) }
-    {
-        if self.call_plain(alloc, call, hosts).is_err() {
-            return Err(Stop::NoMemory);
-        }
-        self.settle_for(alloc, Some(key), out, link)
-    }
-
-    /// A call happens, and what it leaves is sent and written.
-    #[tactic(auto, using(crate::proofs::StepLaws::step_done, crate::proofs::StepLaws::step_broke, crate::proofs::StepLaws::step_none, crate::proofs::KeepLaws::keeps_itself))]
-    fn carry_call<H: Hosts<C>, K: Sink, L: Link>(
-        &mut self,
-        alloc: Global,
-        call: &CallLine,
-        hosts: &mut H,
-        out: &mut K,
-        link: &mut L,
-    ) -> Result<(), Stop>
-        requires { self.old.me ≤ 32 }
+        requires { self.old.outbox.me ≤ 32 }
         ensures done { OnOk result (StepsAs (AttendWith (H.stand hosts.old) C.stands_for C.script)
-            (AttendWith (H.stand hosts.new) C.stands_for C.script) None self.old self.new
-            (L.calls link.old) (L.calls link.new) (K.held out.old) (K.held out.new)
-            (Calls call.now)) }
-        ensures broke { OnErr result (StepBreaks None self.old (L.calls link.old) (L.calls link.new)
-            (K.held out.old) (K.held out.new) (Calls call.now)) }
+            (AttendWith (H.stand hosts.new) C.stands_for C.script) calling self.old self.new
+            (O.told outside.old) (O.told outside.new) (Calls call.now)) }
+        ensures plain { IsPlain call.now → IfOk result (λ refused. CallSteps
+            (Attend C.stands_for C.script) calling self.old self.new refused
+            (O.told outside.old) (O.told outside.new) call.now) }
+        ensures broke { OnErr result (StepBreaks calling self.old (O.told outside.old)
+            (O.told outside.new) (Calls call.now)) }
         ensures same { IsSame self.old self.new }
-        ensures keeps { KeepsLink (L.places link.old) (L.places link.new) (L.opened link.old)
-            (L.opened link.new) (L.faults link.old) (L.faults link.new) }
-        ensures later { K.faults out.old ≤ K.faults out.new }
-        ensures fault { result ≡ Err Stop.WriteFault
-            → Rose (K.faults out.old) (K.faults out.new) }
+        ensures fault { IfErr result (StopsBy (O.told outside.new)) }
     {
-        if self.call(alloc, call, hosts).is_err() {
-            return Err(Stop::NoMemory);
-        }
-        self.settle(alloc, out, link)
+        self.call(alloc, call, hosts)?;
+        self.settle(alloc, calling, outside)
     }
 
     /// A line of the settings: a call of the own node's clients is carried out, and any other line is skipped.
-    #[tactic(auto, using(crate::proofs::CallLaws::call_done, crate::proofs::CallLaws::call_broke, crate::proofs::CallLaws::call_none, crate::proofs::KeepLaws::keeps_itself))]
-    fn carry_line<H: Hosts<C>, K: Sink, L: Link>(
+    #[tactic(auto, using(crate::proofs::CallLaws::call_done, crate::proofs::CallLaws::call_broke, crate::proofs::CallLaws::call_none))]
+    fn carry_line<H: Hosts<C>, O: Outside>(
         &mut self,
         alloc: Global,
         line: &Line,
         hosts: &mut H,
-        out: &mut K,
-        link: &mut L,
+        outside: &mut O,
     ) -> Result<(), Stop>
-        requires { self.old.me ≤ 32 }
+        requires { self.old.outbox.me ≤ 32 }
         ensures done { OnOk result (CallsAs (AttendWith (H.stand hosts.old) C.stands_for C.script)
             (AttendWith (H.stand hosts.new) C.stands_for C.script) self.old self.new
-            (own_call self.old.me line.now) (L.calls link.old) (L.calls link.new)
-            (K.held out.old) (K.held out.new)) }
-        ensures broke { OnErr result (CallsBreak self.old (own_call self.old.me line.now)
-            (L.calls link.old) (L.calls link.new) (K.held out.old) (K.held out.new)) }
+            (own_call self.old.outbox.me line.now) (O.told outside.old) (O.told outside.new)) }
+        ensures broke { OnErr result (CallsBreak self.old (own_call self.old.outbox.me line.now)
+            (O.told outside.old) (O.told outside.new)) }
         ensures same { IsSame self.old self.new }
-        ensures keeps { KeepsLink (L.places link.old) (L.places link.new) (L.opened link.old)
-            (L.opened link.new) (L.faults link.old) (L.faults link.new) }
-        ensures later { K.faults out.old ≤ K.faults out.new }
-        ensures fault { result ≡ Err Stop.WriteFault
-            → Rose (K.faults out.old) (K.faults out.new) }
+        ensures fault { IfErr result (StopsBy (O.told outside.new)) }
     {
-        match own_call(self.me, line) {
-            Some(call) => self.carry_call(alloc, call, hosts, out, link),
-            None => Ok(()),
+        if let Some(call) = own_call(self.outbox.me, line) {
+            let _refused = self.carry_call(alloc, None, call, hosts, outside)?;
         }
+        Ok(())
     }
 
     /// The lines of the settings, in order.
-    #[tactic(auto, using(crate::proofs::CallLaws::lines_begin, crate::proofs::CallLaws::lines_next, crate::proofs::CallLaws::lines_broke, crate::proofs::CallLaws::lines_all, crate::proofs::KeepLaws::keeps_itself, crate::proofs::KeepLaws::keeps_on))]
-    pub fn carry_lines<H: Hosts<C>, K: Sink, L: Link>(
+    #[tactic(auto, using(crate::proofs::CallLaws::lines_begin, crate::proofs::CallLaws::lines_next, crate::proofs::CallLaws::lines_broke, crate::proofs::CallLaws::lines_all))]
+    pub fn carry_lines<H: Hosts<C>, O: Outside>(
         &mut self,
         alloc: Global,
         lines: &[Line],
         hosts: &mut H,
-        out: &mut K,
-        link: &mut L,
+        outside: &mut O,
     ) -> Result<(), Stop>
-        requires { self.old.me ≤ 32 }
+        requires { self.old.outbox.me ≤ 32 }
         ensures done { OnOk result (CallsAs (AttendWith (H.stand hosts.old) C.stands_for C.script)
             (AttendWith (H.stand hosts.new) C.stands_for C.script) self.old self.new
-            (own_calls self.old.me lines.now) (L.calls link.old) (L.calls link.new)
-            (K.held out.old) (K.held out.new)) }
-        ensures broke { OnErr result (CallsBreak self.old (own_calls self.old.me lines.now)
-            (L.calls link.old) (L.calls link.new) (K.held out.old) (K.held out.new)) }
+            (own_calls self.old.outbox.me lines.now) (O.told outside.old) (O.told outside.new)) }
+        ensures broke { OnErr result (CallsBreak self.old (own_calls self.old.outbox.me lines.now)
+            (O.told outside.old) (O.told outside.new)) }
         ensures same { IsSame self.old self.new }
-        ensures keeps { KeepsLink (L.places link.old) (L.places link.new) (L.opened link.old)
-            (L.opened link.new) (L.faults link.old) (L.faults link.new) }
-        ensures later { K.faults out.old ≤ K.faults out.new }
-        ensures fault { result ≡ Err Stop.WriteFault
-            → Rose (K.faults out.old) (K.faults out.new) }
+        ensures fault { IfErr result (StopsBy (O.told outside.new)) }
     {
         for line in lines {
-            self.carry_line(alloc, line, hosts, out, link)?;
+            self.carry_line(alloc, line, hosts, outside)?;
         }
         Ok(())
     }

@@ -1,20 +1,18 @@
 //! What comes from clients on other machines.
-ghost use Rattle.std.specs.Prelude.{◌≡◌, ◌≤◌, OnOk, OnErr, IfOk, IfSome, Some, Err, option_map};
-ghost use Rattle.hags_io.specs.Edges.{Rose};
+ghost use Rattle.std.specs.Prelude.{◌≡◌, ◌≤◌, OnOk, OnErr, IfOk, IfErr, IfSome, Some, option_map};
+ghost use Rattle.link_use.specs.Stops.{StopsBy};
 ghost use Rattle.remote_session.specs.Daemon.{seen_up};
 ghost use Rattle.remote_clients.specs.Clients.{IsPlain};
 ghost use Rattle.remote_clients.specs.Sessions.{finished, turned_down};
 ghost use Rattle.daemon_model.specs.Daemon.{up_in, call_in, down_in};
 ghost use Rattle.daemon_run.specs.Audience.{Attend};
-ghost use Rattle.daemon_run.specs.Keeping.{KeepsLink};
 ghost use Rattle.daemon_run.specs.Doing.{IsSame, is_up_taken, Sends, SendsFront, CallsKey, CallKeyBreaks, GivesAs, GiveBreaks};
 
 use crate::calls::Hosts;
 use crate::running::Running;
-use crate::sending::{Receiver, send_message};
-use crate::writing::Stop;
 use client_callbacks::Callbacks;
-use hags_io::{Link, Sink};
+use hags_io::Outside;
+use link_use::{Receiver, Stop};
 use node_core::NodeEvent;
 use node_state::CallLine;
 use remote_session::UpSeen;
@@ -38,12 +36,12 @@ impl<C: Callbacks> Running<C> {
     /// The call of the node that a key's line is, if it is one.
     fn call_in(&self, alloc: Global, key: u32, line: &[u8]) -> Result<Option<CallLine>, NoMemory>
         ensures call { IfOk result (λ call. call
-            ≡ call_in self.now.sessions self.now.me key line.now) }
+            ≡ call_in self.now.sessions self.now.outbox.me key line.now) }
         ensures plain { IfOk result (λ call. IfSome call IsPlain) }
     {
         match &self.sessions {
             None => Ok(None),
-            Some(sessions) => sessions.call(alloc, self.me, key, line),
+            Some(sessions) => sessions.call(alloc, self.outbox.me, key, line),
         }
     }
 
@@ -77,41 +75,30 @@ impl<C: Callbacks> Running<C> {
     }
 
     /// The line of a key: a call of the node, or refused without a step.
-    #[tactic(auto, using(crate::proofs::RemoteLaws::line_refused, crate::proofs::RemoteLaws::line_done, crate::proofs::RemoteLaws::line_broke, crate::proofs::RemoteLaws::line_late, crate::proofs::RemoteLaws::line_none, crate::proofs::KeepLaws::keeps_itself))]
-    fn carry_key_line<H: Hosts<C>, K: Sink, L: Link>(
+    #[tactic(auto, using(crate::proofs::RemoteLaws::line_refused, crate::proofs::RemoteLaws::line_done, crate::proofs::RemoteLaws::line_broke, crate::proofs::RemoteLaws::line_late, crate::proofs::RemoteLaws::line_none))]
+    fn carry_key_line<H: Hosts<C>, O: Outside>(
         &mut self,
         alloc: Global,
         key: u32,
         line: &[u8],
         hosts: &mut H,
-        out: &mut K,
-        link: &mut L,
+        outside: &mut O,
     ) -> Result<(), Stop>
-        requires { self.old.me ≤ 32 }
+        requires { self.old.outbox.me ≤ 32 }
         ensures done { OnOk result (CallsKey (Attend C.stands_for C.script) self.old self.new
-            (L.calls link.old) (L.calls link.new) (K.held out.old) (K.held out.new) key line.now) }
-        ensures broke { OnErr result (CallKeyBreaks self.old (L.calls link.old)
-            (L.calls link.new) (K.held out.old) (K.held out.new) key line.now) }
+            (O.told outside.old) (O.told outside.new) key line.now) }
+        ensures broke { OnErr result (CallKeyBreaks self.old (O.told outside.old)
+            (O.told outside.new) key line.now) }
         ensures same { IsSame self.old self.new }
-        ensures keeps { KeepsLink (L.places link.old) (L.places link.new) (L.opened link.old)
-            (L.opened link.new) (L.faults link.old) (L.faults link.new) }
-        ensures later { K.faults out.old ≤ K.faults out.new }
-        ensures fault { result ≡ Err Stop.WriteFault
-            → Rose (K.faults out.old) (K.faults out.new) }
+        ensures fault { IfErr result (StopsBy (O.told outside.new)) }
     {
-        let call = match self.call_in(alloc, key, line) {
-            Ok(Some(call)) => call,
-            Ok(None) => {
-                self.turn_down(key);
-                return Ok(());
-            }
-            Err(_) => return Err(Stop::NoMemory),
+        let Some(call) = self.call_in(alloc, key, line)? else {
+            self.turn_down(key);
+            return Ok(());
         };
-        let refused = self.carry_key_call(alloc, key, &call, hosts, out, link)?;
-        match self.finish(alloc, key, &call, !refused) {
-            Ok(()) => Ok(()),
-            Err(_) => Err(Stop::NoMemory),
-        }
+        let refused = self.carry_call(alloc, Some(key), &call, hosts, outside)?;
+        self.finish(alloc, key, &call, !refused)?;
+        Ok(())
     }
 
     /// The Down of a key, as it is now; nothing where no clients on other machines are served.
@@ -126,73 +113,58 @@ impl<C: Callbacks> Running<C> {
     }
 
     /// The Down of a key goes to the sender of the datagram that came last, on this network.
-    fn send_down<L: Link>(
+    #[tactic(auto, using(crate::proofs::RemoteLaws::down_done, crate::proofs::RemoteLaws::down_front, daemon_model::proofs::MadeLaws::none_made))]
+    fn send_down<O: Outside>(
         &mut self,
         alloc: Global,
         key: u32,
         network: u8,
-        link: &mut L,
+        outside: &mut O,
     ) -> Result<(), NoMemory>
-        requires { self.old.me ≤ 32 }
-        ensures done { OnOk result (Sends self.old self.new (L.calls link.old) (L.calls link.new)
-            network (down_in self.old.sessions key)) }
-        ensures broke { OnErr result (SendsFront self.old (L.calls link.old) (L.calls link.new)
-            network (down_in self.old.sessions key)) }
+        requires { self.old.outbox.me ≤ 32 }
+        ensures done { OnOk result (Sends self.old self.new (O.told outside.old)
+            (O.told outside.new) network (down_in self.old.sessions key)) }
+        ensures broke { OnErr result (SendsFront self.old (O.told outside.old)
+            (O.told outside.new) network (down_in self.old.sessions key)) }
         ensures same { IsSame self.old self.new }
-        ensures keeps { KeepsLink (L.places link.old) (L.places link.new) (L.opened link.old)
-            (L.opened link.new) (L.faults link.old) (L.faults link.new) }
     {
-        // Read first: that it fits its field is said of a send that broke off before it, too.
-        let _number = self.number;
         let down = self.down_in(alloc, key)?;
-        let (me, incarnation) = (self.me, self.incarnation);
-        let number = &mut self.number;
         let to = Receiver { node: 0, network };
-        send_message(alloc, me, incarnation, number, to, down.as_slice(), link)
+        self.outbox
+            .send_message(alloc, to, down.as_slice(), outside)
     }
 
     /// A whole message that came on this network: an Up of a client on another machine, where those are served, after
     /// which its Down is sent; or one for the node.
-    #[tactic(auto, using(crate::proofs::RemoteLaws::give_done, crate::proofs::RemoteLaws::give_broke, crate::proofs::RemoteLaws::known_done, crate::proofs::RemoteLaws::known_broke, crate::proofs::RemoteLaws::full_done, crate::proofs::RemoteLaws::full_broke, crate::proofs::RemoteLaws::call_done, crate::proofs::RemoteLaws::call_broke_off, crate::proofs::RemoteLaws::down_broke, crate::proofs::RemoteLaws::give_none, crate::proofs::KeepLaws::keeps_itself, crate::proofs::KeepLaws::keeps_on))]
-    pub(crate) fn give<H: Hosts<C>, K: Sink, L: Link>(
+    #[tactic(auto, using(crate::proofs::RemoteLaws::give_done, crate::proofs::RemoteLaws::give_broke, crate::proofs::RemoteLaws::known_done, crate::proofs::RemoteLaws::known_broke, crate::proofs::RemoteLaws::full_done, crate::proofs::RemoteLaws::full_broke, crate::proofs::RemoteLaws::call_done, crate::proofs::RemoteLaws::call_broke_off, crate::proofs::RemoteLaws::down_broke, crate::proofs::RemoteLaws::give_none))]
+    pub(crate) fn give<H: Hosts<C>, O: Outside>(
         &mut self,
         alloc: Global,
         message: &[u8],
         network: u8,
         hosts: &mut H,
-        out: &mut K,
-        link: &mut L,
+        outside: &mut O,
     ) -> Result<(), Stop>
-        requires { self.old.me ≤ 32 }
+        requires { self.old.outbox.me ≤ 32 }
         ensures done { OnOk result (GivesAs (Attend C.stands_for C.script) self.old self.new
-            (L.calls link.old) (L.calls link.new) (K.held out.old) (K.held out.new) network
-            (Some message.now)) }
-        ensures broke { OnErr result (GiveBreaks self.old (L.calls link.old) (L.calls link.new)
-            (K.held out.old) (K.held out.new) network (Some message.now)) }
+            (O.told outside.old) (O.told outside.new) network message.now) }
+        ensures broke { OnErr result (GiveBreaks self.old (O.told outside.old)
+            (O.told outside.new) network message.now) }
         ensures same { IsSame self.old self.new }
-        ensures keeps { KeepsLink (L.places link.old) (L.places link.new) (L.opened link.old)
-            (L.opened link.new) (L.faults link.old) (L.faults link.new) }
-        ensures later { K.faults out.old ≤ K.faults out.new }
-        ensures fault { result ≡ Err Stop.WriteFault
-            → Rose (K.faults out.old) (K.faults out.new) }
+        ensures fault { IfErr result (StopsBy (O.told outside.new)) }
     {
-        let Ok(seen) = self.take_up(alloc, message) else {
-            return Err(Stop::NoMemory);
-        };
-        let key = match seen {
+        let key = match self.take_up(alloc, message)? {
             UpSeen::NoMessage => {
-                return self.step(alloc, NodeEvent::Datagram(message), out, link);
+                return self.step(alloc, NodeEvent::Datagram(message), outside);
             }
             UpSeen::Full(key, _) => key,
             UpSeen::Known(key) => key,
             UpSeen::Call { key, line } => {
-                self.carry_key_line(alloc, key, line, hosts, out, link)?;
+                self.carry_key_line(alloc, key, line, hosts, outside)?;
                 key
             }
         };
-        match self.send_down(alloc, key, network, link) {
-            Ok(()) => Ok(()),
-            Err(_) => Err(Stop::NoMemory),
-        }
+        self.send_down(alloc, key, network, outside)?;
+        Ok(())
     }
 }

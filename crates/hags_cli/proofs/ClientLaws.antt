@@ -2,12 +2,10 @@
 use Rattle.std.proofs.Common.{◌≡◌, ℕ, List, length, ◌≤◌, true, Option, Some, None, IfSome, ◌∙◌, inr}
 use Rattle.std.specs.Io.KnownBytes.{IsAtEnd}
 use Rattle.hags_io.specs.Edges.{Rose}
-use Rattle.hags_io.specs.Links.{Tells}
 use Rattle.world_model.specs.declared.script.Aim.TheVariants.{Asks}
 use Rattle.world_model.specs.declared.script.LineWhy.{LineWhy}
 use Rattle.world_model.specs.declared.script.Script.{Script}
 use Rattle.world_model.specs.Reading.{IsScript, IsNone, input_limit}
-use Rattle.daemon_model.specs.Settings.{all_places}
 use Rattle.script_reader.specs.ClientScript.{client_script}
 use Rattle.client_run.specs.declared.serving.Usage.{Usage}
 use Rattle.hags_cli.specs.declared.ending.Ending.{Ending}
@@ -35,11 +33,11 @@ calls_are new front node s h e = h (script_within_for true (Asks node) front s e
 
 -- ---- calls that are not read
 
-pub uses_settings : (e : Ending) (u : Usage) (x : Seen) → x.now ≡ x.held → Untouched x → CallsEnd u.node x.left x.reads x.reads_now e → EndsAs e (Some (uses u)) x
+pub uses_settings : (e : Ending) (u : Usage) (x : Seen) → x.now.held ≡ x.before.held → Untouched x → CallsEnd u.node x.left x.reads x.reads_now e → EndsAs e (Some (uses u)) x
 uses_settings ending.Done u x still touched h = absurd h
 uses_settings ending.Usage u x still touched h = absurd h
 uses_settings (ending.BadLine line why) u x still touched h = (h, keeps_same x still, touched)
-uses_settings ending.NoMemory u x still touched h = memory_ends (Some (uses u)) x still touched.calls
+uses_settings ending.NoMemory u x still touched h = memory_ends (Some (uses u)) x still touched
 uses_settings ending.ReadFault u x still touched h = (h, keeps_same x still, touched)
 uses_settings ending.WriteFault u x still touched h = absurd h
 uses_settings ending.LinkFault u x still touched h = absurd h
@@ -50,9 +48,9 @@ uses_settings ending.DaemonFull u x still touched h = absurd h
 
 -- ---- a client that ran
 
-module _ (u : Usage) (x : Seen) (s : Script) (spelled : IfSome x.left (λ b. client_script u.node b ≡ IsScript s)) (placed : Tells x.places x.places_now (all_places s.config)) where
+module _ (u : Usage) (x : Seen) (s : Script) (spelled : IfSome x.left (λ b. client_script u.node b ≡ IsScript s)) where
   used_by : (P : Script → Type 0) → P s → UsesBy x u P
-  used_by P h = record { script = s; spelled = spelled; placed = placed; holds = h }
+  used_by P h = record { script = s; spelled = spelled; holds = h }
 
   pub uses_done : IsAtEnd x.rest → UsesOver x u (UsesAll x u) s → EndsAs ending.Done (Some (uses u)) x
   uses_done end h = (used_by (UsesOver x u (UsesAll x u)) h, end)
@@ -66,10 +64,10 @@ module _ (u : Usage) (x : Seen) (s : Script) (spelled : IfSome x.left (λ b. cli
   pub uses_full : UsesOver x u (FindsFull x u) s → EndsAs ending.DaemonFull (Some (uses u)) x
   uses_full h = used_by (UsesOver x u (FindsFull x u)) h
 
-  pub uses_no_more : Rose x.faults x.faults_now → UsesNoMore x u s → EndsAs ending.LinkFault (Some (uses u)) x
+  pub uses_no_more : Rose x.before.link_faults x.now.link_faults → UsesNoMore x u s → EndsAs ending.LinkFault (Some (uses u)) x
   uses_no_more rose h = (rose, used_by (UsesNoMore x u) h)
 
-  pub uses_part : Rose x.writes x.writes_now → UsesPart x u s → EndsAs ending.WriteFault (Some (uses u)) x
+  pub uses_part : Rose x.before.write_faults x.now.write_faults → UsesPart x u s → EndsAs ending.WriteFault (Some (uses u)) x
   uses_part rose h = (rose, used_by (UsesPart x u) h)
 
   pub uses_no_memory : UsesPart x u s → EndsAs ending.NoMemory (Some (uses u)) x

@@ -6,8 +6,6 @@ use Rattle.hags_io.specs.declared.source.Put.{Put}
 use Rattle.hags_io.specs.declared.source.Put.TheVariants as put
 use Rattle.hags_io.specs.Edges.{GrowsByFront, Rose, Puts}
 use Rattle.hags_io.proofs.ByteLaws.{none_grew}
-use Rattle.hags_io.specs.Links.{Same}
-use Rattle.daemon_run.proofs.KeepLaws.{same_itself}
 use Rattle.node_state.specs.declared.happened.Happened.{Happened}
 use Rattle.world_model.specs.declared.script.LineWhy.{LineWhy}
 use Rattle.world_model.specs.Reading.{IsScript, IsNone, script_of}
@@ -252,7 +250,7 @@ asks_nothing : (t : Option Task) (P : Task → Type 0) → t ≡ None → Asks t
 asks_nothing t P none h = subst (λ (z : Option Task). Asks z P) none h
 
 -- where each ending has its cause, what can be done leaves three of them
-ended_complete : (e : Ending) (t : Option Task) (x : Seen) → EndsAs e t x → Asks t (CanBeDone x) → (Rose x.reads x.reads_now → ⊥) → (Rose x.writes x.writes_now → ⊥) → (Asks t (LinkFaultAs x) → ⊥) → (Asks t (NoReplyAs x) → ⊥) → (Asks t (LostAs x) → ⊥) → (Asks t (FullAs x) → ⊥)
+ended_complete : (e : Ending) (t : Option Task) (x : Seen) → EndsAs e t x → Asks t (CanBeDone x) → (Rose x.reads x.reads_now → ⊥) → (Rose x.before.write_faults x.now.write_faults → ⊥) → (Asks t (LinkFaultAs x) → ⊥) → (Asks t (NoReplyAs x) → ⊥) → (Asks t (LostAs x) → ⊥) → (Asks t (FullAs x) → ⊥)
     → (status_of e ≡ 0) ⊎ ((status_of e ≡ 3) ⊎ (status_of e ≡ 7))
 ended_complete ending.Done t x h can r w l n gone full = inl refl
 ended_complete ending.Usage t x h can r w l n gone full = absurd (asks_nothing t (CanBeDone x) h.0 can)
@@ -394,25 +392,25 @@ may_as f g e (Some b) old new (inl k) = inl k
 may_as f g e (Some b) old new (inr p) = inr (front_is f g e b old new p)
 
 -- nothing but the streams was touched
-pub untouched : (x : Seen) → x.calls_now ≡ x.calls → x.places_now ≡ x.places → x.opened_now ≡ x.opened → x.moments_now ≡ x.moments → Untouched x
-untouched x calls places opened moments = record { calls = calls; places = places; opened = opened; moments = moments }
+pub untouched : (x : Seen) → x.now.deeds ≡ x.before.deeds → x.now.calls ≡ x.before.calls → x.now.places ≡ x.before.places → x.now.opened ≡ x.before.opened → x.now.moments ≡ x.before.moments → Untouched x
+untouched x deeds calls places opened moments = record { deeds = deeds; calls = calls; places = places; opened = opened; moments = moments }
 
-pub run_ends : (k : Kinds) (list : List ℕ) → ((rs : List Happened) → kinds_text k rs ≡ shown_of list rs) → (e : Ending) (x : Seen) → Untouched x → (e ≡ ending.Done → IfSome x.left (PlaysAll (kinds_text k) x.held x.now) × IsAtEnd x.rest)
-    → OnBadLine e (λ n why. IfSome x.left (λ b. script_of b ≡ IsNone n why) × Keeps x.held x.now) → (e ≡ ending.NoMemory → IfSome x.left (MayHavePlayed (kinds_text k) x.held x.now)) → (e ≡ ending.ReadFault → Rose x.reads x.reads_now × Keeps x.held x.now)
-    → (e ≡ ending.WriteFault → Rose x.writes x.writes_now × IfSome x.left (PlaysFront (kinds_text k) x.held x.now)) → (e ≡ ending.TooMuchKept → IfSome x.left (PlaysPast (kinds_text k) x.held x.now)) → PlaysTo e → EndsAs e (Some (plays list)) x
-run_ends k list same ending.Done x still done line memory read write past command = (all_as (kinds_text k) (shown_of list) same x.left x.held x.now (done refl).0, (done refl).1)
+pub run_ends : (k : Kinds) (list : List ℕ) → ((rs : List Happened) → kinds_text k rs ≡ shown_of list rs) → (e : Ending) (x : Seen) → Untouched x → (e ≡ ending.Done → IfSome x.left (PlaysAll (kinds_text k) x.before.held x.now.held) × IsAtEnd x.rest)
+    → OnBadLine e (λ n why. IfSome x.left (λ b. script_of b ≡ IsNone n why) × Keeps x.before.held x.now.held) → (e ≡ ending.NoMemory → IfSome x.left (MayHavePlayed (kinds_text k) x.before.held x.now.held)) → (e ≡ ending.ReadFault → Rose x.reads x.reads_now × Keeps x.before.held x.now.held)
+    → (e ≡ ending.WriteFault → Rose x.before.write_faults x.now.write_faults × IfSome x.left (PlaysFront (kinds_text k) x.before.held x.now.held)) → (e ≡ ending.TooMuchKept → IfSome x.left (PlaysPast (kinds_text k) x.before.held x.now.held)) → PlaysTo e → EndsAs e (Some (plays list)) x
+run_ends k list same ending.Done x still done line memory read write past command = (all_as (kinds_text k) (shown_of list) same x.left x.before.held x.now.held (done refl).0, (done refl).1)
 run_ends k list same ending.Usage x still done line memory read write past command = absurd command
 run_ends k list same (ending.BadLine n why) x still done line memory read write past command = (line.0, line.1, still)
-run_ends k list same ending.NoMemory x still done line memory read write past command = may_as (kinds_text k) (shown_of list) same x.left x.held x.now (memory refl)
+run_ends k list same ending.NoMemory x still done line memory read write past command = may_as (kinds_text k) (shown_of list) same x.left x.before.held x.now.held (memory refl)
 run_ends k list same ending.ReadFault x still done line memory read write past command = ((read refl).0, (read refl).1, still)
-run_ends k list same ending.WriteFault x still done line memory read write past command = ((write refl).0, front_as (kinds_text k) (shown_of list) same x.left x.held x.now (write refl).1)
+run_ends k list same ending.WriteFault x still done line memory read write past command = ((write refl).0, front_as (kinds_text k) (shown_of list) same x.left x.before.held x.now.held (write refl).1)
 run_ends k list same ending.LinkFault x still done line memory read write past command = absurd command
-run_ends k list same ending.TooMuchKept x still done line memory read write past command = past_as (kinds_text k) (shown_of list) same x.left x.held x.now (past refl)
+run_ends k list same ending.TooMuchKept x still done line memory read write past command = past_as (kinds_text k) (shown_of list) same x.left x.before.held x.now.held (past refl)
 run_ends k list same ending.NoReply x still done line memory read write past command = absurd command
 run_ends k list same ending.SessionLost x still done line memory read write past command = absurd command
 run_ends k list same ending.DaemonFull x still done line memory read write past command = absurd command
 
-pub load_ends : (e : Ending) (steps : ℕ) (x : Seen) → x.rest ≡ x.left → LoadEnds e steps x.writes x.writes_now x.held x.now → EndsAs e (Some (loads steps)) x
+pub load_ends : (e : Ending) (steps : ℕ) (x : Seen) → x.rest ≡ x.left → LoadEnds e steps x.before.write_faults x.now.write_faults x.before.held x.now.held → EndsAs e (Some (loads steps)) x
 load_ends ending.Done steps x still h = (h, still)
 load_ends ending.Usage steps x still h = absurd h
 load_ends (ending.BadLine n why) steps x still h = absurd h
@@ -425,7 +423,7 @@ load_ends ending.NoReply steps x still h = absurd h
 load_ends ending.SessionLost steps x still h = absurd h
 load_ends ending.DaemonFull steps x still h = absurd h
 
-tells_so : (e : Ending) (text : List ℕ) (x : Seen) → x.rest ≡ x.left → TellEnds e text x.writes x.writes_now x.held x.now → EndsAs e (Some (tells text)) x
+tells_so : (e : Ending) (text : List ℕ) (x : Seen) → x.rest ≡ x.left → TellEnds e text x.before.write_faults x.now.write_faults x.before.held x.now.held → EndsAs e (Some (tells text)) x
 tells_so ending.Done text x still h = (h, still)
 tells_so ending.Usage text x still h = absurd h
 tells_so (ending.BadLine n why) text x still h = absurd h
@@ -438,32 +436,29 @@ tells_so ending.NoReply text x still h = absurd h
 tells_so ending.SessionLost text x still h = absurd h
 tells_so ending.DaemonFull text x still h = absurd h
 
-pub tell_ends : (e : Ending) (text wanted : List ℕ) (x : Seen) → text ≡ wanted → x.rest ≡ x.left → TellEnds e text x.writes x.writes_now x.held x.now → EndsAs e (Some (tells wanted)) x
+pub tell_ends : (e : Ending) (text wanted : List ℕ) (x : Seen) → text ≡ wanted → x.rest ≡ x.left → TellEnds e text x.before.write_faults x.now.write_faults x.before.held x.now.held → EndsAs e (Some (tells wanted)) x
 tell_ends e text wanted x is still h = subst (λ (t : List ℕ). EndsAs e (Some (tells t)) x) is (tells_so e text x still h)
 
 pub keeps_itself : (held : Option (List ℕ)) → Keeps held held
 keeps_itself None = tt
 keeps_itself (Some bytes) = refl
 
-pub keeps_same : (x : Seen) → x.now ≡ x.held → Keeps x.held x.now
-keeps_same x still = subst (Keeps x.held) (sym still) (keeps_itself x.held)
-
-calls_same : (x : Seen) → x.calls_now ≡ x.calls → Same x.calls x.calls_now
-calls_same x still = subst (Same x.calls) (sym still) (same_itself x.calls)
+pub keeps_same : (x : Seen) → x.now.held ≡ x.before.held → Keeps x.before.held x.now.held
+keeps_same x still = subst (Keeps x.before.held) (sym still) (keeps_itself x.before.held)
 
 nothing_played : (list : List ℕ) (left held now : Option (List ℕ)) → Keeps held now → IfSome left (MayHavePlayed (shown_of list) held now)
 nothing_played list None held now kept = tt
 nothing_played list (Some b) held now kept = inl kept
 
 -- before anything was done
-pub memory_ends : (t : Option Task) (x : Seen) → x.now ≡ x.held → x.calls_now ≡ x.calls → EndsAs ending.NoMemory t x
-memory_ends None x still calls = keeps_same x still
-memory_ends (Some (plays list)) x still calls = nothing_played list x.left x.held x.now (keeps_same x still)
-memory_ends (Some (loads steps)) x still calls = none_grew x.held x.now _ (keeps_same x still)
-memory_ends (Some (tells text)) x still calls = keeps_same x still
-memory_ends (Some (serves s objects)) x still calls = inl (keeps_same x still, calls_same x calls)
-memory_ends (Some (asks a)) x still calls = keeps_same x still
-memory_ends (Some (uses u)) x still calls = inl (keeps_same x still, calls_same x calls)
+pub memory_ends : (t : Option Task) (x : Seen) → x.now.held ≡ x.before.held → Untouched x → EndsAs ending.NoMemory t x
+memory_ends None x still touched = keeps_same x still
+memory_ends (Some (plays list)) x still touched = nothing_played list x.left x.before.held x.now.held (keeps_same x still)
+memory_ends (Some (loads steps)) x still touched = none_grew x.before.held x.now.held _ (keeps_same x still)
+memory_ends (Some (tells text)) x still touched = keeps_same x still
+memory_ends (Some (serves s objects)) x still touched = inl (keeps_same x still, touched)
+memory_ends (Some (asks a)) x still touched = keeps_same x still
+memory_ends (Some (uses u)) x still touched = inl (keeps_same x still, touched)
 
-pub usage_ends : (t : Option Task) (x : Seen) → t ≡ None → x.now ≡ x.held → x.rest ≡ x.left → Untouched x → EndsAs ending.Usage t x
+pub usage_ends : (t : Option Task) (x : Seen) → t ≡ None → x.now.held ≡ x.before.held → x.rest ≡ x.left → Untouched x → EndsAs ending.Usage t x
 usage_ends t x none still rest touched = (none, keeps_same x still, rest, touched)

@@ -2,9 +2,8 @@
 use Rattle.std.specs.Prelude.{◌≡◌, ℕ, ◌≤◌, ◌⊎◌, ◌+◌, ◌/◌, ◌%◌, ◌^◌, ◌-◌, min, max, Bool, true, false, List, [], ◌∷◌, Option, Some, None, IfSome}
 use Rattle.std.specs.Io.KnownBytes.{Appends, Keeps, IsAtEnd}
 use Rattle.hags_io.specs.Edges.{GrowsByFront, Rose}
-use Rattle.hags_io.specs.Links.{Same, Tells, Counts, was_opened}
-use Rattle.hags_io.specs.declared.link.LinkCall.{LinkCall}
-use Rattle.hags_io.specs.declared.link.Places.{Places}
+use Rattle.hags_io.specs.Deeds.{Deed, Read}
+use Rattle.hags_io.specs.Telling.{Telling, Did}
 use Rattle.node_state.specs.declared.config.Config.{Config}
 use Rattle.node_state.specs.declared.happened.Happened.{Happened}
 use Rattle.node_state.specs.declared.state.Core.{Core}
@@ -19,17 +18,15 @@ use Rattle.transcript.specs.declared.kinds.Kinds.{Kinds}
 use Rattle.transcript.specs.Kinds.{kinds_text, kinds_of}
 use Rattle.load_script.specs.Script.{load_script}
 use Rattle.net_script.specs.PlaySafe.{ScriptIsSafe, KeptRunIsSafe}
-use Rattle.daemon_model.specs.Settings.{all_places}
-use Rattle.daemon_run.specs.Ends.{NothingDone, EndsByLink}
-use Rattle.daemon_run.specs.declared.serving.Serving.{Serving}
+use Rattle.daemon_model.specs.Settings.{OverLink, OverLinkIf}
+use Rattle.link_use.specs.Receiving.{nothing_received}
 use Rattle.daemon_model.specs.Lives.{ServesAs, ServesTo, ServesFront}
 use Rattle.status_client.specs.declared.question.Asking.{Asking}
-use Rattle.status_client.specs.Waiting.{nothing_heard}
-use Rattle.status_client.specs.Asked.{Answered, Unanswered, Failing, AsksThen}
+use Rattle.status_client.specs.Asked.{Asked, Answered, Unanswered, Failing}
 use Rattle.client_run.specs.declared.client.Client.{Client}
 use Rattle.client_run.specs.declared.serving.Usage.{Usage}
 use Rattle.client_run.specs.Running as used
-use Rattle.client_run.specs.Using as usage
+use Rattle.client_run.specs.Using.{Keyed}
 use Rattle.script_reader.specs.ClientScript.{client_script}
 use Rattle.hags_words.specs.declared.command.Command.{Command}
 use Rattle.hags_words.specs.declared.command.Command.TheVariants as command
@@ -97,34 +94,22 @@ Asks (Some task) P = P task
 
 -- ---- what a call saw
 
--- Of its input what was left and what is, and its faults; of its output what was held and what is, and its faults; what the
--- link told and tells, and its faults; and the moments that the clock told and tells.
+-- Of its input what was left and what is, and its faults; and of its outside what was told and what is.
 pub record Seen : Type 0 where
   pub left : Option (List ℕ)
   pub rest : Option (List ℕ)
   pub reads : ℕ
   pub reads_now : ℕ
-  pub held : Option (List ℕ)
-  pub now : Option (List ℕ)
-  pub writes : ℕ
-  pub writes_now : ℕ
-  pub calls : Option (List LinkCall)
-  pub calls_now : Option (List LinkCall)
-  pub places : Option Places
-  pub places_now : Option Places
-  pub opened : Option (Option (ℕ × Bool))
-  pub opened_now : Option (Option (ℕ × Bool))
-  pub faults : ℕ
-  pub faults_now : ℕ
-  pub moments : Option (List ℕ)
-  pub moments_now : Option (List ℕ)
+  pub before : Telling
+  pub now : Telling
 
 -- nothing was told to the link, sent, received or read of the clock
 pub record Untouched (x : Seen) : Type 0 where
-  pub calls : x.calls_now ≡ x.calls
-  pub places : x.places_now ≡ x.places
-  pub opened : x.opened_now ≡ x.opened
-  pub moments : x.moments_now ≡ x.moments
+  pub deeds : x.now.deeds ≡ x.before.deeds
+  pub calls : x.now.calls ≡ x.before.calls
+  pub places : x.now.places ≡ x.before.places
+  pub opened : x.now.opened ≡ x.before.opened
+  pub moments : x.now.moments ≡ x.before.moments
 
 -- ---- what a load leaves
 
@@ -188,27 +173,26 @@ abbrev pub incarnation_at : ℕ → ℕ
 incarnation_at moment = max ((moment / 1000) % 2 ^ 32) 1
 
 -- the clock is read once, for the incarnation
-pub record ByClock (moments after : Option (List ℕ)) (incarnation : ℕ) : Type 0 where
+pub record ByClock (before start : Telling) (incarnation : ℕ) : Type 0 where
   pub moment : ℕ
-  pub read : Counts moments after (moment ∷ [])
+  pub read : Did before start (Read moment ∷ [])
   pub is : incarnation ≡ incarnation_at moment
 
 -- the incarnation is the one that is named, or the clock gives it
-abbrev pub Incarnates : Option ℕ → Option (List ℕ) → Option (List ℕ) → ℕ → Type 0
-Incarnates (Some named) moments after incarnation = (incarnation ≡ named) × (after ≡ moments)
-Incarnates None moments after incarnation = ByClock moments after incarnation
+abbrev pub Incarnates : Option ℕ → Telling → Telling → ℕ → Type 0
+Incarnates (Some named) before start incarnation = (incarnation ≡ named) × (start ≡ before)
+Incarnates None before start incarnation = ByClock before start incarnation
 
--- which daemon runs: with these settings, in this incarnation, from where the clock told these moments
+-- which daemon runs: with these settings, in this incarnation, from what was told by then
 pub record Running : Type 0 where
   pub script : Script
   pub incarnation : ℕ
-  pub moments : Option (List ℕ)
+  pub start : Telling
 
 -- the settings are those of the input, and the incarnation that of the words or the clock
 pub record IsRunning (x : Seen) (s : Service) (objects : ℕ) (r : Running) : Type 0 where
   pub spelled : IfSome x.left (λ b. daemon_script s.node (Some (counted objects)) b ≡ IsScript r.script)
-  pub incarnates : Incarnates s.incarnation x.moments r.moments r.incarnation
-  pub placed : Tells x.places x.places_now (all_places r.script.config)
+  pub incarnates : Incarnates s.incarnation x.before r.start r.incarnation
 
 -- it runs, and of it this holds
 pub record Runs (x : Seen) (s : Service) (objects : ℕ) (P : Running → Type 0) : Type 0 where
@@ -219,14 +203,6 @@ pub record Runs (x : Seen) (s : Service) (objects : ℕ) (P : Running → Type 0
 abbrev pub port_of : Service → Running → ℕ
 port_of s r = r.script.config.port + s.node
 
-abbrev pub DaemonOpened : Seen → Service → Running → Bool → Type 0
-DaemonOpened x s r done = Tells x.opened x.opened_now (was_opened (port_of s r) done)
-
--- it did all its turns, whatever its node came to
-pub record IsServed (script : Script) (serving : Serving) (a b : Option (List LinkCall)) (y z u v : Option (List ℕ)) : Type 0 where
-  pub core : Core
-  pub serves : ServesAs script serving.me serving.incarnation serving.remote serving.turns core a b y z u v
-
 -- so a daemon ends
 abbrev pub ServedAs : Ending → Type 0
 ServedAs ending.Done = Unit {0}
@@ -235,110 +211,107 @@ ServedAs ending.WriteFault = Unit {0}
 ServedAs ending.LinkFault = Unit {0}
 ServedAs _ = ⊥
 
--- it did all its turns
-pub record ServesAll (x : Seen) (s : Service) (r : Running) : Type 0 where
-  pub opened : DaemonOpened x s r true
+-- whatever its node came to
+pub record IsServed (script : Script) (me incarnation : ℕ) (remote : Bool) (turns : ℕ) (old new : Telling) : Type 0 where
   pub core : Core
-  pub serves : ServesAs r.script s.node r.incarnation s.remote s.turns core x.calls x.calls_now x.held x.now r.moments x.moments_now
+  pub serves : ServesAs script me incarnation remote turns core old new
+
+-- it did all its turns
+abbrev pub ServesAll : Seen → Service → Running → Type 0
+ServesAll x s r = OverLink r.script.config (port_of s r) r.start (λ opened. IsServed r.script s.node r.incarnation s.remote s.turns opened x.now)
 
 -- it broke off
-pub record ServesPart (x : Seen) (s : Service) (r : Running) : Type 0 where
-  pub opened : DaemonOpened x s r true
-  pub serves : ServesFront r.script s.node r.incarnation s.remote s.turns x.calls x.calls_now x.held x.now r.moments x.moments_now
+abbrev pub ServesPart : Seen → Service → Running → Type 0
+ServesPart x s r = OverLink r.script.config (port_of s r) r.start (λ opened. ServesFront r.script s.node r.incarnation s.remote s.turns opened x.now)
 
 -- the link could not be opened, and nothing more was done; or sixteen receives in a row failed
-pub data ServesNoMore (x : Seen) (s : Service) (r : Running) : Type 0 where
-  NeverOpened : DaemonOpened x s r false → NothingDone x.calls x.calls_now x.held x.now r.moments x.moments_now → ServesNoMore x s r
-  FailedOften : DaemonOpened x s r true → ServesTo r.script s.node r.incarnation s.remote s.turns x.calls x.calls_now x.held x.now r.moments x.moments_now → ServesNoMore x s r
+abbrev pub ServesNoMore : Seen → Service → Running → Type 0
+ServesNoMore x s r = OverLinkIf r.script.config (port_of s r) r.start x.now (λ opened. ServesTo r.script s.node r.incarnation s.remote s.turns opened x.now)
 
 -- ---- what a question leaves
 
--- the settings are those of the input, and of the link this holds
+-- the settings are those of the input, and of them this holds
 pub record AsksBy (x : Seen) (a : Asking) (P : Config → Type 0) : Type 0 where
   pub script : Script
   pub spelled : IfSome x.left (λ b. daemon_script a.node None b ≡ IsScript script)
-  pub placed : Tells x.places x.places_now (all_places script.config)
   pub holds : P script.config
 
--- the link was opened, the question went out, and then this
-abbrev pub AsksOver : Seen → Asking → (ℕ → Option (List LinkCall) → Type 0) → Config → Type 0
-AsksOver x a P c = AsksThen c a x.opened x.opened_now x.calls x.moments x.moments_now P
+-- the link was opened, the question went out, and then this, up to what was told at last
+abbrev pub AsksOver : Seen → Asking → (ℕ → Telling → Type 0) → Config → Type 0
+AsksOver x a P c = OverLink c 0 x.before (λ opened. Asked c a opened P)
 
-abbrev pub GivesAnswer : Seen → Asking → List ℕ → ℕ → Option (List LinkCall) → Type 0
-GivesAnswer x a text question sent = Answered question a.turns nothing_heard text sent x.calls_now
-
--- it was answered with a text of which this holds
-pub record IsAnswered (x : Seen) (a : Asking) (P : List ℕ → Type 0) : Type 0 where
+-- it was answered with a text, and of what was told by then this holds
+pub record IsAnswered (x : Seen) (a : Asking) (P : List ℕ → Telling → Type 0) : Type 0 where
   pub text : List ℕ
-  pub asked : AsksBy x a (AsksOver x a (GivesAnswer x a text))
-  pub holds : P text
+  pub answered : Telling
+  pub asked : AsksBy x a (AsksOver x a (λ question sent. Answered question a.turns nothing_received text sent answered))
+  pub holds : P text answered
 
-abbrev pub GivesNone : Seen → Asking → ℕ → Option (List LinkCall) → Type 0
-GivesNone x a question sent = Unanswered question a.turns nothing_heard sent x.calls_now
+abbrev pub GivesNone : Seen → Asking → ℕ → Telling → Type 0
+GivesNone x a question sent = Unanswered question a.turns nothing_received sent x.now
 
-abbrev pub GivesFaults : Seen → Asking → ℕ → Option (List LinkCall) → Type 0
-GivesFaults x a question sent = Failing question a.turns nothing_heard sent x.calls_now
+abbrev pub GivesFaults : Seen → Asking → ℕ → Telling → Type 0
+GivesFaults x a question sent = Failing question a.turns nothing_received sent x.now
 
 -- the link could not be opened, and nothing more was done; or sixteen receives in a row failed
 abbrev pub AsksNoMore : Seen → Asking → Config → Type 0
-AsksNoMore x a c = EndsByLink x.opened x.opened_now (Same x.calls x.calls_now) (AsksOver x a (GivesFaults x a) c)
+AsksNoMore x a c = OverLinkIf c 0 x.before x.now (λ opened. Asked c a opened (GivesFaults x a))
 
 -- ---- what a client leaves
 
--- the settings and the calls are those of the input, and of the link this holds
+-- the settings and the calls are those of the input, and of them this holds
 pub record UsesBy (x : Seen) (u : Usage) (P : Script → Type 0) : Type 0 where
   pub script : Script
   pub spelled : IfSome x.left (λ b. client_script u.node b ≡ IsScript script)
-  pub placed : Tells x.places x.places_now (all_places script.config)
   pub holds : P script
 
--- the link was opened, the clock gave a key, and a client with that key did this from where the link stood then
-abbrev pub UsesOver : Seen → Usage → (List (List ℕ) → Client → Option (List LinkCall) → Type 0) → Script → Type 0
-UsesOver x u P s = usage.Opened x.opened x.opened_now x.calls x.moments x.moments_now (λ start key. P s.texts (usage.first_client s.config u.node key) start)
+-- the link was opened, the clock gave a key, and a client with that key did this from what was told by then
+abbrev pub UsesOver : Seen → Usage → (List (List ℕ) → Client → Telling → Type 0) → Script → Type 0
+UsesOver x u P s = OverLink s.config 0 x.before (λ opened. Keyed s.config u.node opened (P s.texts))
 
 -- all its turns, and each call has its answer
-abbrev pub UsesAll : Seen → Usage → List (List ℕ) → Client → Option (List LinkCall) → Type 0
-UsesAll x u lines c start = used.Answered lines c u.turns start x.calls_now x.held x.now
+abbrev pub UsesAll : Seen → Usage → List (List ℕ) → Client → Telling → Type 0
+UsesAll x u lines c start = used.Answered lines c u.turns start x.now
 
 -- all its turns, and some call has no answer
-abbrev pub WaitsOn : Seen → Usage → List (List ℕ) → Client → Option (List LinkCall) → Type 0
-WaitsOn x u lines c start = used.Unanswered lines c u.turns start x.calls_now x.held x.now
+abbrev pub WaitsOn : Seen → Usage → List (List ℕ) → Client → Telling → Type 0
+WaitsOn x u lines c start = used.Unanswered lines c u.turns start x.now
 
 -- the last turn brought word of another incarnation of the daemon
-abbrev pub LosesSession : Seen → Usage → List (List ℕ) → Client → Option (List LinkCall) → Type 0
-LosesSession x u lines c start = used.Ended used.IsLost lines c u.turns start x.calls_now x.held x.now
+abbrev pub LosesSession : Seen → Usage → List (List ℕ) → Client → Telling → Type 0
+LosesSession x u lines c start = used.Ended used.IsLost lines c u.turns start x.now
 
 -- the last turn brought word that the daemon keeps no more clients
-abbrev pub FindsFull : Seen → Usage → List (List ℕ) → Client → Option (List LinkCall) → Type 0
-FindsFull x u lines c start = used.Ended used.IsFull lines c u.turns start x.calls_now x.held x.now
+abbrev pub FindsFull : Seen → Usage → List (List ℕ) → Client → Telling → Type 0
+FindsFull x u lines c start = used.Ended used.IsFull lines c u.turns start x.now
 
-abbrev pub FailsOften : Seen → Usage → List (List ℕ) → Client → Option (List LinkCall) → Type 0
-FailsOften x u lines c start = used.Failing lines c u.turns start x.calls_now x.held x.now
+abbrev pub FailsOften : Seen → Usage → List (List ℕ) → Client → Telling → Type 0
+FailsOften x u lines c start = used.Failing lines c u.turns start x.now
 
-abbrev pub BreaksOff : Seen → Usage → List (List ℕ) → Client → Option (List LinkCall) → Type 0
-BreaksOff x u lines c start = used.Broken lines c u.turns start x.calls_now x.held x.now
+abbrev pub BreaksOff : Seen → Usage → List (List ℕ) → Client → Telling → Type 0
+BreaksOff x u lines c start = used.Front lines c u.turns start x.now
 
 -- the link could not be opened, and nothing more was done; or this
-abbrev pub UsesOr : Seen → Type 0 → Type 0
-UsesOr x P = EndsByLink x.opened x.opened_now (NothingDone x.calls x.calls_now x.held x.now x.moments x.moments_now) P
+abbrev pub UsesOr : Seen → Usage → (List (List ℕ) → Client → Telling → Type 0) → Script → Type 0
+UsesOr x u P s = OverLinkIf s.config 0 x.before x.now (λ opened. Keyed s.config u.node opened (P s.texts))
 
 -- it broke off
 abbrev pub UsesPart : Seen → Usage → Script → Type 0
-UsesPart x u s = UsesOr x (UsesOver x u (BreaksOff x u) s)
+UsesPart x u s = UsesOr x u (BreaksOff x u) s
 
 -- the link could not be opened, or sixteen receives in a row failed
 abbrev pub UsesNoMore : Seen → Usage → Script → Type 0
-UsesNoMore x u s = UsesOr x (UsesOver x u (FailsOften x u) s)
+UsesNoMore x u s = UsesOr x u (FailsOften x u) s
 
 -- ---- what each status leaves, task by task
 
 -- all was done: an input is read to its end, and a load and a text read none
 abbrev pub DoneAs : Seen → Task → Type 0
-DoneAs x (plays list) = IfSome x.left (PlaysAll (shown_of list) x.held x.now) × IsAtEnd x.rest
-DoneAs x (loads steps) = LoadsAll steps x.held x.now × (x.rest ≡ x.left)
-DoneAs x (tells text) = Appends x.held x.now text × (x.rest ≡ x.left)
+DoneAs x (plays list) = IfSome x.left (PlaysAll (shown_of list) x.before.held x.now.held) × IsAtEnd x.rest
+DoneAs x (loads steps) = LoadsAll steps x.before.held x.now.held × (x.rest ≡ x.left)
+DoneAs x (tells text) = Appends x.before.held x.now.held text × (x.rest ≡ x.left)
 DoneAs x (serves s objects) = Runs x s objects (ServesAll x s) × IsAtEnd x.rest
-DoneAs x (asks a) = IsAnswered x a (Appends x.held x.now) × IsAtEnd x.rest
+DoneAs x (asks a) = IsAnswered x a (λ text answered. Appends answered.held x.now.held text) × IsAtEnd x.rest
 DoneAs x (uses u) = UsesBy x u (UsesOver x u (UsesAll x u)) × IsAtEnd x.rest
 
 -- the input has this first bad line, for this reason: it is in no script, in no settings, or in no calls of a client
@@ -353,7 +326,7 @@ HasFault _ line why b = ⊥
 abbrev pub OutsideAt : ℕ → LineWhy → Seen → Task → Type 0
 OutsideAt line why x (loads steps) = ⊥
 OutsideAt line why x (tells text) = ⊥
-OutsideAt line why x task = IfSome x.left (HasFault task line why) × Keeps x.held x.now × Untouched x
+OutsideAt line why x task = IfSome x.left (HasFault task line why) × Keeps x.before.held x.now.held × Untouched x
 
 pub record IsOutside (task : Task) (b : List ℕ) : Type 0 where
   pub line : ℕ
@@ -363,49 +336,49 @@ pub record IsOutside (task : Task) (b : List ℕ) : Type 0 where
 abbrev pub OutsideAs : Seen → Task → Type 0
 OutsideAs x (loads steps) = ⊥
 OutsideAs x (tells text) = ⊥
-OutsideAs x task = IfSome x.left (IsOutside task) × Keeps x.held x.now × Untouched x
+OutsideAs x task = IfSome x.left (IsOutside task) × Keeps x.before.held x.now.held × Untouched x
 
 -- memory ran out, of faulty words too
 abbrev pub MemoryAs : Seen → Option Task → Type 0
-MemoryAs x None = Keeps x.held x.now
-MemoryAs x (Some (plays list)) = IfSome x.left (MayHavePlayed (shown_of list) x.held x.now)
-MemoryAs x (Some (loads steps)) = GrowsByFront x.held x.now (load_text steps)
-MemoryAs x (Some (tells text)) = Keeps x.held x.now
-MemoryAs x (Some (serves s objects)) = (Keeps x.held x.now × Same x.calls x.calls_now) ⊎ Runs x s objects (ServesPart x s)
-MemoryAs x (Some (asks a)) = Keeps x.held x.now
-MemoryAs x (Some (uses u)) = (Keeps x.held x.now × Same x.calls x.calls_now) ⊎ UsesBy x u (UsesPart x u)
+MemoryAs x None = Keeps x.before.held x.now.held
+MemoryAs x (Some (plays list)) = IfSome x.left (MayHavePlayed (shown_of list) x.before.held x.now.held)
+MemoryAs x (Some (loads steps)) = GrowsByFront x.before.held x.now.held (load_text steps)
+MemoryAs x (Some (tells text)) = Keeps x.before.held x.now.held
+MemoryAs x (Some (serves s objects)) = (Keeps x.before.held x.now.held × Untouched x) ⊎ Runs x s objects (ServesPart x s)
+MemoryAs x (Some (asks a)) = Keeps x.before.held x.now.held
+MemoryAs x (Some (uses u)) = (Keeps x.before.held x.now.held × Untouched x) ⊎ UsesBy x u (UsesPart x u)
 
 -- the input failed
 abbrev pub ReadFaultAs : Seen → Task → Type 0
 ReadFaultAs x (loads steps) = ⊥
 ReadFaultAs x (tells text) = ⊥
-ReadFaultAs x task = Rose x.reads x.reads_now × Keeps x.held x.now × Untouched x
+ReadFaultAs x task = Rose x.reads x.reads_now × Keeps x.before.held x.now.held × Untouched x
 
 -- the sink failed
 abbrev pub WriteFaultAs : Seen → Task → Type 0
-WriteFaultAs x (plays list) = IfSome x.left (PlaysFront (shown_of list) x.held x.now)
-WriteFaultAs x (loads steps) = LoadsFront steps x.held x.now
-WriteFaultAs x (tells text) = GrowsByFront x.held x.now text
+WriteFaultAs x (plays list) = IfSome x.left (PlaysFront (shown_of list) x.before.held x.now.held)
+WriteFaultAs x (loads steps) = LoadsFront steps x.before.held x.now.held
+WriteFaultAs x (tells text) = GrowsByFront x.before.held x.now.held text
 WriteFaultAs x (serves s objects) = Runs x s objects (ServesPart x s)
-WriteFaultAs x (asks a) = IsAnswered x a (GrowsByFront x.held x.now)
+WriteFaultAs x (asks a) = IsAnswered x a (λ text answered. GrowsByFront answered.held x.now.held text)
 WriteFaultAs x (uses u) = UsesBy x u (UsesPart x u)
 
 -- the link failed
 abbrev pub LinkFaultAs : Seen → Task → Type 0
 LinkFaultAs x (serves s objects) = Runs x s objects (ServesNoMore x s)
-LinkFaultAs x (asks a) = AsksBy x a (AsksNoMore x a) × Keeps x.held x.now
+LinkFaultAs x (asks a) = AsksBy x a (AsksNoMore x a) × Keeps x.before.held x.now.held
 LinkFaultAs x (uses u) = UsesBy x u (UsesNoMore x u)
 LinkFaultAs x _ = ⊥
 
 -- packets passed the limit
 abbrev pub PastAs : Seen → Task → Type 0
-PastAs x (plays list) = IfSome x.left (PlaysPast (shown_of list) x.held x.now)
-PastAs x (loads steps) = LoadsPast steps x.held x.now
+PastAs x (plays list) = IfSome x.left (PlaysPast (shown_of list) x.before.held x.now.held)
+PastAs x (loads steps) = LoadsPast steps x.before.held x.now.held
 PastAs x _ = ⊥
 
 -- no reply came
 abbrev pub NoReplyAs : Seen → Task → Type 0
-NoReplyAs x (asks a) = AsksBy x a (AsksOver x a (GivesNone x a)) × Keeps x.held x.now
+NoReplyAs x (asks a) = AsksBy x a (AsksOver x a (GivesNone x a)) × Keeps x.before.held x.now.held
 NoReplyAs x (uses u) = UsesBy x u (UsesOver x u (WaitsOn x u))
 NoReplyAs x _ = ⊥
 
@@ -443,12 +416,12 @@ CanBeDone x (uses u) = SpellsCalls u.node x.left
 
 abbrev pub EndsAs : Ending → Option Task → Seen → Type 0
 EndsAs ending.Done t x = Asks t (DoneAs x)
-EndsAs ending.Usage t x = (t ≡ None) × Keeps x.held x.now × (x.rest ≡ x.left) × Untouched x
+EndsAs ending.Usage t x = (t ≡ None) × Keeps x.before.held x.now.held × (x.rest ≡ x.left) × Untouched x
 EndsAs (ending.BadLine line why) t x = Asks t (OutsideAt line why x)
 EndsAs ending.NoMemory t x = MemoryAs x t
 EndsAs ending.ReadFault t x = Asks t (ReadFaultAs x)
-EndsAs ending.WriteFault t x = Rose x.writes x.writes_now × Asks t (WriteFaultAs x)
-EndsAs ending.LinkFault t x = Rose x.faults x.faults_now × Asks t (LinkFaultAs x)
+EndsAs ending.WriteFault t x = Rose x.before.write_faults x.now.write_faults × Asks t (WriteFaultAs x)
+EndsAs ending.LinkFault t x = Rose x.before.link_faults x.now.link_faults × Asks t (LinkFaultAs x)
 EndsAs ending.TooMuchKept t x = Asks t (PastAs x)
 EndsAs ending.NoReply t x = Asks t (NoReplyAs x)
 EndsAs ending.SessionLost t x = Asks t (LostAs x)
@@ -458,20 +431,20 @@ EndsAs ending.DaemonFull t x = Asks t (FullAs x)
 -- neither the input nor the output failed, the link held, what was asked and each call was answered, and the daemon that a
 -- client uses stayed and had room for it.
 pub record Ended (status : ℕ) (t : Option Task) (x : Seen) : Type 0 where
-  pub usage : status ≡ 1 → (t ≡ None) × Keeps x.held x.now × (x.rest ≡ x.left) × Untouched x
+  pub usage : status ≡ 1 → (t ≡ None) × Keeps x.before.held x.now.held × (x.rest ≡ x.left) × Untouched x
   pub words : t ≡ None → (status ≡ 1) ⊎ (status ≡ 3)
   pub done : status ≡ 0 → Asks t (DoneAs x)
   pub outside : status ≡ 2 → Asks t (OutsideAs x)
   pub memory : status ≡ 3 → MemoryAs x t
   pub read : status ≡ 4 → Asks t (ReadFaultAs x)
-  pub write : status ≡ 5 → Rose x.writes x.writes_now × Asks t (WriteFaultAs x)
-  pub link : status ≡ 6 → Rose x.faults x.faults_now × Asks t (LinkFaultAs x)
+  pub write : status ≡ 5 → Rose x.before.write_faults x.now.write_faults × Asks t (WriteFaultAs x)
+  pub link : status ≡ 6 → Rose x.before.link_faults x.now.link_faults × Asks t (LinkFaultAs x)
   pub past : status ≡ 7 → Asks t (PastAs x)
   pub no_reply : status ≡ 9 → Asks t (NoReplyAs x)
   pub lost : status ≡ 10 → Asks t (LostAs x)
   pub full : status ≡ 11 → Asks t (FullAs x)
   pub no_other : (status ≤ 7) ⊎ ((9 ≤ status) × (status ≤ 11))
-  pub complete : Asks t (CanBeDone x) → (Rose x.reads x.reads_now → ⊥) → (Rose x.writes x.writes_now → ⊥) → (Asks t (LinkFaultAs x) → ⊥) → (Asks t (NoReplyAs x) → ⊥) → (Asks t (LostAs x) → ⊥) → (Asks t (FullAs x) → ⊥)
+  pub complete : Asks t (CanBeDone x) → (Rose x.reads x.reads_now → ⊥) → (Rose x.before.write_faults x.now.write_faults → ⊥) → (Asks t (LinkFaultAs x) → ⊥) → (Asks t (NoReplyAs x) → ⊥) → (Asks t (LostAs x) → ⊥) → (Asks t (FullAs x) → ⊥)
       → (status ≡ 0) ⊎ ((status ≡ 3) ⊎ (status ≡ 7))
 
 -- ---- what is said of a bad line

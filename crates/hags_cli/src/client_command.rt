@@ -10,7 +10,8 @@ ghost use Rattle.hags_cli.specs.Tasks.{CallsEnd, EndsAs, uses};
 use crate::ending::Ending;
 use crate::input::{InputFault, read_input};
 use client_run::{ClientFault, Usage, use_daemon};
-use hags_io::{Clock, Link, Sink, Source};
+use hags_io::{Clock, Link, Parts, Sink, Source};
+use link_use::Stop;
 use script_reader::{ScriptFault, read_client};
 use std::alloc::Global;
 use world_model::Script;
@@ -44,48 +45,26 @@ pub fn use_node<S: Source, K: Sink, L: Link, M: Clock>(
     alloc: Global,
     usage: Usage,
     input: &mut S,
-    out: &mut K,
-    link: &mut L,
-    clock: &mut M,
+    outside: &mut Parts<K, L, M>,
 ) -> Ending
     ensures { EndsAs result (Some (uses usage)) (record {
       left = S.left input.old;
       rest = S.left input.new;
       reads = S.faults input.old;
       reads_now = S.faults input.new;
-      held = K.held out.old;
-      now = K.held out.new;
-      writes = K.faults out.old;
-      writes_now = K.faults out.new;
-      calls = L.calls link.old;
-      calls_now = L.calls link.new;
-      places = L.places link.old;
-      places_now = L.places link.new;
-      opened = L.opened link.old;
-      opened_now = L.opened link.new;
-      faults = L.faults link.old;
-      faults_now = L.faults link.new;
-      moments = M.moments clock.old;
-      moments_now = M.moments clock.new;
+      before = (Parts K L M).told outside.old;
+      now = (Parts K L M).told outside.new;
     }) }
 {
     let script = match read_calls(alloc, usage.node, input) {
         Ok(script) => script,
         Err(ending) => return ending,
     };
-    match use_daemon(
-        alloc,
-        &script.config,
-        &script.texts,
-        usage,
-        out,
-        link,
-        clock,
-    ) {
+    match use_daemon(alloc, &script.config, &script.texts, usage, outside) {
         Ok(()) => Ending::Done,
-        Err(ClientFault::NoMemory) => Ending::NoMemory,
-        Err(ClientFault::WriteFault) => Ending::WriteFault,
-        Err(ClientFault::LinkFault) => Ending::LinkFault,
+        Err(ClientFault::Stop(Stop::NoMemory)) => Ending::NoMemory,
+        Err(ClientFault::Stop(Stop::WriteFault)) => Ending::WriteFault,
+        Err(ClientFault::Stop(Stop::LinkFault)) => Ending::LinkFault,
         Err(ClientFault::NoReply) => Ending::NoReply,
         Err(ClientFault::Lost) => Ending::SessionLost,
         Err(ClientFault::Full) => Ending::DaemonFull,

@@ -7,7 +7,7 @@ use crate::edges::Edges;
 use crate::ending::Ending;
 use crate::tasks::obey;
 use client_callbacks::Callbacks;
-use hags_io::{Clock, Link, Put, Sink, Source};
+use hags_io::{Clock, Link, Parts, Put, Sink, Source};
 use std::alloc::Global;
 use transcript::fault_line;
 
@@ -103,20 +103,8 @@ pub fn hags<S: Source, K: Sink, E: Sink, L: Link, M: Clock>(
           rest = S.left edges.new.input;
           reads = S.faults edges.old.input;
           reads_now = S.faults edges.new.input;
-          held = K.held edges.old.out;
-          now = K.held edges.new.out;
-          writes = K.faults edges.old.out;
-          writes_now = K.faults edges.new.out;
-          calls = L.calls edges.old.link;
-          calls_now = L.calls edges.new.link;
-          places = L.places edges.old.link;
-          places_now = L.places edges.new.link;
-          opened = L.opened edges.old.link;
-          opened_now = L.opened edges.new.link;
-          faults = L.faults edges.old.link;
-          faults_now = L.faults edges.new.link;
-          moments = M.moments edges.old.clock;
-          moments_now = M.moments edges.new.clock;
+          before = (Parts K L M).told edges.old.outside;
+          now = (Parts K L M).told edges.new.outside;
         }) }
     ensures said { result ≢ 2 → Says (E.faults edges.old.err) (E.faults edges.new.err)
         (E.held edges.old.err) (E.held edges.new.err) (said_of result) }
@@ -128,9 +116,7 @@ pub fn hags<S: Source, K: Sink, E: Sink, L: Link, M: Clock>(
         alloc,
         words,
         &mut edges.input,
-        &mut edges.out,
-        &mut edges.link,
-        &mut edges.clock,
+        &mut edges.outside,
         clients,
     );
     say_ending(alloc, ending, &mut edges.err);

@@ -5,7 +5,7 @@ ghost use Rattle.hags_cli.specs.Tasks.{EndsAs, asks};
 use crate::ending::Ending;
 use crate::settings::read_settings;
 use crate::tell_command::tell;
-use hags_io::{Clock, Link, Sink, Source};
+use hags_io::{Clock, Link, Parts, Sink, Source};
 use status_client::{AskFault, Asking, ask};
 use std::alloc::Global;
 
@@ -15,37 +15,23 @@ pub fn ask_node<S: Source, K: Sink, L: Link, M: Clock>(
     alloc: Global,
     asking: Asking,
     input: &mut S,
-    out: &mut K,
-    link: &mut L,
-    clock: &mut M,
+    outside: &mut Parts<K, L, M>,
 ) -> Ending
     ensures { EndsAs result (Some (asks asking)) (record {
       left = S.left input.old;
       rest = S.left input.new;
       reads = S.faults input.old;
       reads_now = S.faults input.new;
-      held = K.held out.old;
-      now = K.held out.new;
-      writes = K.faults out.old;
-      writes_now = K.faults out.new;
-      calls = L.calls link.old;
-      calls_now = L.calls link.new;
-      places = L.places link.old;
-      places_now = L.places link.new;
-      opened = L.opened link.old;
-      opened_now = L.opened link.new;
-      faults = L.faults link.old;
-      faults_now = L.faults link.new;
-      moments = M.moments clock.old;
-      moments_now = M.moments clock.new;
+      before = (Parts K L M).told outside.old;
+      now = (Parts K L M).told outside.new;
     }) }
 {
     let script = match read_settings(alloc, asking.node, None, input) {
         Ok(script) => script,
         Err(ending) => return ending,
     };
-    match ask(alloc, &script.config, asking, link, clock) {
-        Ok(text) => tell(text.as_slice(), out),
+    match ask(alloc, &script.config, asking, outside) {
+        Ok(text) => tell(text.as_slice(), &mut outside.out),
         Err(AskFault::NoMemory) => Ending::NoMemory,
         Err(AskFault::LinkFault) => Ending::LinkFault,
         Err(AskFault::NoReply) => Ending::NoReply,

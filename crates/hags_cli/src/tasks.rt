@@ -12,7 +12,7 @@ use crate::status_command::ask_node;
 use crate::tell_command::tell;
 use client_callbacks::Callbacks;
 use client_run::Usage;
-use hags_io::{Clock, Link, Sink, Source};
+use hags_io::{Clock, Link, Parts, Sink, Source};
 use hags_words::{Command, VERSION, help_text, read_command};
 use rsct_packet::List;
 use status_client::Asking;
@@ -38,9 +38,7 @@ fn perform<S: Source, K: Sink, L: Link, M: Clock>(
     alloc: Global,
     command: Option<Command>,
     input: &mut S,
-    out: &mut K,
-    link: &mut L,
-    clock: &mut M,
+    outside: &mut Parts<K, L, M>,
     clients: Vec<Box<dyn Callbacks>>,
 ) -> Ending
     requires { IfSome command IsWithin }
@@ -49,29 +47,17 @@ fn perform<S: Source, K: Sink, L: Link, M: Clock>(
       rest = S.left input.new;
       reads = S.faults input.old;
       reads_now = S.faults input.new;
-      held = K.held out.old;
-      now = K.held out.new;
-      writes = K.faults out.old;
-      writes_now = K.faults out.new;
-      calls = L.calls link.old;
-      calls_now = L.calls link.new;
-      places = L.places link.old;
-      places_now = L.places link.new;
-      opened = L.opened link.old;
-      opened_now = L.opened link.new;
-      faults = L.faults link.old;
-      faults_now = L.faults link.new;
-      moments = M.moments clock.old;
-      moments_now = M.moments clock.new;
+      before = (Parts K L M).told outside.old;
+      now = (Parts K L M).told outside.new;
     }) }
 {
     match command {
         None => Ending::Usage,
         Some(Command::Run { kinds }) => match kinds_in(&kinds) {
             None => Ending::Usage,
-            Some(kinds) => run(alloc, kinds, input, out),
+            Some(kinds) => run(alloc, kinds, input, &mut outside.out),
         },
-        Some(Command::Load { views }) => load_steps(alloc, views, out),
+        Some(Command::Load { views }) => load_steps(alloc, views, &mut outside.out),
         Some(
             Command::Daemon {
                 node,
@@ -86,18 +72,18 @@ fn perform<S: Source, K: Sink, L: Link, M: Clock>(
                 turns,
                 remote,
             };
-            serve_node(alloc, service, input, out, link, clock, clients)
+            serve_node(alloc, service, input, outside, clients)
         }
         Some(Command::Status { what, node, turns }) => {
             let asking = Asking { what, node, turns };
-            ask_node(alloc, asking, input, out, link, clock)
+            ask_node(alloc, asking, input, outside)
         }
         Some(Command::Client { node, turns }) => {
             let usage = Usage { node, turns };
-            use_node(alloc, usage, input, out, link, clock)
+            use_node(alloc, usage, input, outside)
         }
-        Some(Command::Help { about }) => tell(help_text(about), out),
-        Some(Command::Version) => tell(VERSION, out),
+        Some(Command::Help { about }) => tell(help_text(about), &mut outside.out),
+        Some(Command::Version) => tell(VERSION, &mut outside.out),
     }
 }
 
@@ -107,9 +93,7 @@ pub fn obey<S: Source, K: Sink, L: Link, M: Clock>(
     alloc: Global,
     words: &[String],
     input: &mut S,
-    out: &mut K,
-    link: &mut L,
-    clock: &mut M,
+    outside: &mut Parts<K, L, M>,
     clients: Vec<Box<dyn Callbacks>>,
 ) -> Ending
     ensures { EndsAs result (task_of (length clients.items) (map string_bytes words.now)) (record {
@@ -117,24 +101,12 @@ pub fn obey<S: Source, K: Sink, L: Link, M: Clock>(
       rest = S.left input.new;
       reads = S.faults input.old;
       reads_now = S.faults input.new;
-      held = K.held out.old;
-      now = K.held out.new;
-      writes = K.faults out.old;
-      writes_now = K.faults out.new;
-      calls = L.calls link.old;
-      calls_now = L.calls link.new;
-      places = L.places link.old;
-      places_now = L.places link.new;
-      opened = L.opened link.old;
-      opened_now = L.opened link.new;
-      faults = L.faults link.old;
-      faults_now = L.faults link.new;
-      moments = M.moments clock.old;
-      moments_now = M.moments clock.new;
+      before = (Parts K L M).told outside.old;
+      now = (Parts K L M).told outside.new;
     }) }
 {
     match read_command(alloc, words) {
-        Ok(command) => perform(alloc, command, input, out, link, clock, clients),
+        Ok(command) => perform(alloc, command, input, outside, clients),
         Err(_) => Ending::NoMemory,
     }
 }

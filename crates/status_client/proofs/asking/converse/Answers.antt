@@ -1,24 +1,19 @@
 -- The question went out, and what came of it.
-use Rattle.std.proofs.Common.{◌≡◌, ℕ, List, [], ◌∷◌, refl, ap}
+use Rattle.std.proofs.Common.{refl}
 use Rattle.std.proofs.lemmas.Result.{IfOk-weaker}
-use Rattle.piece_link.specs.Joining.{Joining}
-use Rattle.status_client.specs.Waiting.{Waited}
 use Rattle.status_client.proofs.AskLaws.{asked_answered, asked_unanswered, asked_failing}
 use Rattle.status_client.proofs.asking.converse.Goals as goal
-
-abbrev joins : Joining → Waited
-joins j = record { joining = j; failed = 0 }
 
 pub returns-clause-answered : goal.returns-clause-answered
 returns-clause-answered g c =
     IfOk-weaker c.receive.result _ _
-    (λ text h. asked_answered c.args.config.now c.args.asking c.now-moment.result _ c.question_packet-packet.result _ _ _ _ _ _ _ c.now-moment.ensures.told refl c.question_packet-packet.ensures c.in_ok-send_packet.ensures.done (ap joins c.new.ensures) h)
+    (λ text h. asked_answered c.args.config.now c.args.asking c.now-moment.result _ c.question_packet-packet.result c.new.result text.items _ _ _ _ c.now-moment.ensures.read refl c.question_packet-packet.ensures c.in_ok-send_packet.ensures.done c.new.ensures h)
     c.receive.ensures.answered
 
 pub returns-clause-unanswered : goal.returns-clause-unanswered
 returns-clause-unanswered g c = λ e.
-    asked_unanswered c.args.config.now c.args.asking c.now-moment.result _ c.question_packet-packet.result _ _ _ _ _ _ c.now-moment.ensures.told refl c.question_packet-packet.ensures c.in_ok-send_packet.ensures.done (ap joins c.new.ensures) (c.receive.ensures.unanswered e)
+    asked_unanswered c.args.config.now c.args.asking c.now-moment.result _ c.question_packet-packet.result c.new.result _ _ _ _ c.now-moment.ensures.read refl c.question_packet-packet.ensures c.in_ok-send_packet.ensures.done c.new.ensures (c.receive.ensures.unanswered e)
 
 pub returns-clause-failing : goal.returns-clause-failing
 returns-clause-failing g c = λ e.
-    asked_failing c.args.config.now c.args.asking c.now-moment.result _ c.question_packet-packet.result _ _ _ _ _ _ c.now-moment.ensures.told refl c.question_packet-packet.ensures c.in_ok-send_packet.ensures.done (ap joins c.new.ensures) (c.receive.ensures.failing e)
+    asked_failing c.args.config.now c.args.asking c.now-moment.result _ c.question_packet-packet.result c.new.result _ _ _ _ c.now-moment.ensures.read refl c.question_packet-packet.ensures c.in_ok-send_packet.ensures.done c.new.ensures (c.receive.ensures.failing e)

@@ -1,0 +1,4 @@
+pub mod OpenLaws
+pub mod PlaceLaws
+pub mod ReceiveLaws
+pub mod SendLaws

@@ -1,0 +1,6 @@
+use Rattle.hags_io.specs.Telling.{Did}
+use Rattle.daemon_model.specs.Settings.{placings_upto}
+use Rattle.link_use.proofs.places.tell_places.Given as goal
+
+abbrev pub invariant-loop-before : goal.invariant-loop-before
+invariant-loop-before g l = Did (g.O.Outside.told l.initial.outside) (g.O.Outside.told l.outside) (placings_upto l.config l.before)
