@@ -17,16 +17,16 @@ use Rattle.world_laws.specs.world_answers.Answers.{Answered, goes_on, answered_a
 use Rattle.world_safety.specs.Scripts.{IsSafe}
 use Rattle.world_safety.proofs.Scripts.{every_answer_is_safe}
 use Rattle.hags_io.specs.declared.link.LinkCall.{LinkCall}
-use Rattle.world_model.specs.declared.script.Script.{Script}
 use Rattle.piece_link.specs.Answers.{Among}
-use Rattle.daemon_model.specs.Sent.{Exchange, AllSpelled}
+use Rattle.daemon_model.specs.Sent.{Exchange}
+use Rattle.daemon_model.specs.Doings.{Doing, Reads, Exchanges, Writes, AreSpelled, exchanges_in}
 use Rattle.daemon_model.specs.Daemon.{Daemon, Opening, opened, is_due, ticked, heard, left_for, stepped_for}
 use Rattle.daemon_model.specs.Actions.{Action, Opens, Ticks, Hears, did}
 use Rattle.network_model.specs.Network.{Act, Begins, Does, Ends, Net, no_net, skipped, went_on, begins, idles, starts, does_if, acted, net_after}
 use Rattle.network_model.specs.Fits.{WasSent, IsSpelledSend, MayBegin, MayDo, OfUp, MayAct, AllMayAct}
 use Rattle.network_model.specs.Executions.{IsLinear, what_of, TimedLife, untimed, Execution, Ordered}
 use Rattle.network_safety.specs.Safe.{answered_by, silent, idle_events, tick_events, ActionEvents, ActEvents, AreEventsOf, NetworksOfDaemonsAreSafe, IsSafeExecution, ExecutionsAreSafe}
-use Rattle.network_safety.specs.Served.{IsServed, Done, Ended, Broken, served_calls, Served, calls_of, WasTold, ServedDaemonsAreSafe}
+use Rattle.network_safety.specs.Served.{Served, WasTold, ServedDaemonsAreSafe}
 use Rattle.network_laws.proofs.Apart.{nodes_record_their_lives}
 use Rattle.network_laws.proofs.Orders.{comes_as, are_lives, has_an_order}
 use Rattle.network_safety.proofs.Standing.{Stands, Stand}
@@ -200,21 +200,15 @@ module _ (c : Config) (P Q : Exchange → Type 0) (weaker : (x : Exchange) → P
   acts_as [] net h = tt
   acts_as (a ∷ acts) net h = (act_as net a h.0, acts_as acts (acted c net a) h.1)
 
-each_spelled : (xs : List Exchange) → AllSpelled xs → (x : Exchange) → Among x xs → IsSpelledSend x
+each_spelled : (ds : List Doing) → AreSpelled ds → (x : Exchange) → Among x (exchanges_in ds) → IsSpelledSend x
 each_spelled [] h x i = absurd i
-each_spelled (y ∷ ys) h x (inl e) = subst IsSpelledSend (sym e) h.0
-each_spelled (y ∷ ys) h x (inr i) = each_spelled ys h.1 x i
-
--- `serve` tells of all that it made that it is spelled
-all_spelled : (script : Script) (me inc : ℕ) (remote : Bool) (turns : ℕ) (a b : Option (List LinkCall)) (x y u v : Option (List ℕ)) (s : IsServed script me inc remote turns a b x y u v) → AllSpelled (served_calls script me inc remote turns a b x y u v s)
-all_spelled script me inc remote turns a b x y u v (Done core s) = s.lived.made.spelled
-all_spelled script me inc remote turns a b x y u v (Ended s) = s.lived.made.spelled
-all_spelled script me inc remote turns a b x y u v (Broken s) = s.lived.made.made.spelled
+each_spelled (Exchanges y ∷ ds) h x (inl e) = subst IsSpelledSend (sym e) h.0
+each_spelled (Exchanges y ∷ ds) h x (inr i) = each_spelled ds h.1 x i
+each_spelled (Reads moment ∷ ds) h x i = each_spelled ds h x i
+each_spelled (Writes rs ∷ ds) h x i = each_spelled ds h x i
 
 told_spelled : (c : Config) (served : (n : ℕ) → List (Served c n)) (x : Exchange) → WasTold c served x → IsSpelledSend x
-told_spelled c served x h =
-    let r = h.by in
-    each_spelled (calls_of c h.node r) (all_spelled r.script h.node r.incarnation r.remote r.turns (Some r.calls) (Some r.calls_after) r.held r.held_after r.moments r.moments_after r.is) x h.told
+told_spelled c served x h = each_spelled h.by.lived.made.front h.by.lived.made.spelled x h.told
 
 -- ---- executions
 
