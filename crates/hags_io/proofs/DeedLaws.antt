@@ -173,24 +173,56 @@ module _ (ds : List Deed) (held : Option (List ℕ)) (write_faults : ℕ) (momen
       → es ≡ ds ++ Placed node network address port ∷ [] → Tells p q (with_place node network address port) → Same a b → Same o r → n ≡ m
       → Did (at_link ds a p o m) (at_link es b q r n) (Placed node network address port ∷ [])
   did_place es a b p q o r m n node network address port is told same kept later = record {
-    deeds = is; calls = grows_same a b same; places = told; opened = tells_same o r kept; link_faults = omega arith; held = keeps_same held; write_faults = omega arith; moments = counts_none moments; last_moment = refl
+    deeds = is;
+    calls = grows_same a b same;
+    places = told;
+    opened = tells_same o r kept;
+    link_faults = omega arith;
+    held = keeps_same held;
+    write_faults = omega arith;
+    moments = counts_none moments;
+    last_moment = refl;
   }
 
   pub did_open : (es : List Deed) (a b : Option (List LinkCall)) (p q : Option Places) (o r : Option (Option (ℕ × Bool))) (m n : ℕ) (port : ℕ) (done : Bool)
       → es ≡ ds ++ Opened port done ∷ [] → Tells o r (was_opened port done) → Same a b → Same p q → m ≤ n → (done ≡ false → Rose m n)
       → Did (at_link ds a p o m) (at_link es b q r n) (Opened port done ∷ [])
   did_open es a b p q o r m n port true is told same kept later failed = record {
-    deeds = is; calls = grows_same a b same; places = tells_same p q kept; opened = told; link_faults = omega arith; held = keeps_same held; write_faults = omega arith; moments = counts_none moments; last_moment = refl
+    deeds = is;
+    calls = grows_same a b same;
+    places = tells_same p q kept;
+    opened = told;
+    link_faults = omega arith;
+    held = keeps_same held;
+    write_faults = omega arith;
+    moments = counts_none moments;
+    last_moment = refl;
   }
   did_open es a b p q o r m n port false is told same kept later failed = let rose : Rose m n = failed refl in record {
-    deeds = is; calls = grows_same a b same; places = tells_same p q kept; opened = told; link_faults = omega arith; held = keeps_same held; write_faults = omega arith; moments = counts_none moments; last_moment = refl
+    deeds = is;
+    calls = grows_same a b same;
+    places = tells_same p q kept;
+    opened = told;
+    link_faults = omega arith;
+    held = keeps_same held;
+    write_faults = omega arith;
+    moments = counts_none moments;
+    last_moment = refl;
   }
 
   did_exchange : (c : LinkCall) (es : List Deed) (a b : Option (List LinkCall)) (p q : Option Places) (o r : Option (Option (ℕ × Bool))) (m n : ℕ)
       → es ≡ ds ++ Exchanged c ∷ [] → Grows a b (c ∷ []) → Same p q → Same o r → Rises m n (link_failure (Exchanged c) + 0)
       → Did (at_link ds a p o m) (at_link es b q r n) (Exchanged c ∷ [])
   did_exchange c es a b p q o r m n is told same kept later = record {
-    deeds = is; calls = told; places = tells_same p q same; opened = tells_same o r kept; link_faults = later; held = keeps_same held; write_faults = omega arith; moments = counts_none moments; last_moment = refl
+    deeds = is;
+    calls = told;
+    places = tells_same p q same;
+    opened = tells_same o r kept;
+    link_faults = later;
+    held = keeps_same held;
+    write_faults = omega arith;
+    moments = counts_none moments;
+    last_moment = refl;
   }
 
   pub did_receive : (es : List Deed) (a b : Option (List LinkCall)) (p q : Option Places) (o r : Option (Option (ℕ × Bool))) (m n : ℕ) (network : ℕ) (bytes : List ℕ)
@@ -220,7 +252,15 @@ module _ (ds : List Deed) (held : Option (List ℕ)) (write_faults : ℕ) (momen
 
   pub did_none_at_link : (a b : Option (List LinkCall)) (p q : Option Places) (o r : Option (Option (ℕ × Bool))) (m n : ℕ) → Same a b → Same p q → Same o r → m ≤ n → Did (at_link ds a p o m) (at_link ds b q r n) []
   did_none_at_link a b p q o r m n told same kept later = record {
-    deeds = sym (append-nil ds); calls = grows_same a b told; places = tells_same p q same; opened = tells_same o r kept; link_faults = omega arith; held = keeps_same held; write_faults = omega arith; moments = counts_none moments; last_moment = refl
+    deeds = sym (append-nil ds);
+    calls = grows_same a b told;
+    places = tells_same p q same;
+    opened = tells_same o r kept;
+    link_faults = omega arith;
+    held = keeps_same held;
+    write_faults = omega arith;
+    moments = counts_none moments;
+    last_moment = refl;
   }
 
 module _ (ds : List Deed) (calls : Option (List LinkCall)) (places : Option Places) (opened : Option (Option (ℕ × Bool))) (link_faults : ℕ) where
@@ -231,26 +271,54 @@ module _ (ds : List Deed) (calls : Option (List LinkCall)) (places : Option Plac
   pub did_read : (es : List Deed) (x : Option (List ℕ)) (m : ℕ) (u v : Option (List ℕ)) (l k moment : ℕ) → es ≡ ds ++ Read moment ∷ [] → Counts u v (moment ∷ []) → k ≡ moment
       → Did (at_rest ds x m u l) (at_rest es x m v k) (Read moment ∷ [])
   did_read es x m u v l k moment is told kept = record {
-    deeds = is; calls = grows_same calls calls (same_itself calls); places = tells_same places places (same_itself places); opened = tells_same opened opened (same_itself opened);
-    link_faults = omega arith; held = keeps_same x; write_faults = omega arith; moments = told; last_moment = kept
+    deeds = is;
+    calls = grows_same calls calls (same_itself calls);
+    places = tells_same places places (same_itself places);
+    opened = tells_same opened opened (same_itself opened);
+    link_faults = omega arith;
+    held = keeps_same x;
+    write_faults = omega arith;
+    moments = told;
+    last_moment = kept;
   }
 
   pub did_write : (es : List Deed) (x y : Option (List ℕ)) (m n : ℕ) (u : Option (List ℕ)) (l : ℕ) (bytes : List ℕ) → es ≡ ds ++ Wrote bytes true ∷ [] → Appends x y bytes → m ≤ n
       → Did (at_rest ds x m u l) (at_rest es y n u l) (Wrote bytes true ∷ [])
   did_write es x y m n u l bytes is told later = record {
-    deeds = is; calls = grows_same calls calls (same_itself calls); places = tells_same places places (same_itself places); opened = tells_same opened opened (same_itself opened);
-    link_faults = omega arith; held = (y, told, keeps_same y); write_faults = omega arith; moments = counts_none u; last_moment = refl
+    deeds = is;
+    calls = grows_same calls calls (same_itself calls);
+    places = tells_same places places (same_itself places);
+    opened = tells_same opened opened (same_itself opened);
+    link_faults = omega arith;
+    held = (y, told, keeps_same y);
+    write_faults = omega arith;
+    moments = counts_none u;
+    last_moment = refl;
   }
 
   pub did_write_front : (es : List Deed) (x y : Option (List ℕ)) (m n : ℕ) (u : Option (List ℕ)) (l : ℕ) (bytes : List ℕ) → es ≡ ds ++ Wrote bytes false ∷ [] → GrowsByFront x y bytes → Rose m n
       → Did (at_rest ds x m u l) (at_rest es y n u l) (Wrote bytes false ∷ [])
   did_write_front es x y m n u l bytes is told rose = record {
-    deeds = is; calls = grows_same calls calls (same_itself calls); places = tells_same places places (same_itself places); opened = tells_same opened opened (same_itself opened);
-    link_faults = omega arith; held = (y, told, keeps_same y); write_faults = omega arith; moments = counts_none u; last_moment = refl
+    deeds = is;
+    calls = grows_same calls calls (same_itself calls);
+    places = tells_same places places (same_itself places);
+    opened = tells_same opened opened (same_itself opened);
+    link_faults = omega arith;
+    held = (y, told, keeps_same y);
+    write_faults = omega arith;
+    moments = counts_none u;
+    last_moment = refl;
   }
 
   pub did_none_at_sink : (x y : Option (List ℕ)) (m n : ℕ) (u : Option (List ℕ)) (l : ℕ) → Keeps x y → m ≤ n → Did (at_rest ds x m u l) (at_rest ds y n u l) []
   did_none_at_sink x y m n u l told later = record {
-    deeds = sym (append-nil ds); calls = grows_same calls calls (same_itself calls); places = tells_same places places (same_itself places); opened = tells_same opened opened (same_itself opened);
-    link_faults = omega arith; held = told; write_faults = omega arith; moments = counts_none u; last_moment = refl
+    deeds = sym (append-nil ds);
+    calls = grows_same calls calls (same_itself calls);
+    places = tells_same places places (same_itself places);
+    opened = tells_same opened opened (same_itself opened);
+    link_faults = omega arith;
+    held = told;
+    write_faults = omega arith;
+    moments = counts_none u;
+    last_moment = refl;
   }

@@ -3,7 +3,7 @@ ghost use Rattle.std.specs.Prelude.{◌≡◌, ◌≤◌, ◌+◌, ◌-◌, ◌^
 
 use crate::link::{Clock, Got, Link, Places};
 use crate::source::Put;
-use rsct_packet::NoMemory;
+use rsct_packet::{MAX_NODES, NoMemory};
 use std::alloc::Global;
 use std::io;
 use std::net::{Ipv4Addr, Net, SocketAddr, UdpSocket};
@@ -46,7 +46,7 @@ impl<'r, R: Net> UdpLink<'r, R> {
         if node == 0 {
             return self.from;
         }
-        if node > 32 || !is_network(network) {
+        if node > MAX_NODES || !is_network(network) {
             return None;
         }
         let (address, port) = self.places.get(node, network)?;

@@ -4,7 +4,7 @@ ghost use Rattle.rsct_packet.specs.Reading.{Gives};
 ghost use Rattle.piece_link.specs.Pieces.{is_piece, fits_data, head_at, head_text, piece_at, piece_count};
 
 use rsct_packet::{
-    NoMemory, put_u8, put_u16, put_u32, put_u64, read_u8, read_u16, read_u32, read_u64,
+    MAX_NODES, NoMemory, put_u8, put_u16, put_u32, put_u64, read_u8, read_u16, read_u32, read_u64,
 };
 
 /// How many bytes of its message a piece has, but for the last one.
@@ -50,7 +50,7 @@ fn fits_data(head: &PieceHead, len: usize) -> bool
 fn is_piece(head: &PieceHead, len: usize) -> bool
     ensures { result ≡ is_piece head.now len }
 {
-    head.sender <= 32
+    head.sender <= MAX_NODES
         && head.index < head.count
         && head.count <= MOST_PIECES
         && fits_data(head, len)

@@ -6,7 +6,7 @@ ghost use Rattle.rsct_packet.specs.Reading.{Gives, GivesPart, number_at, part_at
 ghost use Rattle.rsct_packet.specs.Fields.{node_at, node_or_none_at, bytes_at, name_at, mask_at, view_at, ring_at, provider_at, proto_at, member_at};
 
 use crate::ids::{Member, ProtoId, ProviderId, RingId, ViewId};
-use crate::mask::{Mask, is_node_number};
+use crate::mask::{MAX_NODES, Mask, is_node_number};
 use crate::text::is_name;
 
 pub(crate) fn u8_at(bytes: &[u8]) -> Option<(u8, &[u8])>
@@ -80,7 +80,7 @@ pub(crate) fn node_or_none_at(bytes: &[u8]) -> Option<(u8, &[u8])>
     ensures { Gives result (node_or_none_at bytes.now) }
 {
     let (n, rest) = u8_at(bytes)?;
-    if n > 32 {
+    if n > MAX_NODES {
         return None;
     }
     Some((n, rest))

@@ -5,6 +5,7 @@ ghost use Rattle.rsct_packet.specs.Packet.{is_group_kind, is_level, is_sender, i
 
 use crate::fronts::{u8_at, u16_at, u32_at};
 use crate::ids::NoMemory;
+use crate::mask::MAX_NODES;
 use crate::reading::known;
 
 /// What a packet's head says: its kind (1 to 23), the network (1 to 4) that it is sent on, its sender and
@@ -57,7 +58,7 @@ fn is_sender(from: u8, inc: u32) -> bool
     if from == 0 {
         inc == 0
     } else {
-        from <= 32 && inc >= 1
+        from <= MAX_NODES && inc >= 1
     }
 }
 
@@ -71,7 +72,7 @@ pub fn is_head(head: Head) -> bool
         && head.network >= 1
         && head.network <= 4
         && is_sender(head.from, head.inc)
-        && head.to <= 32
+        && head.to <= MAX_NODES
 }
 
 #[tactic(auto, unfolding(crate::specs::Packet::is_front))]

@@ -65,7 +65,8 @@ pub fn lists_are_read_back()
 /// The bytes of a value, whatever they are; a value in a line; and one that may be missing.
 #[tactic(auto, using(crate::proofs::ValueLaws::value_bytes_read, crate::proofs::ValueLaws::value_read, crate::proofs::ValueLaws::value_option_read))]
 pub fn values_are_read_back()
-    ensures bytes { (bytes : List ℕ) → is_value bytes ≡ true → text_of (escaped bytes) ≡ Some bytes }
+    ensures bytes { (bytes : List ℕ) → is_value bytes ≡ true
+        → text_of (escaped bytes) ≡ Some bytes }
     ensures value { (bytes : List ℕ) → is_value bytes ≡ true
         → value_word (value_text bytes) ≡ Some bytes }
     ensures option { (value : Option (List ℕ)) → is_value_option value ≡ true
