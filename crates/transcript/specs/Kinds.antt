@@ -41,7 +41,7 @@ number_of c = position_or_len (λ d. bytes_eq (word_of d) (word_of c)) every_kin
 unfoldable pub bit_of : Kind → ℕ
 bit_of c = 2 ^ number_of c
 
--- ---- a set of kinds
+-- ---- a set of kinds: the bits of those in it
 
 unfoldable pub all_kinds : Kinds
 all_kinds = record { bits = 2 ^ length every_kind - 1 }
