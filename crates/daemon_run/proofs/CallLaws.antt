@@ -187,7 +187,6 @@ module _ {C : Type 0} where
             (made_front_on t u v (left_doings (fresh_running {C = C} remote script.config me inc moment)) (doings_of (daemon_of s d.calls d.records) (map Opens n.opening)) h.made (n.breaks d.calls d.records));
       }
 
-
 -- ---- it breaks off at once
 
 pub begins_none : (remote : Bool) (script : Script) (me inc moment : ℕ) (t : Telling) → BeginBreaks remote script me inc moment t t

@@ -159,6 +159,12 @@ module _ {C : Type 0} where
   down_front r network message bytes t u same fits w =
       said_front r.outbox.number fits t u (message_calls r.outbox.me r.outbox.incarnation r.outbox.number 0 network message) (subst (λ (b : List ℕ). WentFront t u (map Exchanged (message_calls r.outbox.me r.outbox.incarnation r.outbox.number 0 network b))) same w)
 
+  -- by a daemon that stands alike
+  pub front_at : (q p : Running C) (key k network : ℕ) (t s u : Telling) → p ≡ q → k ≡ key → s ≡ t → SendsFront p s u network (down_in p.sessions k) → SendsFront q t u network (down_in q.sessions key)
+  front_at q p key k network t s u same keys told h =
+      subst (λ (x : Telling). SendsFront q x u network (down_in q.sessions key)) told
+      (subst (λ (n : ℕ). SendsFront q s u network (down_in q.sessions n)) keys (subst (λ (x : Running C). SendsFront x s u network (down_in x.sessions k)) same h))
+
   down_comes : (r s : Running C) (key network : ℕ) (t u : Telling) → Sends r s t u network (down_in r.sessions key) → Comes r s (down_sent key network) (down_exchanges r network (down_in r.sessions key)) []
   unfolding down_sent
   down_comes r s key network t u h before noted =
