@@ -1,5 +1,5 @@
 -- What comes from clients on other machines.
-use Rattle.std.proofs.Common.{◌≡◌, if◌then◌else◌, ℕ, ◌<◌, ◌^◌, Bool, true, false, List, [], ◌∷◌, ◌++◌, Option, Some, None, refl, sym, ◌∙◌, ap, ap₂, subst, append-nil}
+use Rattle.std.proofs.Common.{◌≡◌, if◌then◌else◌, ℕ, ◌<◌, ◌^◌, Bool, true, false, List, [], ◌++◌, Option, Some, None, refl, sym, ◌∙◌, ap, ap₂, subst, append-nil}
 use Rattle.std.specs.Prelude.{not, map, option_map}
 use Rattle.hags_io.specs.Deeds.{Exchanged}
 use Rattle.hags_io.specs.Telling.{Telling}
@@ -18,7 +18,6 @@ use Rattle.remote_clients.specs.declared.sessions.Sessions.{Sessions}
 use Rattle.remote_clients.specs.Sessions.{is_refused, finished, turned_down}
 use Rattle.daemon_model.specs.Sent.{Exchange, said, number_if, message_calls}
 use Rattle.daemon_model.specs.Daemon.{Daemon, left_for, stepped_for, stepped_by, given, up_in, with_up, call_in, key_called, line_carried, called_by, down_in, down_sent, brought, given_on}
-use Rattle.daemon_model.specs.Doings.{Exchanges, Made, MadeFront}
 use Rattle.daemon_model.proofs.AddLaws.{Adds, adds_on, adds_step, adds_sessions, adds_called}
 use Rattle.daemon_run.specs.Hosting.{Known}
 use Rattle.daemon_run.specs.declared.hosted.Hosted.{Hosted}

@@ -1,5 +1,5 @@
 -- Steps of a daemon's node, with what they record and send.
-use Rattle.std.proofs.Common.{◌≡◌, ℕ, Bool, List, [], ◌++◌, Option, Some, None, refl, sym, ◌∙◌, ap, subst}
+use Rattle.std.proofs.Common.{◌≡◌, ℕ, Bool, List, [], ◌++◌, Option, None, refl, sym, ◌∙◌, ap, subst}
 use Rattle.std.specs.Prelude.{map, option_map}
 use Rattle.hags_io.specs.Telling.{Telling}
 use Rattle.link_use.specs.declared.sending.Outbox.{Outbox}

@@ -1,34 +1,34 @@
 -- The parts of a turn, and turns.
-use Rattle.std.proofs.Common.{◌≡◌, ℕ, ◌+◌, ◌-◌, ◌≤◌, ◌<◌, Bool, true, false, List, [], ◌∷◌, ◌++◌, Option, Some, None, refl, sym, ◌∙◌, ap, ap₂, subst, append_assoc, append-nil}
+use Rattle.std.proofs.Common.{◌≡◌, ℕ, ◌+◌, ◌-◌, ◌≤◌, ◌<◌, true, false, List, [], ◌∷◌, ◌++◌, Option, Some, None, refl, sym, ◌∙◌, ap, ap₂, subst, append_assoc, append-nil}
 use Rattle.std.specs.Prelude.{option_map}
 use Rattle.std.proofs.lemmas.Bool.{le-leb, lt-leb}
 use Rattle.hags_io.specs.declared.link.LinkCall.{LinkCall}
 use Rattle.hags_io.specs.declared.link.LinkCall.TheVariants as call
 use Rattle.hags_io.specs.Deeds.{Read, Exchanged}
 use Rattle.hags_io.specs.Telling.{Telling, Did}
-use Rattle.hags_io.specs.Fronts.{Went, WentFront}
+use Rattle.hags_io.specs.Fronts.{WentFront}
 use Rattle.hags_io.proofs.FrontLaws.{went_as}
 use Rattle.link_use.specs.declared.receiving.Receiving.{Receiving}
 use Rattle.link_use.specs.declared.receiving.Whole.{Whole}
-use Rattle.link_use.specs.Receiving.{IsReceive, Receives, ReceivesFront, received_by, whole_by, whole_in}
+use Rattle.link_use.specs.Receiving.{IsReceive, Receives, ReceivesFront, received_by, whole_in}
 use Rattle.link_use.proofs.SendLaws.{each_front}
 use Rattle.piece_link.specs.Joining.{Joining}
 use Rattle.node_state.specs.declared.happened.Happened.{Happened}
 use Rattle.node_state.specs.HandOn.{Answering}
 use Rattle.node_state.specs.Step.{Ticks, at_work}
 use Rattle.daemon_model.specs.Sent.{Exchange, plain, as_sent}
-use Rattle.daemon_model.specs.Daemon.{Daemon, Turn, stepped_by, is_due, ticked_if, ticked, joined_by, received, up_in, given_on, network_of, heard}
-use Rattle.daemon_model.specs.Actions.{Action, Hears, did, did_all, turn_actions}
+use Rattle.daemon_model.specs.Daemon.{Daemon, stepped_by, is_due, ticked_if, ticked, joined_by, received, up_in, given_on, network_of, heard}
+use Rattle.daemon_model.specs.Actions.{Hears, did, did_all}
 use Rattle.daemon_model.specs.Actions as actions
-use Rattle.daemon_model.specs.Doings.{Doing, Reads, Exchanges, step_doings, since, doings, doings_of, Made, MadeFront}
-use Rattle.daemon_model.proofs.MadeLaws.{made_nothing, made_on, all_made, none_made, made_front_on, made_front_more}
+use Rattle.daemon_model.specs.Doings.{Reads, Exchanges, step_doings, since, doings, doings_of, Made, MadeFront}
+use Rattle.daemon_model.proofs.MadeLaws.{made_nothing, made_on, made_front_on, made_front_more}
 use Rattle.daemon_run.specs.Hosting.{Known}
 use Rattle.daemon_run.specs.declared.hosted.Hosted.{Hosted}
 use Rattle.daemon_run.specs.declared.running.Running.{Running}
 use Rattle.remote_session.specs.Daemon.{SeenUp, NotUp, KeysFull, KnownKey, CallMade}
 use Rattle.daemon_run.specs.Audience.{Audience, StepHands, TickHands, BroughtHands, GivenHands, HeardHands}
-use Rattle.daemon_run.specs.Doing.{daemon_of, Comes, Goes, Breaks, Acts, ActsBreak, Passes, Attends, StepsAs, StepBreaks, TicksAs, TickBreaks, GivesAs, GiveBreaks, HearsAs, HearBreaks, TurnsAs, TurnBreaks}
-use Rattle.daemon_run.proofs.GoesLaws.{goes_none, goes_as, since_comes, breaks_as, acts_on, acts_break_none, acts_break_on, acts_break_more, attends_on}
+use Rattle.daemon_run.specs.Doing.{daemon_of, Comes, Acts, ActsBreak, Passes, StepsAs, StepBreaks, TicksAs, TickBreaks, GivesAs, GiveBreaks, HearsAs, HearBreaks, TurnsAs, TurnBreaks}
+use Rattle.daemon_run.proofs.GoesLaws.{goes_none, goes_as, since_comes, breaks_as, acts_on, acts_break_on, acts_break_more, attends_on}
 use Rattle.daemon_run.proofs.StepLaws.{silent}
 
 -- ---- when a tick is due

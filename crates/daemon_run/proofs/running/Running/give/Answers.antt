@@ -1,8 +1,7 @@
 -- The Down broke off.
-use Rattle.std.proofs.Common.{◌≡◌, ap, ◌∙◌, sym}
+use Rattle.std.proofs.Common.{ap, ◌∙◌, sym}
 use Rattle.link_use.proofs.SendLaws.{on_err}
-use Rattle.remote_session.specs.Daemon.{KeysFull, KnownKey, CallMade, seen_up}
-use Rattle.daemon_model.specs.Daemon.{up_in}
+use Rattle.remote_session.specs.Daemon.{seen_up}
 use Rattle.daemon_run.specs.Doing.{GiveBreaks}
 use Rattle.daemon_run.proofs.RemoteLaws.{front_at, full_broke, known_broke, down_broke}
 use Rattle.daemon_run.proofs.running.Running.give.Goals as goal

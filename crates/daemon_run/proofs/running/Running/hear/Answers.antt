@@ -1,7 +1,7 @@
 -- What comes of the message that is whole.
-use Rattle.std.proofs.Common.{◌≡◌, ℕ, List, Option, Some, ap, ◌∙◌, sym, subst}
+use Rattle.std.proofs.Common.{Some}
 use Rattle.std.proofs.lemmas.Result.{on_ok_weaker, on_err_weaker}
-use Rattle.link_use.specs.Receiving.{Receives, whole_in}
+use Rattle.link_use.specs.Receiving.{Receives}
 use Rattle.daemon_run.specs.Audience.{Attend}
 use Rattle.daemon_run.specs.Doing.{GivesAs, GiveBreaks, HearsAs, HearBreaks}
 use Rattle.daemon_run.proofs.TurnLaws.{hear_done, hear_broke, received_whole}

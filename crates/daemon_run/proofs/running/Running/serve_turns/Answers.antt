@@ -1,6 +1,4 @@
 -- A turn broke off, too many receives in a row failed, or all turns were done.
-use Rattle.std.proofs.Common.{◌≤◌, arith}
-use Rattle.daemon_run.specs.Serving.{TurnsEnded}
 use Rattle.daemon_run.proofs.ServeLaws.{turns_ended, turns_broken, turns_front, ended_front}
 use Rattle.daemon_run.proofs.running.Running.serve_turns.Goals as goal
 
