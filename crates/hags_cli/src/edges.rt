@@ -1,11 +1,10 @@
-//! What a call meets outside of it.
+//! What a call works over.
 use hags_io::Parts;
 
-/// What a call of the program meets outside of it: where it reads, where it says how it failed, and what it works over:
-/// where it writes, over which link its datagrams go, and by which clock.
+/// What a call of the program works over: where it reads; and where it writes, over which link its datagrams go, and by
+/// which clock, as one outside.
 #[derive(Drop)]
-pub struct Edges<S, K, E, L, M> {
+pub struct Edges<S, K, L, M> {
     pub input: S,
-    pub err: E,
     pub outside: Parts<K, L, M>,
 }
