@@ -2,7 +2,7 @@
 #![tactic(auto)]
 
 use client_callbacks::{Callbacks, SteadyClient};
-use hags_cli::{Edges, hags};
+use hags_cli::{Edges, Output, hags};
 use hags_io::{History, Parts, StdSink, StdSource, SysClock, UdpLink};
 use std::process::ExitCode;
 use std::{env, io};
@@ -26,11 +26,13 @@ fn called(rt: &HostRuntime, words: &[String], clients: Vec<Box<dyn Callbacks>>) 
     };
     let mut edges = Edges {
         input: StdSource::new(rt.stdin()),
-        outside: Parts {
-            out: StdSink::new(rt.stdout()),
-            link,
-            clock: SysClock::new(rt),
-            history: History::new(),
+        output: Output {
+            outside: Parts {
+                out: StdSink::new(rt.stdout()),
+                link,
+                clock: SysClock::new(rt),
+                history: History::new(),
+            },
         },
     };
     let mut err = StdSink::new(rt.stderr());

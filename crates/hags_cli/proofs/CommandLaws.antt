@@ -1,5 +1,5 @@
 -- How the commands that take settings end.
-use Rattle.std.proofs.Common.{◌≡◌, ◌↔◌, ℕ, ◌+◌, IsTrue, is_some, Bool, true, false, List, [], ◌∷◌, Option, Some, None, IfSome, refl, sym, subst, inr, arith}
+use Rattle.std.proofs.Common.{◌≡◌, ◌↔◌, ℕ, ◌+◌, ◌-◌, ◌^◌, min, IsTrue, is_some, Bool, true, false, List, [], ◌∷◌, Option, Some, None, IfSome, refl, sym, subst, inr, arith}
 use Rattle.std.specs.Prelude.{Result, Ok, Err}
 use Rattle.std.specs.Io.KnownBytes.{IsAtEnd}
 use Rattle.std.proofs.KnownBytes.{Keeps-trans}
@@ -25,6 +25,7 @@ use Rattle.hags_cli.specs.declared.ending.Ending.{Ending}
 use Rattle.hags_cli.specs.declared.ending.Ending.TheVariants as ending
 use Rattle.hags_cli.specs.Endings.{ending_of_stop, ending_of_question}
 use Rattle.hags_cli.specs.Tasks.{serves, asks, Seen, Untouched, counted, SettingsEnd, incarnation_at, ByClock, Incarnates, Running, IsRunning, Runs, IsServed, ServesAll, ServesPart, ServesNoMore, AsksBy, AsksOver, GivesNone, AsksNoMore, TellEnds, FailsAs, EndsAs}
+use Rattle.hags_cli.proofs.OutputLaws.{rose_within}
 use Rattle.hags_cli.proofs.TaskLaws.{keeps_same, memory_ends}
 
 -- ---- settings that are not read
@@ -66,7 +67,7 @@ links_on t u n ds h rose = let r : Rises t.link_faults u.link_faults (link_failu
 
 -- What came of the write of an answer that was got by then. Nothing was written before it.
 pub asks_answered : (r : Result (Unit {0}) Ending) (a : Asking) (x : Seen) (s : Script) (text : List ℕ) (answered : Telling) → IfSome x.left (λ b. daemon_script a.node None b ≡ IsScript s) → IsAtEnd x.rest
-    → AsksOver x a (λ question sent. Answered question a.turns nothing_received text sent answered) s.config → IsUnwritten x.before answered → TellEnds r text answered.write_faults x.now.write_faults answered.held x.now.held → EndsAs r (Some (asks a)) x
+    → AsksOver x a (λ question sent. Answered question a.turns nothing_received text sent answered) s.config → IsUnwritten x.before answered → TellEnds r text (min answered.write_faults (2 ^ 64 - 1)) (min x.now.write_faults (2 ^ 64 - 1)) answered.held x.now.held → EndsAs r (Some (asks a)) x
 asks_answered (Ok u) a x s text answered spelled end asked kept h = (record { text = text; answered = answered; asked = asked_by x a s _ spelled asked; holds = h }, end)
 asks_answered (Err ending.Usage) a x s text answered spelled end asked kept h = absurd h
 asks_answered (Err (ending.BadLine line why)) a x s text answered spelled end asked kept h = absurd h
@@ -75,7 +76,7 @@ asks_answered (Err ending.ReadFault) a x s text answered spelled end asked kept 
 asks_answered (Err ending.WriteFault) a x s text answered spelled end asked kept h = (
   rises_on x.before asked.opened x.now.write_faults _ asked.did
       (rises_on asked.opened asked.holds.sent x.now.write_faults asked.holds.went.deeds asked.holds.went.told
-      (rises_on asked.holds.sent answered x.now.write_faults _ asked.holds.then.told h.0)),
+      (rises_on asked.holds.sent answered x.now.write_faults _ asked.holds.then.told (rose_within answered.write_faults x.now.write_faults h.0))),
   record { text = text; answered = answered; asked = asked_by x a s _ spelled asked; holds = h.1 },
 )
 asks_answered (Err ending.LinkFault) a x s text answered spelled end asked kept h = absurd h

@@ -6,3 +6,4 @@ pub mod LoadLaws
 pub mod SettingsLaws
 pub mod CommandLaws
 pub mod ClientLaws
+pub mod OutputLaws

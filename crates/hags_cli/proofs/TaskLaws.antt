@@ -1,5 +1,5 @@
 -- From how a call ended to what its status says.
-use Rattle.std.proofs.Common.{◌≡◌, ◌≢◌, ℕ, ◌≤◌, List, [], ◌++◌, Option, Some, None, IfSome, IfNone, refl, sym, ◌∙◌, ap, subst, inl, inr, arith, ◌⊎◌}
+use Rattle.std.proofs.Common.{◌≡◌, ◌≢◌, ℕ, ◌-◌, ◌^◌, ◌≤◌, min, List, [], ◌++◌, Option, Some, None, IfSome, IfNone, refl, sym, ◌∙◌, ap, subst, inl, inr, arith, ◌⊎◌}
 use Rattle.std.specs.Prelude.{codes, decimal}
 use Rattle.std.specs.Prelude.{Result, Ok, Err}
 use Rattle.std.specs.Io.KnownBytes.{Appends, Keeps, IsAtEnd}
@@ -23,6 +23,7 @@ use Rattle.hags_cli.specs.declared.ending.Ending.TheVariants as ending
 use Rattle.hags_cli.specs.Endings.{Says, status_of, said_of, ending_text}
 use Rattle.hags_cli.specs.Run.{PlaysAll, PlaysPast, PlaysFront, MayHavePlayed, RunEnds, SpellsScript}
 use Rattle.hags_cli.specs.Tasks.{Task, plays, loads, tells, serves, asks, uses, shown_of, Shows, played_as, Asks, Seen, Untouched, counted, HasFault, IsOutside, OutsideAs, OutsideAt, ReadFaultAs, LinkFaultAs, NoReplyAs, LostAs, FullAs, SpellsSettings, SpellsCalls, CanBeDone, DoneAs, LoadEnds, TellEnds, FailsAs, EndsAs, Ended, SaysLine}
+use Rattle.hags_cli.proofs.OutputLaws.{rose_within}
 
 -- ---- which ending a status is
 
@@ -404,46 +405,46 @@ untouched x deeds calls places opened moments = record { deeds = deeds; calls = 
 
 -- the lines of these kinds are those that are shown
 pub run_ends : (k : Kinds) (list : List ℕ) → ((rs : List Happened) → kinds_text k rs ≡ shown_of list rs) → (r : Result (Unit {0}) Ending) (x : Seen) → Untouched x
-    → RunEnds r (kinds_text k) x.left x.rest (Rose x.reads x.reads_now) (Rose x.before.write_faults x.now.write_faults) x.before.held x.now.held → EndsAs r (Some (plays list)) x
+    → RunEnds r (kinds_text k) x.left x.rest (Rose x.reads x.reads_now) (Rose (min x.before.write_faults (2 ^ 64 - 1)) (min x.now.write_faults (2 ^ 64 - 1))) x.before.held x.now.held → EndsAs r (Some (plays list)) x
 run_ends k list same (Ok u) x still h = (all_as (kinds_text k) (shown_of list) same x.left x.before.held x.now.held h.0, h.1)
 run_ends k list same (Err ending.Usage) x still h = absurd h
 run_ends k list same (Err (ending.BadLine n why)) x still h = (h.0, h.1, still)
 run_ends k list same (Err ending.NoMemory) x still h = may_as (kinds_text k) (shown_of list) same x.left x.before.held x.now.held h
 run_ends k list same (Err ending.ReadFault) x still h = (h.0, h.1, still)
-run_ends k list same (Err ending.WriteFault) x still h = (h.0, front_as (kinds_text k) (shown_of list) same x.left x.before.held x.now.held h.1)
+run_ends k list same (Err ending.WriteFault) x still h = (rose_within x.before.write_faults x.now.write_faults h.0, front_as (kinds_text k) (shown_of list) same x.left x.before.held x.now.held h.1)
 run_ends k list same (Err ending.LinkFault) x still h = absurd h
 run_ends k list same (Err ending.TooMuchKept) x still h = past_as (kinds_text k) (shown_of list) same x.left x.before.held x.now.held h
 run_ends k list same (Err ending.NoReply) x still h = absurd h
 run_ends k list same (Err ending.SessionLost) x still h = absurd h
 run_ends k list same (Err ending.DaemonFull) x still h = absurd h
 
-pub load_ends : (r : Result (Unit {0}) Ending) (steps : ℕ) (x : Seen) → x.rest ≡ x.left → LoadEnds r steps x.before.write_faults x.now.write_faults x.before.held x.now.held → EndsAs r (Some (loads steps)) x
+pub load_ends : (r : Result (Unit {0}) Ending) (steps : ℕ) (x : Seen) → x.rest ≡ x.left → LoadEnds r steps (min x.before.write_faults (2 ^ 64 - 1)) (min x.now.write_faults (2 ^ 64 - 1)) x.before.held x.now.held → EndsAs r (Some (loads steps)) x
 load_ends (Ok u) steps x still h = (h, still)
 load_ends (Err ending.Usage) steps x still h = absurd h
 load_ends (Err (ending.BadLine n why)) steps x still h = absurd h
 load_ends (Err ending.NoMemory) steps x still h = h.written
 load_ends (Err ending.ReadFault) steps x still h = absurd h
-load_ends (Err ending.WriteFault) steps x still h = h
+load_ends (Err ending.WriteFault) steps x still h = (rose_within x.before.write_faults x.now.write_faults h.0, h.1)
 load_ends (Err ending.LinkFault) steps x still h = absurd h
 load_ends (Err ending.TooMuchKept) steps x still h = h
 load_ends (Err ending.NoReply) steps x still h = absurd h
 load_ends (Err ending.SessionLost) steps x still h = absurd h
 load_ends (Err ending.DaemonFull) steps x still h = absurd h
 
-tells_so : (r : Result (Unit {0}) Ending) (text : List ℕ) (x : Seen) → x.rest ≡ x.left → TellEnds r text x.before.write_faults x.now.write_faults x.before.held x.now.held → EndsAs r (Some (tells text)) x
+tells_so : (r : Result (Unit {0}) Ending) (text : List ℕ) (x : Seen) → x.rest ≡ x.left → TellEnds r text (min x.before.write_faults (2 ^ 64 - 1)) (min x.now.write_faults (2 ^ 64 - 1)) x.before.held x.now.held → EndsAs r (Some (tells text)) x
 tells_so (Ok u) text x still h = (h, still)
 tells_so (Err ending.Usage) text x still h = absurd h
 tells_so (Err (ending.BadLine n why)) text x still h = absurd h
 tells_so (Err ending.NoMemory) text x still h = h
 tells_so (Err ending.ReadFault) text x still h = absurd h
-tells_so (Err ending.WriteFault) text x still h = h
+tells_so (Err ending.WriteFault) text x still h = (rose_within x.before.write_faults x.now.write_faults h.0, h.1)
 tells_so (Err ending.LinkFault) text x still h = absurd h
 tells_so (Err ending.TooMuchKept) text x still h = absurd h
 tells_so (Err ending.NoReply) text x still h = absurd h
 tells_so (Err ending.SessionLost) text x still h = absurd h
 tells_so (Err ending.DaemonFull) text x still h = absurd h
 
-pub tell_ends : (r : Result (Unit {0}) Ending) (text wanted : List ℕ) (x : Seen) → text ≡ wanted → x.rest ≡ x.left → TellEnds r text x.before.write_faults x.now.write_faults x.before.held x.now.held → EndsAs r (Some (tells wanted)) x
+pub tell_ends : (r : Result (Unit {0}) Ending) (text wanted : List ℕ) (x : Seen) → text ≡ wanted → x.rest ≡ x.left → TellEnds r text (min x.before.write_faults (2 ^ 64 - 1)) (min x.now.write_faults (2 ^ 64 - 1)) x.before.held x.now.held → EndsAs r (Some (tells wanted)) x
 tell_ends r text wanted x is still h = subst (λ (t : List ℕ). EndsAs r (Some (tells t)) x) is (tells_so r text x still h)
 
 pub keeps_same : (x : Seen) → x.now.held ≡ x.before.held → Keeps x.before.held x.now.held

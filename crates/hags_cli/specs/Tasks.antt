@@ -4,7 +4,6 @@ use Rattle.std.specs.Io.KnownBytes.{Appends, Keeps, IsAtEnd}
 use Rattle.hags_io.specs.Edges.{GrowsByFront, Rose}
 use Rattle.hags_io.specs.Deeds.{Deed, Read}
 use Rattle.hags_io.specs.Telling.{Telling, Did}
-use Rattle.hags_io.specs.declared.outside.Parts.{Parts}
 use Rattle.node_state.specs.declared.config.Config.{Config}
 use Rattle.node_state.specs.declared.happened.Happened.{Happened}
 use Rattle.node_state.specs.declared.state.Core.{Core}
@@ -107,14 +106,14 @@ pub record Seen : Type 0 where
   pub now : Telling
 
 -- by what the source, the outside and their parts tell
-abbrev pub seen : {S K L M : Type 0} → (left : S → Option (List ℕ)) → (faults : S → ℕ) → (told : Parts K L M → Telling) → (old new : Edges S K L M) → Seen
+abbrev pub seen : {S O : Type 0} → (left : S → Option (List ℕ)) → (faults : S → ℕ) → (told : O → Telling) → (old new : Edges S O) → Seen
 seen left faults told old new = record {
   left = left old.input;
   rest = left new.input;
   reads = faults old.input;
   reads_now = faults new.input;
-  before = told old.outside;
-  now = told new.outside;
+  before = told old.output.outside;
+  now = told new.output.outside;
 }
 
 -- nothing was told to the link, sent, received or read of the clock

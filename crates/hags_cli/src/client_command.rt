@@ -11,7 +11,7 @@ use crate::edges::Edges;
 use crate::ending::Ending;
 use crate::input::read_input;
 use client_run::{Usage, use_daemon};
-use hags_io::{Clock, Link, Parts, Sink, Source};
+use hags_io::{Outside, Source};
 use script_reader::read_client;
 use std::alloc::Global;
 use world_model::Script;
@@ -34,13 +34,13 @@ fn read_calls<S: Source>(alloc: Global, node: u8, input: &mut S) -> Result<Scrip
 
 /// Reads the settings and the calls to their end, and hands the calls to the daemon of the node.
 #[tactic(auto, using(crate::proofs::ClientLaws::uses_settings, crate::proofs::ClientLaws::uses_done, crate::proofs::ClientLaws::uses_fault, crate::proofs::TaskLaws::untouched))]
-pub fn use_node<S: Source, K: Sink, L: Link, M: Clock>(
+pub fn use_node<S: Source, O: Outside>(
     alloc: Global,
     usage: Usage,
-    edges: &mut Edges<S, K, L, M>,
+    edges: &mut Edges<S, O>,
 ) -> Result<(), Ending>
     ensures { EndsAs result (Some (uses usage))
-        (seen S.left S.faults (Parts K L M).told edges.old edges.new) }
+        (seen S.left S.faults O.told edges.old edges.new) }
 {
     let script = read_calls(alloc, usage.node, &mut edges.input)?;
     use_daemon(
@@ -48,7 +48,7 @@ pub fn use_node<S: Source, K: Sink, L: Link, M: Clock>(
         &script.config,
         &script.texts,
         usage,
-        &mut edges.outside,
+        &mut edges.output.outside,
     )?;
     Ok(())
 }

@@ -7,7 +7,7 @@ use crate::ending::Ending;
 use crate::settings::read_settings;
 use client_callbacks::{Callbacks, DaemonClient};
 use daemon_run::{Hosts, Objects, Serving, serve};
-use hags_io::{Clock, Link, Outside, Parts, Sink, Source};
+use hags_io::{Outside, Source};
 use std::alloc::Global;
 use world_model::Script;
 
@@ -44,31 +44,31 @@ fn incarnation_of<O: Outside>(named: Option<u32>, outside: &mut O) -> u32
 
 /// Reads the settings to their end, and serves the node with these objects for its clients.
 #[tactic(auto, using(crate::proofs::CommandLaws::serves_settings, crate::proofs::CommandLaws::serves_done, crate::proofs::CommandLaws::serves_stop, crate::proofs::TaskLaws::untouched))]
-pub fn serve_node<S: Source, K: Sink, L: Link, M: Clock>(
+pub fn serve_node<S: Source, O: Outside>(
     alloc: Global,
     service: Service,
-    edges: &mut Edges<S, K, L, M>,
+    edges: &mut Edges<S, O>,
     clients: Vec<Box<dyn Callbacks>>,
 ) -> Result<(), Ending>
     requires { service.node ≤ 32 }
     ensures { EndsAs result (Some (serves service (length clients.items)))
-        (seen S.left S.faults (Parts K L M).told edges.old edges.new) }
+        (seen S.left S.faults O.told edges.old edges.new) }
 {
     let objects = count_of(clients.len());
     let script = read_settings(alloc, service.node, Some(objects), &mut edges.input)?;
     let serving = Serving {
         me: service.node,
-        incarnation: incarnation_of(service.incarnation, &mut edges.outside),
+        incarnation: incarnation_of(service.incarnation, &mut edges.output.outside),
         turns: service.turns,
         remote: service.remote,
     };
     let mut hosts = Objects { left: clients };
-    let _node = serve::<DaemonClient, Objects, Parts<K, L, M>>(
+    let _node = serve::<DaemonClient, Objects, O>(
         alloc,
         &script,
         serving,
         &mut hosts,
-        &mut edges.outside,
+        &mut edges.output.outside,
     )?;
     Ok(())
 }

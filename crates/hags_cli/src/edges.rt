@@ -1,10 +1,9 @@
 //! What a call works over.
-use hags_io::Parts;
+use crate::output::Output;
 
-/// What a call of the program works over: where it reads; and where it writes, over which link its datagrams go, and by
-/// which clock, as one outside.
+/// What a call of the program works over: where it reads, and the outside, which is also where it writes.
 #[derive(Drop)]
-pub struct Edges<S, K, L, M> {
+pub struct Edges<S, O> {
     pub input: S,
-    pub outside: Parts<K, L, M>,
+    pub output: Output<O>,
 }

@@ -7,7 +7,7 @@ use crate::edges::Edges;
 use crate::ending::Ending;
 use crate::tasks::obey;
 use client_callbacks::Callbacks;
-use hags_io::{Clock, Link, Parts, Put, Sink, Source};
+use hags_io::{Outside, Put, Sink, Source};
 use std::alloc::Global;
 use transcript::fault_line;
 
@@ -90,15 +90,15 @@ fn say_ending<E: Sink>(alloc: Global, ending: Ending, err: &mut E)
 /// | 10 | `hags: session lost` | `client`: its last receive brought word of another incarnation of the daemon; all lines up to there were written |
 /// | 11 | `hags: daemon full` | `client`: its last receive brought word that the daemon keeps no more clients; all lines up to there were written |
 #[tactic(auto, using(crate::proofs::TaskLaws::says_line, crate::proofs::TaskLaws::says_said, crate::proofs::TaskLaws::says_nothing))]
-pub fn hags<S: Source, K: Sink, L: Link, M: Clock, E: Sink>(
+pub fn hags<S: Source, O: Outside, E: Sink>(
     alloc: Global,
     words: &[String],
-    edges: &mut Edges<S, K, L, M>,
+    edges: &mut Edges<S, O>,
     err: &mut E,
     clients: Vec<Box<dyn Callbacks>>,
 ) -> u8
     ensures ended { Ended result (task_of (length clients.items) (map string_bytes words.now))
-        (seen S.left S.faults (Parts K L M).told edges.old edges.new) }
+        (seen S.left S.faults O.told edges.old edges.new) }
     ensures said { result ≢ 2 → Says (E.faults err.old) (E.faults err.new) (E.held err.old)
         (E.held err.new) (said_of result) }
     ensures said_line { result ≡ 2 → SaysLine (task_of (length clients.items)

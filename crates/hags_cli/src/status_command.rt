@@ -6,21 +6,21 @@ use crate::edges::Edges;
 use crate::ending::Ending;
 use crate::settings::read_settings;
 use crate::tell_command::tell;
-use hags_io::{Clock, Link, Parts, Sink, Source};
+use hags_io::{Outside, Source};
 use status_client::{Asking, ask};
 use std::alloc::Global;
 
 /// Reads the settings to their end, asks the node, and writes the text of its answer.
 #[tactic(auto, using(crate::proofs::CommandLaws::asks_settings, crate::proofs::CommandLaws::asks_answered, crate::proofs::CommandLaws::asks_fault, crate::proofs::TaskLaws::untouched))]
-pub fn ask_node<S: Source, K: Sink, L: Link, M: Clock>(
+pub fn ask_node<S: Source, O: Outside>(
     alloc: Global,
     asking: Asking,
-    edges: &mut Edges<S, K, L, M>,
+    edges: &mut Edges<S, O>,
 ) -> Result<(), Ending>
     ensures { EndsAs result (Some (asks asking))
-        (seen S.left S.faults (Parts K L M).told edges.old edges.new) }
+        (seen S.left S.faults O.told edges.old edges.new) }
 {
     let script = read_settings(alloc, asking.node, None, &mut edges.input)?;
-    let text = ask(alloc, &script.config, asking, &mut edges.outside)?;
-    tell(text.as_slice(), &mut edges.outside.out)
+    let text = ask(alloc, &script.config, asking, &mut edges.output.outside)?;
+    tell(text.as_slice(), &mut edges.output)
 }

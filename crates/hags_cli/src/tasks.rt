@@ -13,7 +13,7 @@ use crate::status_command::ask_node;
 use crate::tell_command::tell;
 use client_callbacks::Callbacks;
 use client_run::Usage;
-use hags_io::{Clock, Link, Parts, Sink, Source};
+use hags_io::{Outside, Source};
 use hags_words::{Command, VERSION, help_text, read_command};
 use rsct_packet::List;
 use status_client::Asking;
@@ -35,23 +35,23 @@ fn kinds_in(list: &Option<List<u8>>) -> Option<Kinds>
 
 /// Does what the command asks for; no command is usage.
 #[tactic(auto, using(crate::proofs::TaskLaws::run_ends, crate::proofs::TaskLaws::load_ends, crate::proofs::TaskLaws::tell_ends, crate::proofs::TaskLaws::usage_ends, crate::proofs::TaskLaws::untouched))]
-fn perform<S: Source, K: Sink, L: Link, M: Clock>(
+fn perform<S: Source, O: Outside>(
     alloc: Global,
     command: Option<Command>,
-    edges: &mut Edges<S, K, L, M>,
+    edges: &mut Edges<S, O>,
     clients: Vec<Box<dyn Callbacks>>,
 ) -> Result<(), Ending>
     requires { IfSome command IsWithin }
     ensures { EndsAs result (task_asked (length clients.items) command)
-        (seen S.left S.faults (Parts K L M).told edges.old edges.new) }
+        (seen S.left S.faults O.told edges.old edges.new) }
 {
     match command {
         None => Err(Ending::Usage),
         Some(Command::Run { kinds }) => match kinds_in(&kinds) {
             None => Err(Ending::Usage),
-            Some(kinds) => run(alloc, kinds, &mut edges.input, &mut edges.outside.out),
+            Some(kinds) => run(alloc, kinds, &mut edges.input, &mut edges.output),
         },
-        Some(Command::Load { views }) => load_steps(alloc, views, &mut edges.outside.out),
+        Some(Command::Load { views }) => load_steps(alloc, views, &mut edges.output),
         Some(
             Command::Daemon {
                 node,
@@ -76,21 +76,21 @@ fn perform<S: Source, K: Sink, L: Link, M: Clock>(
             let usage = Usage { node, turns };
             use_node(alloc, usage, edges)
         }
-        Some(Command::Help { about }) => tell(help_text(about), &mut edges.outside.out),
-        Some(Command::Version) => tell(VERSION, &mut edges.outside.out),
+        Some(Command::Help { about }) => tell(help_text(about), &mut edges.output),
+        Some(Command::Version) => tell(VERSION, &mut edges.output),
     }
 }
 
 /// Does what the words ask for.
 #[tactic(auto, using(crate::proofs::TaskLaws::memory_ends))]
-pub fn obey<S: Source, K: Sink, L: Link, M: Clock>(
+pub fn obey<S: Source, O: Outside>(
     alloc: Global,
     words: &[String],
-    edges: &mut Edges<S, K, L, M>,
+    edges: &mut Edges<S, O>,
     clients: Vec<Box<dyn Callbacks>>,
 ) -> Result<(), Ending>
     ensures { EndsAs result (task_of (length clients.items) (map string_bytes words.now))
-        (seen S.left S.faults (Parts K L M).told edges.old edges.new) }
+        (seen S.left S.faults O.told edges.old edges.new) }
 {
     let command = read_command(alloc, words)?;
     perform(alloc, command, edges, clients)

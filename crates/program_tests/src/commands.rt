@@ -33,7 +33,7 @@ fn called(
         &mut err,
         Vec::new(alloc),
     );
-    Ok((status, edges.outside.out, err))
+    Ok((status, edges.output.outside.out, err))
 }
 
 /// Whether the call with these words ends with 0, writes this and says nothing.

@@ -1,6 +1,6 @@
 //! The commands `daemon` and `status` over links, clocks, sources and sinks in memory.
 use crate::edges::{clock_at, fails, silent_link, sink, source, words_of};
-use hags_cli::{Edges, hags};
+use hags_cli::{Edges, Output, hags};
 use hags_io::{History, MemLink, MemSink, Parts};
 use std::alloc::{AllocError, Global};
 use std::collections::VecDeque;
@@ -33,11 +33,13 @@ pub fn called(
     let words = words_of(alloc, line)?;
     let mut edges = Edges {
         input: source(alloc, settings, &[])?,
-        outside: Parts {
-            out: sink(alloc, &[])?,
-            link,
-            clock: clock_at(alloc, moment)?,
-            history: History::new(),
+        output: Output {
+            outside: Parts {
+                out: sink(alloc, &[])?,
+                link,
+                clock: clock_at(alloc, moment)?,
+                history: History::new(),
+            },
         },
     };
     let mut err = sink(alloc, &[])?;
@@ -48,7 +50,7 @@ pub fn called(
         &mut err,
         Vec::new(alloc),
     );
-    Ok((status, edges.outside.out, err))
+    Ok((status, edges.output.outside.out, err))
 }
 
 /// Whether such a call of node 1, alone, ends with this status and writes this.

@@ -1,13 +1,13 @@
 //! Edges in memory, for calls of the program.
 ghost use Rattle.std.specs.Prelude.{◌≡◌};
 
-use hags_cli::Edges;
+use hags_cli::{Edges, Output};
 use hags_io::{History, LinkFails, MemClock, MemLink, MemSink, MemSource, Parts};
 use std::alloc::{AllocError, Global};
 use std::collections::VecDeque;
 
 /// Edges that are all in memory.
-pub type MemEdges = Edges<MemSource, MemSink, MemLink, MemClock>;
+pub type MemEdges = Edges<MemSource, Parts<MemSink, MemLink, MemClock>>;
 
 /// The words of a line, which is cut at each space.
 pub fn words_of(alloc: Global, line: &str) -> Result<Vec<String>, AllocError> {
@@ -56,11 +56,13 @@ pub fn clock_at(alloc: Global, moment: u64) -> Result<MemClock, AllocError> {
 pub fn silent_edges(alloc: Global, input: MemSource, out: MemSink) -> Result<MemEdges, AllocError> {
     Ok(Edges {
         input,
-        outside: Parts {
-            out,
-            link: silent_link(alloc, &[], &[])?,
-            clock: clock_at(alloc, 0)?,
-            history: History::new(),
+        output: Output {
+            outside: Parts {
+                out,
+                link: silent_link(alloc, &[], &[])?,
+                clock: clock_at(alloc, 0)?,
+                history: History::new(),
+            },
         },
     })
 }

@@ -3,7 +3,7 @@ ghost use Rattle.std.specs.Prelude.{None};
 
 use crate::edges::{clock_at, sink, source, words_of};
 use client_callbacks::{Ballot, Callbacks, Notice, SteadyClient, Told};
-use hags_cli::{Edges, hags};
+use hags_cli::{Edges, Output, hags};
 use hags_io::{Got, History, Link, MemSink, Parts, Put};
 use proposal_core::Vote;
 use rsct_packet::NoMemory;
@@ -86,21 +86,23 @@ fn written(alloc: Global, client: Box<dyn Callbacks>) -> Result<MemSink, AllocEr
     let words = words_of(alloc, "daemon --node=1 --inc=5 --turns=3")?;
     let mut edges = Edges {
         input: source(alloc, JOINS, &[])?,
-        outside: Parts {
-            out: sink(alloc, &[])?,
-            link: Echo {
-                alloc,
-                waiting: VecDeque::new(alloc),
+        output: Output {
+            outside: Parts {
+                out: sink(alloc, &[])?,
+                link: Echo {
+                    alloc,
+                    waiting: VecDeque::new(alloc),
+                },
+                clock: clock_at(alloc, 0)?,
+                history: History::new(),
             },
-            clock: clock_at(alloc, 0)?,
-            history: History::new(),
         },
     };
     let mut clients = Vec::new(alloc);
     clients.push(client)?;
     let mut err = sink(alloc, &[])?;
     let _status = hags(alloc, words.as_slice(), &mut edges, &mut err, clients);
-    Ok(edges.outside.out)
+    Ok(edges.output.outside.out)
 }
 
 /// Does the text have this line?

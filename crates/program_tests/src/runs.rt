@@ -29,7 +29,7 @@ fn ran(
         &mut err,
         Vec::new(alloc),
     );
-    Ok((status, edges.outside.out))
+    Ok((status, edges.output.outside.out))
 }
 
 /// What a call with these words said on err, with its status.
