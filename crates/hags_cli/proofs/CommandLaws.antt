@@ -66,24 +66,30 @@ links_on : (t u : Telling) (n : ℕ) (ds : List Deed) → Did t u ds → Rose u.
 links_on t u n ds h rose = let r : Rises t.link_faults u.link_faults (link_failures ds) = h.link_faults in omega arith
 
 -- What came of the write of an answer that was got by then. Nothing was written before it.
-pub asks_answered : (r : Result (Unit {0}) Ending) (a : Asking) (x : Seen) (s : Script) (text : List ℕ) (answered : Telling) → IfSome x.left (λ b. daemon_script a.node None b ≡ IsScript s) → IsAtEnd x.rest
+told_so : (r : Result (Unit {0}) Ending) (a : Asking) (x : Seen) (s : Script) (text : List ℕ) (answered : Telling) → IfSome x.left (λ b. daemon_script a.node None b ≡ IsScript s) → IsAtEnd x.rest
     → AsksOver x a (λ question sent. Answered question a.turns nothing_received text sent answered) s.config → IsUnwritten x.before answered → TellEnds r text (min answered.write_faults (2 ^ 64 - 1)) (min x.now.write_faults (2 ^ 64 - 1)) answered.held x.now.held → EndsAs r (Some (asks a)) x
-asks_answered (Ok u) a x s text answered spelled end asked kept h = (record { text = text; answered = answered; asked = asked_by x a s _ spelled asked; holds = h }, end)
-asks_answered (Err ending.Usage) a x s text answered spelled end asked kept h = absurd h
-asks_answered (Err (ending.BadLine line why)) a x s text answered spelled end asked kept h = absurd h
-asks_answered (Err ending.NoMemory) a x s text answered spelled end asked kept h = Keeps-trans x.before.held answered.held x.now.held kept h
-asks_answered (Err ending.ReadFault) a x s text answered spelled end asked kept h = absurd h
-asks_answered (Err ending.WriteFault) a x s text answered spelled end asked kept h = (
+told_so (Ok u) a x s text answered spelled end asked kept h = (record { text = text; answered = answered; asked = asked_by x a s _ spelled asked; holds = h }, end)
+told_so (Err ending.Usage) a x s text answered spelled end asked kept h = absurd h
+told_so (Err (ending.BadLine line why)) a x s text answered spelled end asked kept h = absurd h
+told_so (Err ending.NoMemory) a x s text answered spelled end asked kept h = Keeps-trans x.before.held answered.held x.now.held kept h
+told_so (Err ending.ReadFault) a x s text answered spelled end asked kept h = absurd h
+told_so (Err ending.WriteFault) a x s text answered spelled end asked kept h = (
   rises_on x.before asked.opened x.now.write_faults _ asked.did
       (rises_on asked.opened asked.holds.sent x.now.write_faults asked.holds.went.deeds asked.holds.went.told
       (rises_on asked.holds.sent answered x.now.write_faults _ asked.holds.then.told (rose_within answered.write_faults x.now.write_faults h.0))),
   record { text = text; answered = answered; asked = asked_by x a s _ spelled asked; holds = h.1 },
 )
-asks_answered (Err ending.LinkFault) a x s text answered spelled end asked kept h = absurd h
-asks_answered (Err ending.TooMuchKept) a x s text answered spelled end asked kept h = absurd h
-asks_answered (Err ending.NoReply) a x s text answered spelled end asked kept h = absurd h
-asks_answered (Err ending.SessionLost) a x s text answered spelled end asked kept h = absurd h
-asks_answered (Err ending.DaemonFull) a x s text answered spelled end asked kept h = absurd h
+told_so (Err ending.LinkFault) a x s text answered spelled end asked kept h = absurd h
+told_so (Err ending.TooMuchKept) a x s text answered spelled end asked kept h = absurd h
+told_so (Err ending.NoReply) a x s text answered spelled end asked kept h = absurd h
+told_so (Err ending.SessionLost) a x s text answered spelled end asked kept h = absurd h
+told_so (Err ending.DaemonFull) a x s text answered spelled end asked kept h = absurd h
+
+pub asks_answered : (r : Result (Unit {0}) Ending) (a : Asking) (x : Seen) (s : Script) (text told : List ℕ) (answered : Telling) → told ≡ text → IfSome x.left (λ b. daemon_script a.node None b ≡ IsScript s) → IsAtEnd x.rest
+    → AsksOver x a (λ question sent. Answered question a.turns nothing_received text sent answered) s.config → IsUnwritten x.before answered
+    → TellEnds r told (min answered.write_faults (2 ^ 64 - 1)) (min x.now.write_faults (2 ^ 64 - 1)) answered.held x.now.held → EndsAs r (Some (asks a)) x
+asks_answered r a x s text told answered same spelled end asked kept h =
+    told_so r a x s text answered spelled end asked kept (subst (λ (t : List ℕ). TellEnds r t (min answered.write_faults (2 ^ 64 - 1)) (min x.now.write_faults (2 ^ 64 - 1)) answered.held x.now.held) same h)
 
 -- by whatever fault it was not answered, nothing was written
 pub asks_fault : (a : Asking) (x : Seen) (s : Script) (f : AskFault) (e : Ending) → e ≡ ending_of_question f → IfSome x.left (λ b. daemon_script a.node None b ≡ IsScript s) → IsUnwritten x.before x.now → (f ≡ ask_fault.NoReply → AsksOver x a (GivesNone x a) s.config)

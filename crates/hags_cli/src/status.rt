@@ -89,7 +89,7 @@ fn say_ending<E: Sink>(alloc: Global, ending: Ending, err: &mut E)
 /// | 9 | `hags: no reply` | `status`: none of its receives brought the answer; nothing was written; `client`: all its turns were done, and some call has no answer; all lines were written |
 /// | 10 | `hags: session lost` | `client`: its last receive brought word of another incarnation of the daemon; all lines up to there were written |
 /// | 11 | `hags: daemon full` | `client`: its last receive brought word that the daemon keeps no more clients; all lines up to there were written |
-#[tactic(auto, using(crate::proofs::TaskLaws::says_line, crate::proofs::TaskLaws::says_said, crate::proofs::TaskLaws::says_nothing))]
+#[tactic(auto, using(crate::proofs::TaskLaws::done, crate::proofs::TaskLaws::failed, crate::proofs::TaskLaws::says_line, crate::proofs::TaskLaws::says_said, crate::proofs::TaskLaws::says_nothing))]
 pub fn hags<S: Source, O: Outside, E: Sink>(
     alloc: Global,
     words: &[String],
