@@ -1,6 +1,6 @@
 -- How a client of a daemon on another machine ends.
-use Rattle.std.proofs.Common.{◌≡◌, ℕ, List, length, ◌≤◌, true, Option, Some, None, IfSome, refl, sym, ◌∙◌, subst, inr}
-use Rattle.std.specs.Prelude.{Ok, Err}
+use Rattle.std.proofs.Common.{◌≡◌, ℕ, List, length, ◌≤◌, true, Option, Some, None, IfSome, IsErr, IsErrAnd, refl, sym, ◌∙◌, subst, inr}
+use Rattle.std.specs.Prelude.{Result, Ok, Err}
 use Rattle.std.specs.Io.KnownBytes.{IsAtEnd}
 use Rattle.hags_io.specs.Edges.{Rose}
 use Rattle.world_model.specs.declared.script.Aim.TheVariants.{Asks}
@@ -23,6 +23,7 @@ use Rattle.hags_cli.specs.declared.input.InputFault.TheVariants as input_fault
 use Rattle.hags_cli.specs.Endings.{ending_of_input, ending_of_script, ending_of_client}
 use Rattle.hags_cli.specs.Run.{ReadsAs, InputFails}
 use Rattle.hags_cli.specs.Tasks.{uses, Seen, Untouched, CallsEnd, UsesBy, UsesOver, UsesAll, WaitsOn, LosesSession, FindsFull, UsesPart, UsesNoMore, FailsAs, EndsAs}
+use Rattle.hags_cli.proofs.EndLaws.{ended_by}
 use Rattle.hags_cli.proofs.LongInputs.{script_within_for}
 use Rattle.hags_cli.proofs.TaskLaws.{keeps_same, memory_ends}
 
@@ -81,10 +82,10 @@ module _ (u : Usage) (x : Seen) (s : Script) (spelled : IfSome x.left (λ b. cli
   uses_done end h = (used_by (UsesOver x u (UsesAll x u)) h, end)
 
   -- by whatever fault it ended
-  pub uses_fault : (f : ClientFault) (e : Ending) → e ≡ ending_of_client f → (f ≡ client_fault.NoReply → UsesOver x u (WaitsOn x u) s) → (f ≡ client_fault.Lost → UsesOver x u (LosesSession x u) s) → (f ≡ client_fault.Full → UsesOver x u (FindsFull x u) s)
+  pub uses_fault : (r : Result (Unit {0}) Ending) (f : ClientFault) → IsErr r × IsErrAnd r (λ e. e ≡ ending_of_client f) → (f ≡ client_fault.NoReply → UsesOver x u (WaitsOn x u) s) → (f ≡ client_fault.Lost → UsesOver x u (LosesSession x u) s) → (f ≡ client_fault.Full → UsesOver x u (FindsFull x u) s)
       → (f ≡ client_fault.Stop stop.LinkFault → UsesNoMore x u s) → UsesPart x u s → (f ≡ client_fault.Stop stop.WriteFault → Rose x.before.write_faults x.now.write_faults) → (f ≡ client_fault.Stop stop.LinkFault → Rose x.before.link_faults x.now.link_faults)
-      → FailsAs e (Some (uses u)) x
-  uses_fault f e is unanswered lost full failing part wrote failed = subst (λ (z : Ending). FailsAs z (Some (uses u)) x) (sym is) (by f unanswered lost full failing wrote failed)
+      → EndsAs r (Some (uses u)) x
+  uses_fault r f is unanswered lost full failing part wrote failed = ended_by r (ending_of_client f) (λ q. EndsAs q (Some (uses u)) x) is (by f unanswered lost full failing wrote failed)
     where
       by : (f : ClientFault) → (f ≡ client_fault.NoReply → UsesOver x u (WaitsOn x u) s) → (f ≡ client_fault.Lost → UsesOver x u (LosesSession x u) s) → (f ≡ client_fault.Full → UsesOver x u (FindsFull x u) s)
           → (f ≡ client_fault.Stop stop.LinkFault → UsesNoMore x u s) → (f ≡ client_fault.Stop stop.WriteFault → Rose x.before.write_faults x.now.write_faults) → (f ≡ client_fault.Stop stop.LinkFault → Rose x.before.link_faults x.now.link_faults)

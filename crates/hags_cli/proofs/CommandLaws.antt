@@ -1,5 +1,5 @@
 -- How the commands that take settings end.
-use Rattle.std.proofs.Common.{◌≡◌, ◌↔◌, ℕ, ◌+◌, ◌-◌, ◌^◌, min, IsTrue, is_some, Bool, true, false, List, [], ◌∷◌, Option, Some, None, IfSome, refl, sym, subst, inr, arith}
+use Rattle.std.proofs.Common.{◌≡◌, ◌↔◌, ℕ, ◌+◌, ◌-◌, ◌^◌, min, IsTrue, is_some, Bool, true, false, List, [], ◌∷◌, Option, Some, None, IfSome, IsErr, IsErrAnd, refl, sym, subst, inr, arith}
 use Rattle.std.specs.Prelude.{Result, Ok, Err}
 use Rattle.std.specs.Io.KnownBytes.{IsAtEnd}
 use Rattle.std.proofs.KnownBytes.{Keeps-trans}
@@ -25,6 +25,7 @@ use Rattle.hags_cli.specs.declared.ending.Ending.{Ending}
 use Rattle.hags_cli.specs.declared.ending.Ending.TheVariants as ending
 use Rattle.hags_cli.specs.Endings.{ending_of_stop, ending_of_question}
 use Rattle.hags_cli.specs.Tasks.{serves, asks, Seen, Untouched, counted, SettingsEnd, incarnation_at, ByClock, Incarnates, Running, IsRunning, Runs, IsServed, ServesAll, ServesPart, ServesNoMore, AsksBy, AsksOver, GivesNone, AsksNoMore, TellEnds, FailsAs, EndsAs}
+use Rattle.hags_cli.proofs.EndLaws.{ended_by}
 use Rattle.hags_cli.proofs.OutputLaws.{rose_within}
 use Rattle.hags_cli.proofs.TaskLaws.{keeps_same, memory_ends}
 
@@ -127,11 +128,11 @@ module _ (s : Service) (objects n : ℕ) (x : Seen) (script : Script) (incarnati
   serves_done core end h = (runs (ServesAll x s) (record { opened = h.opened; did = h.did; holds = record { core = core; serves = h.holds } }), end)
 
   -- whatever stopped it
-  pub serves_stop : (f : Stop) (e : Ending) → e ≡ ending_of_stop f → (f ≡ stop.NoMemory → OverLink script.config (script.config.port + s.node) start (λ opened. ServesFront script s.node incarnation s.remote s.turns opened x.now))
+  pub serves_stop : (r : Result (Unit {0}) Ending) (f : Stop) → IsErr r × IsErrAnd r (λ e. e ≡ ending_of_stop f) → (f ≡ stop.NoMemory → OverLink script.config (script.config.port + s.node) start (λ opened. ServesFront script s.node incarnation s.remote s.turns opened x.now))
       → (f ≡ stop.WriteFault → OverLink script.config (script.config.port + s.node) start (λ opened. ServesFront script s.node incarnation s.remote s.turns opened x.now))
       → (f ≡ stop.LinkFault → OverLinkIf script.config (script.config.port + s.node) start x.now (λ opened. ServesTo script s.node incarnation s.remote s.turns opened x.now)) → (f ≡ stop.WriteFault → Rose start.write_faults x.now.write_faults)
-      → (f ≡ stop.LinkFault → Rose start.link_faults x.now.link_faults) → FailsAs e (Some (serves s objects)) x
-  serves_stop f e is memory written link wrote failed = subst (λ (z : Ending). FailsAs z (Some (serves s objects)) x) (sym is) (by f memory written link wrote failed)
+      → (f ≡ stop.LinkFault → Rose start.link_faults x.now.link_faults) → EndsAs r (Some (serves s objects)) x
+  serves_stop r f is memory written link wrote failed = ended_by r (ending_of_stop f) (λ q. EndsAs q (Some (serves s objects)) x) is (by f memory written link wrote failed)
     where
       by : (f : Stop) → (f ≡ stop.NoMemory → OverLink script.config (script.config.port + s.node) start (λ opened. ServesFront script s.node incarnation s.remote s.turns opened x.now))
           → (f ≡ stop.WriteFault → OverLink script.config (script.config.port + s.node) start (λ opened. ServesFront script s.node incarnation s.remote s.turns opened x.now))

@@ -7,3 +7,4 @@ pub mod SettingsLaws
 pub mod CommandLaws
 pub mod ClientLaws
 pub mod OutputLaws
+pub mod EndLaws

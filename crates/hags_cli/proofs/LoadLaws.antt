@@ -1,6 +1,6 @@
 -- From what a load says to how the command ends.
-use Rattle.std.proofs.Common.{◌≡◌, ℕ, List, Option, Some, None, refl, sym, subst}
-use Rattle.std.specs.Prelude.{Err}
+use Rattle.std.proofs.Common.{◌≡◌, ℕ, List, Option, Some, None, IsErr, IsErrAnd, refl}
+use Rattle.std.specs.Prelude.{Result, Err}
 use Rattle.std.specs.Io.KnownBytes.{Appends, Keeps}
 use Rattle.hags_io.specs.Edges.{GrowsByFront, Rose}
 use Rattle.world_model.specs.Kept.{kept_past, most_kept}
@@ -11,6 +11,7 @@ use Rattle.play_state.specs.declared.play_fault.PlayFault.{PlayFault}
 use Rattle.play_state.specs.declared.play_fault.PlayFault.TheVariants as play_fault
 use Rattle.hags_cli.specs.declared.ending.Ending.{Ending}
 use Rattle.hags_cli.specs.Endings.{ending_of_play}
+use Rattle.hags_cli.proofs.EndLaws.{ended_by}
 use Rattle.hags_cli.specs.Tasks.{LoadsAll, LoadsPast, LoadsFront, LoadEnds}
 
 pub load_done : (n : ℕ) (a b : Option (List ℕ)) → kept_past most_kept (load_script n) ≡ None → Appends a b (load_text n) → ScriptIsSafe (load_script n) → LoadsAll n a b
@@ -23,9 +24,9 @@ load_front : (n : ℕ) (a b : Option (List ℕ)) → GrowsByFront a b (load_text
 load_front n a b w safe = record { written = w; safe = safe }
 
 -- by whatever fault it ended
-pub load_fault : (n faults later : ℕ) (a b : Option (List ℕ)) (f : PlayFault) (e : Ending) → e ≡ ending_of_play f → ((k : ℕ) → f ≡ play_fault.Kept k → (kept_past most_kept (load_script n) ≡ Some k) × Keeps a b) → GrowsByFront a b (load_text n) → KeptRunIsSafe most_kept (load_script n)
-    → (f ≡ play_fault.WriteFault → Rose faults later) → LoadEnds (Err e) n faults later a b
-load_fault n faults later a b f e is past front safe rose = subst (λ (z : Ending). LoadEnds (Err z) n faults later a b) (sym is) (by f past rose)
+pub load_ends : (n faults later : ℕ) (a b : Option (List ℕ)) (r : Result (Unit {0}) Ending) (f : PlayFault) → IsErr r × IsErrAnd r (λ e. e ≡ ending_of_play f) → ((k : ℕ) → f ≡ play_fault.Kept k → (kept_past most_kept (load_script n) ≡ Some k) × Keeps a b) → GrowsByFront a b (load_text n)
+    → KeptRunIsSafe most_kept (load_script n) → (f ≡ play_fault.WriteFault → Rose faults later) → LoadEnds r n faults later a b
+load_ends n faults later a b r f is past front safe rose = ended_by r (ending_of_play f) (λ q. LoadEnds q n faults later a b) is (by f past rose)
   where
     by : (f : PlayFault) → ((k : ℕ) → f ≡ play_fault.Kept k → (kept_past most_kept (load_script n) ≡ Some k) × Keeps a b) → (f ≡ play_fault.WriteFault → Rose faults later) → LoadEnds (Err (ending_of_play f)) n faults later a b
     by (play_fault.Kept k) past rose = load_past n k a b (past k refl).0 (past k refl).1 safe

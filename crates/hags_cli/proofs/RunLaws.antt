@@ -1,6 +1,6 @@
 -- From what each part of a run says to what the run says.
-use Rattle.std.proofs.Common.{◌≡◌, ℕ, ◌≤◌, List, length, Option, Some, None, IfSome, refl, sym, ◌∙◌, subst, inl, inr}
-use Rattle.std.specs.Prelude.{Err}
+use Rattle.std.proofs.Common.{◌≡◌, ℕ, ◌≤◌, List, length, Option, Some, None, IfSome, IsErr, IsErrAnd, refl, sym, ◌∙◌, subst, inl, inr}
+use Rattle.std.specs.Prelude.{Result, Err}
 use Rattle.std.specs.Io.KnownBytes.{Appends, IsAtEnd}
 use Rattle.std.proofs.KnownBytes.{Keeps-refl}
 use Rattle.hags_io.specs.Edges.{GrowsByFront, Rose}
@@ -25,6 +25,7 @@ use Rattle.hags_cli.specs.declared.input.InputFault.{InputFault}
 use Rattle.hags_cli.specs.declared.input.InputFault.TheVariants as input_fault
 use Rattle.hags_cli.specs.Endings.{ending_of_input, ending_of_script, ending_of_play}
 use Rattle.hags_cli.specs.Run.{ReadsAs, InputFails, PlaysAll, PlaysPast, PlaysFront, MayHavePlayed, RunEnds}
+use Rattle.hags_cli.proofs.EndLaws.{ended_by}
 use Rattle.hags_cli.proofs.LongInputs.{reads_for, script_within}
 
 reads_script : (front b : List ℕ) → ReadsAs front b → script_of b ≡ script_of front
@@ -64,29 +65,32 @@ at_end new front s h e = h (script_within front s e)
 
 -- ---- how a run ends
 
-pub input_ends : (shown : List Happened → List ℕ) (left rest held : Option (List ℕ)) (reads reads_now : ℕ) (wrote : Type 0) (f : InputFault) (e : Ending) → e ≡ ending_of_input f → InputFails reads reads_now f → RunEnds (Err e) shown left rest (Rose reads reads_now) wrote held held
-input_ends shown left rest held reads reads_now wrote f e is h = subst (λ (z : Ending). RunEnds (Err z) shown left rest (Rose reads reads_now) wrote held held) (sym is) (by f h)
+pub input_ends : (shown : List Happened → List ℕ) (left rest held : Option (List ℕ)) (reads reads_now : ℕ) (wrote still : Type 0) (same : still) (f : InputFault) (e : Ending) → e ≡ ending_of_input f → InputFails reads reads_now f
+    → RunEnds (Err e) shown left rest (Rose reads reads_now) wrote still held held
+input_ends shown left rest held reads reads_now wrote still same f e is h = subst (λ (z : Ending). RunEnds (Err z) shown left rest (Rose reads reads_now) wrote still held held) (sym is) (by f h)
   where
-    by : (f : InputFault) → InputFails reads reads_now f → RunEnds (Err (ending_of_input f)) shown left rest (Rose reads reads_now) wrote held held
-    by input_fault.ReadFault h = (h, Keeps-refl held)
+    by : (f : InputFault) → InputFails reads reads_now f → RunEnds (Err (ending_of_input f)) shown left rest (Rose reads reads_now) wrote still held held
+    by input_fault.ReadFault h = (h, same)
     by input_fault.NoMemory h = nothing_played shown left held
 
-pub script_ends : (shown : List Happened → List ℕ) (left rest held : Option (List ℕ)) (read wrote : Type 0) (front : List ℕ) (f : ScriptFault) (e : Ending) → e ≡ ending_of_script f → IfSome left (ReadsAs front) → FailsScript f (script_of front) → RunEnds (Err e) shown left rest read wrote held held
-script_ends shown left rest held read wrote front f e is whole h = subst (λ (z : Ending). RunEnds (Err z) shown left rest read wrote held held) (sym is) (by f h)
+pub script_ends : (shown : List Happened → List ℕ) (left rest held : Option (List ℕ)) (read wrote still : Type 0) (same : still) (front : List ℕ) (f : ScriptFault) (e : Ending) → e ≡ ending_of_script f → IfSome left (ReadsAs front) → FailsScript f (script_of front)
+    → RunEnds (Err e) shown left rest read wrote still held held
+script_ends shown left rest held read wrote still same front f e is whole h = subst (λ (z : Ending). RunEnds (Err z) shown left rest read wrote still held held) (sym is) (by f h)
   where
-    by : (f : ScriptFault) → FailsScript f (script_of front) → RunEnds (Err (ending_of_script f)) shown left rest read wrote held held
-    by (script_fault.Line number why) h = (has_bad_line left front number why whole h, Keeps-refl held)
+    by : (f : ScriptFault) → FailsScript f (script_of front) → RunEnds (Err (ending_of_script f)) shown left rest read wrote still held held
+    by (script_fault.Line number why) h = (has_bad_line left front number why whole h, same)
     by script_fault.NoMemory h = nothing_played shown left held
 
-pub play_ends : (k : Kinds) (left rest old new : Option (List ℕ)) (read wrote : Type 0) (front : List ℕ) (s : Script) (f : PlayFault) (e : Ending) → e ≡ ending_of_play f → IfSome left (ReadsAs front) → script_of front ≡ IsScript s
+-- the play ended by whatever fault
+pub play_ends : (k : Kinds) (left rest old new : Option (List ℕ)) (read wrote still : Type 0) (front : List ℕ) (s : Script) (r : Result (Unit {0}) Ending) (f : PlayFault) → IsErr r × IsErrAnd r (λ e. e ≡ ending_of_play f) → IfSome left (ReadsAs front) → script_of front ≡ IsScript s
     → ((n : ℕ) → f ≡ play_fault.Kept n → (kept_past most_kept s ≡ Some n) × Appends old new (kinds_text k (kept_records most_kept s))) → GrowsByFront old new (kinds_text k (kept_records most_kept s)) → (MayPlay s → KeptRunIsSafe most_kept s) → (f ≡ play_fault.WriteFault → wrote)
-    → RunEnds (Err e) (kinds_text k) left rest read wrote old new
-play_ends k left rest old new read wrote front s f e is whole spelled past grows safe rose = subst (λ (z : Ending). RunEnds (Err z) (kinds_text k) left rest read wrote old new) (sym is) (by f past rose)
+    → RunEnds r (kinds_text k) left rest read wrote still old new
+play_ends k left rest old new read wrote still front s r f is whole spelled past grows safe rose = ended_by r (ending_of_play f) (λ q. RunEnds q (kinds_text k) left rest read wrote still old new) is (by f past rose)
   where
     part : IfSome left (PlaysFront (kinds_text k) old new)
     part = plays_front left old new front s k whole spelled grows safe
 
-    by : (f : PlayFault) → ((n : ℕ) → f ≡ play_fault.Kept n → (kept_past most_kept s ≡ Some n) × Appends old new (kinds_text k (kept_records most_kept s))) → (f ≡ play_fault.WriteFault → wrote) → RunEnds (Err (ending_of_play f)) (kinds_text k) left rest read wrote old new
+    by : (f : PlayFault) → ((n : ℕ) → f ≡ play_fault.Kept n → (kept_past most_kept s ≡ Some n) × Appends old new (kinds_text k (kept_records most_kept s))) → (f ≡ play_fault.WriteFault → wrote) → RunEnds (Err (ending_of_play f)) (kinds_text k) left rest read wrote still old new
     by (play_fault.Kept n) past rose = plays_past left old new front s k n whole spelled (past n refl).0 (past n refl).1 safe
     by play_fault.WriteFault past rose = (rose refl, part)
     by play_fault.NoMemory past rose = may_have_played left old new k part

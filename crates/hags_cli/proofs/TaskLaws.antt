@@ -8,6 +8,9 @@ use Rattle.hags_io.specs.declared.source.Put.{Put}
 use Rattle.hags_io.specs.declared.source.Put.TheVariants as put
 use Rattle.hags_io.specs.Edges.{GrowsByFront, Rose, Puts}
 use Rattle.hags_io.proofs.ByteLaws.{none_grew}
+use Rattle.hags_io.specs.Telling.{Telling}
+use Rattle.hags_words.specs.declared.command.Command.{Command}
+use Rattle.hags_words.specs.declared.command.Command.TheVariants as command
 use Rattle.node_state.specs.declared.happened.Happened.{Happened}
 use Rattle.world_model.specs.declared.script.LineWhy.{LineWhy}
 use Rattle.world_model.specs.Reading.{IsScript, IsNone, script_of}
@@ -22,7 +25,7 @@ use Rattle.hags_cli.specs.declared.ending.Ending.{Ending}
 use Rattle.hags_cli.specs.declared.ending.Ending.TheVariants as ending
 use Rattle.hags_cli.specs.Endings.{Says, status_of, said_of, ending_text}
 use Rattle.hags_cli.specs.Run.{PlaysAll, PlaysPast, PlaysFront, MayHavePlayed, RunEnds, SpellsScript}
-use Rattle.hags_cli.specs.Tasks.{Task, plays, loads, tells, serves, asks, uses, shown_of, Shows, played_as, Asks, Seen, Untouched, counted, HasFault, IsOutside, OutsideAs, OutsideAt, ReadFaultAs, LinkFaultAs, NoReplyAs, LostAs, FullAs, SpellsSettings, SpellsCalls, CanBeDone, DoneAs, LoadEnds, TellEnds, FailsAs, EndsAs, Ended, SaysLine}
+use Rattle.hags_cli.specs.Tasks.{Task, plays, loads, tells, serves, asks, uses, list_in, shown_of, Shows, played_as, task_asked, Asks, Seen, Untouched, counted, HasFault, IsOutside, OutsideAs, OutsideAt, ReadFaultAs, LinkFaultAs, NoReplyAs, LostAs, FullAs, SpellsSettings, SpellsCalls, CanBeDone, DoneAs, LoadEnds, TellEnds, FailsAs, EndsAs, Ended, SaysLine}
 use Rattle.hags_cli.proofs.OutputLaws.{rose_within}
 
 -- ---- which ending a status is
@@ -403,20 +406,38 @@ may_as f g e (Some b) old new (inr p) = inr (front_is f g e b old new p)
 pub untouched : (x : Seen) → x.now.deeds ≡ x.before.deeds → x.now.calls ≡ x.before.calls → x.now.places ≡ x.before.places → x.now.opened ≡ x.before.opened → x.now.moments ≡ x.before.moments → Untouched x
 untouched x deeds calls places opened moments = record { deeds = deeds; calls = calls; places = places; opened = opened; moments = moments }
 
+pub keeps_same : (x : Seen) → x.now.held ≡ x.before.held → Keeps x.before.held x.now.held
+keeps_same x still = subst (Keeps x.before.held) (sym still) (Keeps-refl x.before.held)
+
+-- nothing was touched
+pub same_untouched : (x : Seen) → x.now ≡ x.before → Untouched x
+same_untouched x e = record {
+  deeds = ap (λ (t : Telling). t.deeds) e;
+  calls = ap (λ (t : Telling). t.calls) e;
+  places = ap (λ (t : Telling). t.places) e;
+  opened = ap (λ (t : Telling). t.opened) e;
+  moments = ap (λ (t : Telling). t.moments) e;
+}
+
 -- the lines of these kinds are those that are shown
-pub run_ends : (k : Kinds) (list : List ℕ) → ((rs : List Happened) → kinds_text k rs ≡ shown_of list rs) → (r : Result (Unit {0}) Ending) (x : Seen) → Untouched x
-    → RunEnds r (kinds_text k) x.left x.rest (Rose x.reads x.reads_now) (Rose (min x.before.write_faults (2 ^ 64 - 1)) (min x.now.write_faults (2 ^ 64 - 1))) x.before.held x.now.held → EndsAs r (Some (plays list)) x
-run_ends k list same (Ok u) x still h = (all_as (kinds_text k) (shown_of list) same x.left x.before.held x.now.held h.0, h.1)
-run_ends k list same (Err ending.Usage) x still h = absurd h
-run_ends k list same (Err (ending.BadLine n why)) x still h = (h.0, h.1, still)
-run_ends k list same (Err ending.NoMemory) x still h = may_as (kinds_text k) (shown_of list) same x.left x.before.held x.now.held h
-run_ends k list same (Err ending.ReadFault) x still h = (h.0, h.1, still)
-run_ends k list same (Err ending.WriteFault) x still h = (rose_within x.before.write_faults x.now.write_faults h.0, front_as (kinds_text k) (shown_of list) same x.left x.before.held x.now.held h.1)
-run_ends k list same (Err ending.LinkFault) x still h = absurd h
-run_ends k list same (Err ending.TooMuchKept) x still h = past_as (kinds_text k) (shown_of list) same x.left x.before.held x.now.held h
-run_ends k list same (Err ending.NoReply) x still h = absurd h
-run_ends k list same (Err ending.SessionLost) x still h = absurd h
-run_ends k list same (Err ending.DaemonFull) x still h = absurd h
+run_so : (k : Kinds) (list : List ℕ) → ((rs : List Happened) → kinds_text k rs ≡ shown_of list rs) → (r : Result (Unit {0}) Ending) (x : Seen) (still : Type 0) → (still → x.now ≡ x.before)
+    → RunEnds r (kinds_text k) x.left x.rest (Rose x.reads x.reads_now) (Rose (min x.before.write_faults (2 ^ 64 - 1)) (min x.now.write_faults (2 ^ 64 - 1))) still x.before.held x.now.held → EndsAs r (Some (plays list)) x
+run_so k list same (Ok u) x still as_was h = (all_as (kinds_text k) (shown_of list) same x.left x.before.held x.now.held h.0, h.1)
+run_so k list same (Err ending.Usage) x still as_was h = absurd h
+run_so k list same (Err (ending.BadLine n why)) x still as_was h = (h.0, keeps_same x (ap (λ (t : Telling). t.held) (as_was h.1)), same_untouched x (as_was h.1))
+run_so k list same (Err ending.NoMemory) x still as_was h = may_as (kinds_text k) (shown_of list) same x.left x.before.held x.now.held h
+run_so k list same (Err ending.ReadFault) x still as_was h = (h.0, keeps_same x (ap (λ (t : Telling). t.held) (as_was h.1)), same_untouched x (as_was h.1))
+run_so k list same (Err ending.WriteFault) x still as_was h = (rose_within x.before.write_faults x.now.write_faults h.0, front_as (kinds_text k) (shown_of list) same x.left x.before.held x.now.held h.1)
+run_so k list same (Err ending.LinkFault) x still as_was h = absurd h
+run_so k list same (Err ending.TooMuchKept) x still as_was h = past_as (kinds_text k) (shown_of list) same x.left x.before.held x.now.held h
+run_so k list same (Err ending.NoReply) x still as_was h = absurd h
+run_so k list same (Err ending.SessionLost) x still as_was h = absurd h
+run_so k list same (Err ending.DaemonFull) x still as_was h = absurd h
+
+pub run_ends : (objects : ℕ) (c : Option Command) (list : Option (List ℕ)) (k : Kinds) (r : Result (Unit {0}) Ending) (x : Seen) (still : Type 0) → c ≡ Some (command.Run list) → Shows k list → played_as list ≡ Some (plays (list_in list)) → (still → x.now ≡ x.before)
+    → RunEnds r (kinds_text k) x.left x.rest (Rose x.reads x.reads_now) (Rose (min x.before.write_faults (2 ^ 64 - 1)) (min x.now.write_faults (2 ^ 64 - 1))) still x.before.held x.now.held → EndsAs r (task_asked objects c) x
+run_ends objects c list k r x still is shows played as_was h =
+    subst (λ (t : Option Task). EndsAs r t x) (sym (ap (task_asked objects) is ∙ played)) (run_so k (list_in list) shows r x still as_was h)
 
 pub load_ends : (r : Result (Unit {0}) Ending) (steps : ℕ) (x : Seen) → x.rest ≡ x.left → LoadEnds r steps (min x.before.write_faults (2 ^ 64 - 1)) (min x.now.write_faults (2 ^ 64 - 1)) x.before.held x.now.held → EndsAs r (Some (loads steps)) x
 load_ends (Ok u) steps x still h = (h, still)
@@ -446,9 +467,6 @@ tells_so (Err ending.DaemonFull) text x still h = absurd h
 
 pub tell_ends : (r : Result (Unit {0}) Ending) (text wanted : List ℕ) (x : Seen) → text ≡ wanted → x.rest ≡ x.left → TellEnds r text (min x.before.write_faults (2 ^ 64 - 1)) (min x.now.write_faults (2 ^ 64 - 1)) x.before.held x.now.held → EndsAs r (Some (tells wanted)) x
 tell_ends r text wanted x is still h = subst (λ (t : List ℕ). EndsAs r (Some (tells t)) x) is (tells_so r text x still h)
-
-pub keeps_same : (x : Seen) → x.now.held ≡ x.before.held → Keeps x.before.held x.now.held
-keeps_same x still = subst (Keeps x.before.held) (sym still) (Keeps-refl x.before.held)
 
 nothing_played : (list : List ℕ) (left held now : Option (List ℕ)) → Keeps held now → IfSome left (MayHavePlayed (shown_of list) held now)
 nothing_played list None held now kept = tt

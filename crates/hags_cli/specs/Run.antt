@@ -59,12 +59,13 @@ abbrev pub InputFails : ℕ → ℕ → InputFault → Type 0
 InputFails reads reads_now input_fault.ReadFault = Rose reads reads_now
 InputFails reads reads_now input_fault.NoMemory = Unit {0}
 
--- What a run leaves of its input and its output, by how it ends: where it failed to read or to write, this holds of the faults.
-abbrev pub RunEnds : Result (Unit {0}) Ending → (List Happened → List ℕ) → (left rest : Option (List ℕ)) → (read_failed write_failed : Type 0) → (old new : Option (List ℕ)) → Type 0
-RunEnds (Ok u) shown left rest read_failed write_failed old new = IfSome left (PlaysAll shown old new) × IsAtEnd rest
-RunEnds (Err (ending.BadLine n why)) shown left rest read_failed write_failed old new = IfSome left (λ b. script_of b ≡ IsNone n why) × Keeps old new
-RunEnds (Err ending.NoMemory) shown left rest read_failed write_failed old new = IfSome left (MayHavePlayed shown old new)
-RunEnds (Err ending.ReadFault) shown left rest read_failed write_failed old new = read_failed × Keeps old new
-RunEnds (Err ending.WriteFault) shown left rest read_failed write_failed old new = write_failed × IfSome left (PlaysFront shown old new)
-RunEnds (Err ending.TooMuchKept) shown left rest read_failed write_failed old new = IfSome left (PlaysPast shown old new)
-RunEnds (Err e) shown left rest read_failed write_failed old new = ⊥
+-- What a run leaves of its input and its output, by how it ends: where it failed to read or to write, this holds of the faults;
+-- and where it did not begin to play, this, of its output as a whole.
+abbrev pub RunEnds : Result (Unit {0}) Ending → (List Happened → List ℕ) → (left rest : Option (List ℕ)) → (read_failed write_failed still : Type 0) → (old new : Option (List ℕ)) → Type 0
+RunEnds (Ok u) shown left rest read_failed write_failed still old new = IfSome left (PlaysAll shown old new) × IsAtEnd rest
+RunEnds (Err (ending.BadLine n why)) shown left rest read_failed write_failed still old new = IfSome left (λ b. script_of b ≡ IsNone n why) × still
+RunEnds (Err ending.NoMemory) shown left rest read_failed write_failed still old new = IfSome left (MayHavePlayed shown old new)
+RunEnds (Err ending.ReadFault) shown left rest read_failed write_failed still old new = read_failed × still
+RunEnds (Err ending.WriteFault) shown left rest read_failed write_failed still old new = write_failed × IfSome left (PlaysFront shown old new)
+RunEnds (Err ending.TooMuchKept) shown left rest read_failed write_failed still old new = IfSome left (PlaysPast shown old new)
+RunEnds (Err e) shown left rest read_failed write_failed still old new = ⊥

@@ -33,7 +33,7 @@ fn read_calls<S: Source>(alloc: Global, node: u8, input: &mut S) -> Result<Scrip
 }
 
 /// Reads the settings and the calls to their end, and hands the calls to the daemon of the node.
-#[tactic(auto, using(crate::proofs::ClientLaws::uses_settings, crate::proofs::ClientLaws::uses_done, crate::proofs::ClientLaws::uses_fault, crate::proofs::TaskLaws::untouched))]
+#[tactic(auto, using(crate::proofs::ClientLaws::uses_settings, crate::proofs::ClientLaws::uses_done, crate::proofs::TaskLaws::untouched))]
 pub fn use_node<S: Source, O: Outside>(
     alloc: Global,
     usage: Usage,

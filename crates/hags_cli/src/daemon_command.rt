@@ -43,7 +43,7 @@ fn incarnation_of<O: Outside>(named: Option<u32>, outside: &mut O) -> u32
 }
 
 /// Reads the settings to their end, and serves the node with these objects for its clients.
-#[tactic(auto, using(crate::proofs::CommandLaws::serves_settings, crate::proofs::CommandLaws::serves_done, crate::proofs::CommandLaws::serves_stop, crate::proofs::TaskLaws::untouched))]
+#[tactic(auto, using(crate::proofs::CommandLaws::serves_settings, crate::proofs::TaskLaws::untouched))]
 pub fn serve_node<S: Source, O: Outside>(
     alloc: Global,
     service: Service,

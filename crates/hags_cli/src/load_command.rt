@@ -8,7 +8,7 @@ use net_script::load;
 use std::alloc::Global;
 
 /// Plays a generated script of so many steps, and writes the summary of its run.
-#[tactic(auto, using(crate::proofs::LoadLaws::load_done, crate::proofs::LoadLaws::load_fault))]
+#[tactic(auto, using(crate::proofs::LoadLaws::load_done))]
 pub fn load_steps<K: Sink>(alloc: Global, steps: u32, out: &mut K) -> Result<(), Ending>
     ensures { LoadEnds result steps (K.faults out.old) (K.faults out.new)
         (K.held out.old) (K.held out.new) }

@@ -1,4 +1,5 @@
 //! The command `run`.
+ghost use Rattle.std.specs.Prelude.{◌≡◌};
 ghost use Rattle.hags_io.specs.Edges.{Rose};
 ghost use Rattle.transcript.specs.Kinds.{kinds_text};
 ghost use Rattle.hags_cli.specs.Run.{RunEnds};
@@ -15,7 +16,7 @@ use transcript::Kinds;
 pub const MOST_KEPT: u64 = 536_870_912;
 
 /// Reads a script to its end, plays it, and writes its records of these kinds, in blocks.
-#[tactic(auto, using(crate::proofs::RunLaws::input_ends, crate::proofs::RunLaws::script_ends, crate::proofs::RunLaws::play_ends, crate::proofs::RunLaws::play_done))]
+#[tactic(auto, using(crate::proofs::RunLaws::input_ends, crate::proofs::RunLaws::script_ends))]
 pub fn run<S: Source, K: Sink>(
     alloc: Global,
     kinds: Kinds,
@@ -24,7 +25,8 @@ pub fn run<S: Source, K: Sink>(
 ) -> Result<(), Ending>
     ensures { RunEnds result (kinds_text kinds) (S.left input.old) (S.left input.new)
         (Rose (S.faults input.old) (S.faults input.new))
-        (Rose (K.faults out.old) (K.faults out.new)) (K.held out.old) (K.held out.new) }
+        (Rose (K.faults out.old) (K.faults out.new)) (out.new ≡ out.old) (K.held out.old)
+        (K.held out.new) }
 {
     let front = read_input(alloc, input)?;
     let script = read_script(alloc, front.as_slice())?;

@@ -34,7 +34,7 @@ fn kinds_in(list: &Option<List<u8>>) -> Option<Kinds>
 }
 
 /// Does what the command asks for; no command is usage.
-#[tactic(auto, using(crate::proofs::TaskLaws::run_ends, crate::proofs::TaskLaws::load_ends, crate::proofs::TaskLaws::tell_ends, crate::proofs::TaskLaws::usage_ends, crate::proofs::TaskLaws::untouched))]
+#[tactic(auto, using(crate::proofs::TaskLaws::load_ends, crate::proofs::TaskLaws::tell_ends, crate::proofs::TaskLaws::usage_ends, crate::proofs::TaskLaws::untouched))]
 fn perform<S: Source, O: Outside>(
     alloc: Global,
     command: Option<Command>,
