@@ -1,5 +1,5 @@
 -- A daemon that did all its turns, and one that stopped.
-use Rattle.std.proofs.Common.{ap, ◌∙◌, length}
+use Rattle.std.proofs.Common.{◌≡◌, ap, length, rules}
 use Rattle.std.specs.Prelude.{Err}
 use Rattle.hags_cli.specs.Tasks.{counted}
 use Rattle.hags_cli.proofs.CommandLaws.{serves_done, serves_stop}
@@ -7,8 +7,9 @@ use Rattle.hags_cli.proofs.daemon_command.serve_node.Goals as goal
 
 pub returns-in_err-_node : goal.returns-in_err-_node
 returns-in_err-_node g c =
-    serves_stop c.args.service (length c.args.clients.items) c.count_of-objects.result _ c.in_ok-script.script c.incarnation_of.result (g.O.Outside.told c.incarnation_of.new.outside) (c.count_of-objects.ensures ∙ ap counted c.len.ensures) c.incarnation_of.ensures
-    c.in_ok-script.ensures.read c.from_residual-in_err-_node.result c.in_err-_node.field-0.0 c.from_residual-in_err-_node.ensures
+    let count : c.count_of-objects.result ≡ counted (length c.args.clients.items) = search rules in
+    serves_stop c.args.service (length c.args.clients.items) c.count_of-objects.result _ c.in_ok-script.script c.incarnation_of.result (g.O.Outside.told c.incarnation_of.new.outside) count c.incarnation_of.ensures c.in_ok-script.ensures.read
+    c.from_residual-in_err-_node.result c.in_err-_node.field-0.0 c.from_residual-in_err-_node.ensures
     (λ e. c.in_err-_node.ensures.memory (ap Err e))
     (λ e. c.in_err-_node.ensures.written (ap Err e))
     (λ e. c.in_err-_node.ensures.link (ap Err e))
@@ -17,5 +18,6 @@ returns-in_err-_node g c =
 
 pub returns : goal.returns
 returns g c =
-    serves_done c.args.service (length c.args.clients.items) c.count_of-objects.result _ c.in_ok-script.script c.incarnation_of.result (g.O.Outside.told c.incarnation_of.new.outside) (c.count_of-objects.ensures ∙ ap counted c.len.ensures) c.incarnation_of.ensures
-    c.in_ok-script.ensures.read _ c.in_ok-script.ensures.end c.in_ok-_node.ensures.served
+    let count : c.count_of-objects.result ≡ counted (length c.args.clients.items) = search rules in
+    serves_done c.args.service (length c.args.clients.items) c.count_of-objects.result _ c.in_ok-script.script c.incarnation_of.result (g.O.Outside.told c.incarnation_of.new.outside) count c.incarnation_of.ensures c.in_ok-script.ensures.read _
+    c.in_ok-script.ensures.end c.in_ok-_node.ensures.served
