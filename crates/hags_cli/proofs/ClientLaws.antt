@@ -1,6 +1,6 @@
 -- How a client of a daemon on another machine ends.
 use Rattle.std.proofs.Common.{◌≡◌, ℕ, List, length, ◌≤◌, true, Option, Some, None, IfSome, IsErr, IsErrAnd, refl, sym, ◌∙◌, subst, inr}
-use Rattle.std.specs.Prelude.{Result, Ok, Err}
+use Rattle.std.specs.Prelude.{Result, Ok}
 use Rattle.std.specs.Io.KnownBytes.{IsAtEnd}
 use Rattle.hags_io.specs.Edges.{Rose}
 use Rattle.world_model.specs.declared.script.Aim.TheVariants.{Asks}

@@ -1,5 +1,5 @@
 -- How the commands that take settings end.
-use Rattle.std.proofs.Common.{◌≡◌, ◌↔◌, ℕ, ◌+◌, ◌-◌, ◌^◌, min, IsTrue, is_some, Bool, true, false, List, [], ◌∷◌, Option, Some, None, IfSome, IsErr, IsErrAnd, refl, sym, subst, inr, arith}
+use Rattle.std.proofs.Common.{◌≡◌, ℕ, ◌+◌, ◌-◌, ◌^◌, min, List, [], ◌∷◌, Option, Some, None, IfSome, IsErr, IsErrAnd, refl, sym, subst, inr, arith}
 use Rattle.std.specs.Prelude.{Result, Ok, Err}
 use Rattle.std.specs.Io.KnownBytes.{IsAtEnd}
 use Rattle.std.proofs.KnownBytes.{Keeps-trans}
@@ -12,19 +12,19 @@ use Rattle.node_state.specs.declared.state.Core.{Core}
 use Rattle.world_model.specs.declared.script.Script.{Script}
 use Rattle.world_model.specs.Reading.{IsScript, IsNone}
 use Rattle.world_model.specs.Settings.{daemon_script}
-use Rattle.daemon_model.specs.Settings.{OverLink, OverLinkIf, NotOpened, Ran}
+use Rattle.daemon_model.specs.Settings.{OverLink, OverLinkIf}
 use Rattle.daemon_model.specs.Lives.{ServesAs, ServesTo, ServesFront}
 use Rattle.status_client.specs.declared.question.Asking.{Asking}
 use Rattle.status_client.specs.declared.waiting.AskFault.{AskFault}
 use Rattle.status_client.specs.declared.waiting.AskFault.TheVariants as ask_fault
-use Rattle.status_client.specs.Asked.{IsUnwritten, Asked, Answered}
+use Rattle.status_client.specs.Asked.{IsUnwritten, Answered}
 use Rattle.link_use.specs.declared.stop.Stop.{Stop}
 use Rattle.link_use.specs.declared.stop.Stop.TheVariants as stop
 use Rattle.hags_cli.specs.declared.daemon_command.Service.{Service}
 use Rattle.hags_cli.specs.declared.ending.Ending.{Ending}
 use Rattle.hags_cli.specs.declared.ending.Ending.TheVariants as ending
 use Rattle.hags_cli.specs.Endings.{ending_of_stop, ending_of_question}
-use Rattle.hags_cli.specs.Tasks.{serves, asks, Seen, Untouched, counted, SettingsEnd, incarnation_at, ByClock, Incarnates, Running, IsRunning, Runs, IsServed, ServesAll, ServesPart, ServesNoMore, AsksBy, AsksOver, GivesNone, AsksNoMore, TellEnds, FailsAs, EndsAs}
+use Rattle.hags_cli.specs.Tasks.{serves, asks, Seen, Untouched, counted, SettingsEnd, incarnation_at, ByClock, Incarnates, Running, Runs, ServesAll, ServesPart, ServesNoMore, AsksBy, AsksOver, GivesNone, AsksNoMore, TellEnds, FailsAs, EndsAs}
 use Rattle.hags_cli.proofs.EndLaws.{ended_by}
 use Rattle.hags_cli.proofs.OutputLaws.{rose_within}
 use Rattle.hags_cli.proofs.TaskLaws.{keeps_same, memory_ends}

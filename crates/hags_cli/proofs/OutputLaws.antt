@@ -1,12 +1,11 @@
 -- An outside as a sink.
-use Rattle.std.proofs.Common.{◌≡◌, ℕ, ◌-◌, ◌^◌, ◌≤◌, min, List, [], ◌∷◌, Option, true, false, refl, arith}
-use Rattle.std.specs.Io.KnownBytes.{Appends, Keeps}
+use Rattle.std.proofs.Common.{◌≡◌, ℕ, ◌-◌, ◌^◌, ◌≤◌, min, List, [], ◌∷◌, true, false, arith}
 use Rattle.std.proofs.KnownBytes.{Appends-kept}
 use Rattle.hags_io.specs.declared.source.Put.{Put}
 use Rattle.hags_io.specs.declared.source.Put.TheVariants as put
 use Rattle.hags_io.specs.Deeds.{Deed, Wrote}
 use Rattle.hags_io.specs.Edges.{GrowsByFront, Rose, Puts}
-use Rattle.hags_io.specs.Telling.{Telling, Did, DidWrite, Rises, write_failures, Holds}
+use Rattle.hags_io.specs.Telling.{Telling, Did, DidWrite, Rises, write_failures}
 
 pub puts : (p : Put) (t u : Telling) (bytes : List ℕ) → DidWrite t u p bytes → Puts t.held u.held p bytes
 puts put.Done t u bytes h = Appends-kept t.held h.held.0 u.held bytes h.held.1 h.held.2

@@ -1,8 +1,8 @@
 -- What the words of a call ask for, and what each of its endings leaves.
-use Rattle.std.specs.Prelude.{◌≡◌, ℕ, ◌≤◌, ◌⊎◌, ◌+◌, ◌/◌, ◌%◌, ◌^◌, ◌-◌, min, max, Bool, true, false, List, [], ◌∷◌, Option, Some, None, IfSome, Result, Ok, Err}
+use Rattle.std.specs.Prelude.{◌≡◌, ℕ, ◌≤◌, ◌⊎◌, ◌+◌, ◌/◌, ◌%◌, ◌^◌, ◌-◌, min, max, Bool, List, [], ◌∷◌, Option, Some, None, IfSome, Result, Ok, Err}
 use Rattle.std.specs.Io.KnownBytes.{Appends, Keeps, IsAtEnd}
 use Rattle.hags_io.specs.Edges.{GrowsByFront, Rose}
-use Rattle.hags_io.specs.Deeds.{Deed, Read}
+use Rattle.hags_io.specs.Deeds.{Read}
 use Rattle.hags_io.specs.Telling.{Telling, Did}
 use Rattle.node_state.specs.declared.config.Config.{Config}
 use Rattle.node_state.specs.declared.happened.Happened.{Happened}

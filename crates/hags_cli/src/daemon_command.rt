@@ -1,12 +1,12 @@
 //! The command `daemon`.
-ghost use Rattle.std.specs.Prelude.{◌≡◌, ◌≤◌, ◌+◌, ◌⊎◌, Some, length};
+ghost use Rattle.std.specs.Prelude.{◌≡◌, ◌≤◌, Some, length};
 ghost use Rattle.hags_cli.specs.Tasks.{Incarnates, EndsAs, seen, serves, counted};
 
 use crate::edges::Edges;
 use crate::ending::Ending;
 use crate::settings::read_settings;
 use client_callbacks::{Callbacks, DaemonClient};
-use daemon_run::{Hosts, Objects, Serving, serve};
+use daemon_run::{Objects, Serving, serve};
 use hags_io::{Outside, Source};
 use std::alloc::Global;
 use world_model::Script;
