@@ -1,0 +1,4 @@
+pub mod Leaving
+pub mod Relays
+pub mod Samples
+pub mod Opens
