@@ -49,6 +49,21 @@ newest_in p x =
     (both_true (nat_lt 0 (x.count + 1)) (nat_le (x.count + 1) (x.count + 1)) low high)
     (ap (slice_get (p ∷ x.packets)) place)
 
+abbrev first_pair : Packet → Pair
+first_pair p = record { from = p.from; to = p.to; count = 1; packets = p ∷ [] }
+
+own_pair : (p : Packet) → is_pair p.from p.to (first_pair p) ≡ true
+unfolding is_pair
+own_pair p = both_true (p.from == p.from) (p.to == p.to) (eq-eqb p.from p.from refl) (eq-eqb p.to p.to refl)
+
+first_in : (p : Packet) → kth_in 1 (Some (first_pair p)) ≡ Some p
+unfolding kth_in
+first_in p = refl
+
+same_pair : (a b : ℕ) (p : Packet) (x : Pair) → is_pair a b (pair_with p x) ≡ is_pair a b x
+unfolding is_pair pair_with
+same_pair a b p x = refl
+
 abbrev IsKth : ℕ → ℕ → ℕ → Packet → List Pair → Type 0
 IsKth a b k q pairs = kth_in k (find (is_pair a b) pairs) ≡ Some q
 
@@ -65,37 +80,17 @@ stays p q a b k (y ∷ ys) h = by (is_pair p.from p.to y) (stays p q a b k ys)
     there rest true h = h
     there rest false h = rest h
 
-    same : is_pair a b (pair_with p y) ≡ is_pair a b y
-    unfolding is_pair pair_with
-    same = refl
-
     by : (d : Bool) → (IsKth a b k q ys → IsKth a b k q (pairs_with p ys)) → IsKth a b k q (elim d [ true ↦ pair_with p y ∷ ys | false ↦ y ∷ pairs_with p ys ])
-    by true rest = ap (λ c. kth_in k (cond c (Some (pair_with p y)) (find (is_pair a b) ys))) same ∙ here (is_pair a b y) h
+    by true rest = ap (λ c. kth_in k (cond c (Some (pair_with p y)) (find (is_pair a b) ys))) (same_pair a b p y) ∙ here (is_pair a b y) h
     by false rest = there rest (is_pair a b y) h
 
 newest : (p : Packet) (ys : List Pair) → (k : ℕ) × IsKth p.from p.to k p (pairs_with p ys)
 unfolding pairs_with
-newest p [] = (1, first (is_pair p.from p.to one) itself)
-  where
-    one : Pair
-    one = record { from = p.from; to = p.to; count = 1; packets = p ∷ [] }
-
-    itself : is_pair p.from p.to (record { from = p.from; to = p.to; count = 1; packets = p ∷ [] }) ≡ true
-    unfolding is_pair
-    itself = both_true (p.from == p.from) (p.to == p.to) (eq-eqb p.from p.from refl) (eq-eqb p.to p.to refl)
-
-    first : (c : Bool) → c ≡ true → kth_in 1 (cond c (Some (record { from = p.from; to = p.to; count = 1; packets = p ∷ [] })) None) ≡ Some p
-    unfolding kth_in
-    first true e = refl
-    first false e = absurd (cc)
+newest p [] = (1, ap (λ c. kth_in 1 (cond c (Some (first_pair p)) None)) (own_pair p) ∙ first_in p)
 newest p (y ∷ ys) = by (is_pair p.from p.to y) refl (newest p ys)
   where
-    same : is_pair p.from p.to (pair_with p y) ≡ is_pair p.from p.to y
-    unfolding is_pair pair_with
-    same = refl
-
     by : (d : Bool) → is_pair p.from p.to y ≡ d → (k : ℕ) × IsKth p.from p.to k p (pairs_with p ys) → (k : ℕ) × IsKth p.from p.to k p (elim d [ true ↦ pair_with p y ∷ ys | false ↦ y ∷ pairs_with p ys ])
-    by true e rest = (y.count + 1, ap (λ c. kth_in (y.count + 1) (cond c (Some (pair_with p y)) (find (is_pair p.from p.to) ys))) (same ∙ e) ∙ newest_in p y)
+    by true e rest = (y.count + 1, ap (λ c. kth_in (y.count + 1) (cond c (Some (pair_with p y)) (find (is_pair p.from p.to) ys))) (same_pair p.from p.to p y ∙ e) ∙ newest_in p y)
     by false e rest = (rest.0, ap (λ c. kth_in rest.0 (cond c (Some y) (find (is_pair p.from p.to) (pairs_with p ys)))) e ∙ rest.1)
 
 -- ---- all that were sent

@@ -4,19 +4,26 @@ use Rattle.rsct_packet.specs.declared.ids.ViewId.{ViewId}
 use Rattle.node_reach.specs.Samples.{these, chain}
 use Rattle.adapter_ring.specs.declared.packet.RingPacket.TheVariants.{Heartbeat}
 use Rattle.node_state.specs.declared.config.Config.{Config}
-use Rattle.node_state.specs.declared.config.Mode.TheVariants.{Rings}
 use Rattle.node_state.specs.declared.packet.Body.{Body}
 use Rattle.node_state.specs.declared.packet.Body.TheVariants as body
 use Rattle.node_state.specs.declared.packet.Packet.{Packet}
 use Rattle.node_state.specs.declared.state.Core.{Core}
 use Rattle.node_state.specs.Step.{started}
+use Rattle.world_model.specs.declared.event.Event.TheVariants as event
+use Rattle.world_model.specs.declared.script.Line.{Line}
+use Rattle.world_model.specs.declared.script.Line.TheVariants as line
+use Rattle.world_model.specs.Reading.{first_settings}
 use Rattle.world_model.specs.World.{Node, World, empty_world}
 use Rattle.relay_model.specs.Leaving.{Parcel, Wrapped}
 use Rattle.relay_model.specs.Relays.{Pair, Relayed}
 
 -- node 2 alone is on both networks
 unfoldable pub chain_settings : Config
-chain_settings = record { mode = Rings; nodes = these (1 ∷ 2 ∷ 3 ∷ []); addr = (1 ∷ 2 ∷ []) ∷ (0 ∷ 2 ∷ 3 ∷ []) ∷ []; every = 1; misses = 3; port = 1; level_from = []; domain = 1 }
+chain_settings = record first_settings { nodes = these (1 ∷ 2 ∷ 3 ∷ []); addr = (167837697 ∷ 167837698 ∷ []) ∷ (0 ∷ 167903234 ∷ 167903235 ∷ []) ∷ [] }
+
+-- all start, and some rounds are run
+unfoldable pub all_run : ℕ → List Line
+all_run k = line.Plain (event.Start 1) ∷ line.Plain (event.Start 2) ∷ line.Plain (event.Start 3) ∷ line.Run k ∷ []
 
 -- one of them, which has heard the rows of all
 unfoldable pub chained : ℕ → Core
@@ -51,5 +58,5 @@ with_sent ds =
 
 -- opens each word of this file, for a computation
 unfoldable pub samples_opens : Unit {0}
-unfolding chain_settings chained with_sent
+unfolding chain_settings all_run chained with_sent
 samples_opens = tt
