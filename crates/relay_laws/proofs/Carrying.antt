@@ -13,8 +13,8 @@ use Rattle.world_model.specs.declared.event.Event.{Event}
 use Rattle.world_model.specs.declared.event.Event.TheVariants as event
 use Rattle.world_model.specs.World.{Node, World, node_at, after_step}
 use Rattle.world_laws.specs.world_answers.Answers.{step_by, happens_by}
-use Rattle.relay_model.specs.Leaving.{Parcel, Bare, Wrapped, Leaving, alone, wrapped, leaves_as}
-use Rattle.relay_model.specs.Relays.{Relayed, leaves, datagram_between, handled, core_in, leaving_of, leaving_in, settled, given_to, passed, takes_course, comes_to, arrives_if, relays_by}
+use Rattle.relay_model.specs.Leaving.{Parcel, Bare, Wrapped, Leaving}
+use Rattle.relay_model.specs.Relays.{Relayed, leaves, datagram_between, handled, core_in, settled, given_to, passed, takes_course, comes_to, arrives_if, relays_by}
 use Rattle.relay_laws.specs.Carrying.{Handed, CarriedBy, EachDatagram, Carries, EventsCarry, Brings, IsNotGiven, Down, Unsent, Elsewhere, IsDirect, Nothing, Gives, DeliveriesAreDirect}
 use Rattle.relay_laws.proofs.Holding.{step_keeps, happens_keeps}
 use Rattle.relay_laws.proofs.Leaving.{LeavesBy, Alone, Around, leaves_by, CourseIs, Comes, Passes, Stops, course_is}
@@ -26,18 +26,14 @@ later : (w v : World) → ((p : Packet) → Has p w.sent → Has p v.sent) → (
 later w v old a b (Bare p) h = (old p h.0, h.1, h.2)
 later w v old a b (Wrapped f p) h = record { packet = h.packet; sent = old h.packet h.sent; from = h.from; to = h.to; relays = h.relays; is = h.is }
 
-left_carried : (w : World) (s : Core) (p : Packet) → Has p w.sent → (d : Leaving) → LeavesBy s p d → CarriedBy w d.from d.to d.parcel
-left_carried w s p sent _ Alone = (sent, refl, refl)
-left_carried w s p sent _ (Around hop may e) = record { packet = p; sent = sent; from = refl; to = refl; relays = may; is = refl }
-
-leaving_carried : (w : World) (p : Packet) → Has p w.sent → (o : Option Core) (d : Leaving) → leaving_of o p ≡ Some d → CarriedBy w d.from d.to d.parcel
-leaving_carried w p sent None d e = absurd (cc)
-leaving_carried w p sent (Some s) d e = left_carried w s p sent d (leaves_by s p d e)
+left_carried : (w : World) (o : Option Core) (p : Packet) → Has p w.sent → (d : Leaving) → LeavesBy o p d → CarriedBy w d.from d.to d.parcel
+left_carried w o p sent _ Alone = (sent, refl, refl)
+left_carried w o p sent _ (Around s hop up may e) = record { packet = p; sent = sent; from = refl; to = refl; relays = may; is = refl }
 
 settled_carries : (r : Relayed) (w : World) → ((p : Packet) → Has p r.world.sent → Has p w.sent) → Carries r → Carries (settled r w)
 settled_carries r w old k =
     subst (λ v. EachDatagram (CarriedBy v) (settled r w).pairs) (sym (settled_world r w))
-    (settled_hold (CarriedBy w) r w (λ x i d h. later r.world w old x.from x.to d (k x i d h)) (λ p sent d e. leaving_carried w p sent (core_in w p.from) d e))
+    (settled_hold (CarriedBy w) r w (λ x i d h. later r.world w old x.from x.to d (k x i d h)) (λ p sent d e. left_carried w (core_in w p.from) p sent d (leaves_by (core_in w p.from) p d e)))
 
 -- ---- deliveries
 

@@ -1,7 +1,5 @@
 -- A run with relays, event by event, is one of the direct world.
 use Rattle.std.proofs.Common.{◌≡◌, ℕ, Bool, true, false, List, [], ◌∷◌, ◌++◌, Option, Some, None, refl, sym, ap, ◌∙◌, subst, append_assoc, append-nil}
-use Rattle.std.specs.Prelude.{find}
-use Rattle.std.proofs.lemmas.Bool.{eq-eqb}
 use Rattle.rsct_packet.specs.Lists.{reverse_onto}
 use Rattle.rsct_packet.specs.Search.{Has}
 use Rattle.node_state.specs.declared.config.Config.{Config}
@@ -10,10 +8,10 @@ use Rattle.node_state.specs.HandOn.{Answering}
 use Rattle.node_state.specs.Step.{Given}
 use Rattle.world_model.specs.declared.event.Event.{Event}
 use Rattle.world_model.specs.declared.event.Event.TheVariants as event
-use Rattle.world_model.specs.World.{Node, World, is_node, node_at, is_pair, is_sent, kth_in, kth_between, handled, world_new}
+use Rattle.world_model.specs.World.{Node, World, node_at, kth_between, world_new}
 use Rattle.world_laws.specs.world_runs.Runs.{SameRun}
 use Rattle.world_laws.proofs.world_runs.Queue.{same_trace}
-use Rattle.world_laws.specs.world_answers.Answers.{Answered, step_by, delivers_by_if, happens_by, events_in, answered_after, answered_records}
+use Rattle.world_laws.specs.world_answers.Answers.{Answered, step_by, happens_by, events_in, answered_after, answered_records}
 use Rattle.world_laws.proofs.world_answers.Waits.{same_goes}
 use Rattle.world_safety.specs.Events.{MayHappen, AllMayHappen}
 use Rattle.world_safety.specs.Scripts.{IsSafe}
@@ -24,6 +22,7 @@ use Rattle.relay_model.specs.Relays.{Relayed, datagram_between, relays_by, relay
 use Rattle.relay_laws.specs.Carrying.{Carries, Brings, IsNotGiven, IsDirect, Nothing, Gives}
 use Rattle.relay_laws.specs.Direct.{is_delivery, IsDirectOf, Itself, Hands, Moves, AreDirect, NoEvents, OneMore, RelayedRunsAreSafe}
 use Rattle.relay_laws.proofs.Numbered.{AllNumbered, happens_numbered, new_numbered}
+use Rattle.relay_laws.proofs.Delivering.{same_kth, step_delivers}
 use Rattle.relay_laws.proofs.Datagrams.{settled_world}
 use Rattle.relay_laws.proofs.Carrying.{events_carry, deliveries_are_direct}
 use Rattle.relay_laws.proofs.Routes.{last_is}
@@ -33,36 +32,6 @@ use Rattle.relay_laws.proofs.Routes.{last_is}
 brought : (w : World) (a b : ℕ) (d : Parcel) (q : Packet) → Brings w a b d q → Has q w.sent × (q.to ≡ b)
 brought w a b (Bare p) q h = subst (λ (z : Packet). Has z w.sent × (z.to ≡ b)) h.3 (h.0, h.2)
 brought w a b (Wrapped f p) q h = subst (λ (z : Packet). Has z w.sent × (z.to ≡ b)) h.2 (h.1.sent, h.1.to ∙ h.0)
-
--- ---- what waits in the direct world is not read
-
-same_node : (w v : World) (b : ℕ) → SameRun w v → node_at v b ≡ node_at w b
-unfolding node_at
-same_node w v b h = ap (λ (z : World). find (is_node b) z.nodes) h
-
-same_kth : (w v : World) (a b k : ℕ) → SameRun w v → kth_between v a b k ≡ kth_between w a b k
-unfolding kth_between
-same_kth w v a b k h = ap (λ (z : World). kth_in k (find (is_pair a b) z.pairs)) h
-
--- a packet of a number is delivered to a node that is up
-deliver_is : (f : Answering) (w : World) (a b k : ℕ) (x : Node) (q : Packet) → node_at w b ≡ Some x → kth_between w a b k ≡ Some q → happens_by f w (event.Deliver a b k) ≡ step_by f (handled w a b k) (Given q) x
-unfolding happens_by delivers_by_if
-deliver_is f w a b k x q up kth = rw (up, kth) refl
-
--- the same world, where this packet is the first that waits
-abbrev waiting : World → ℕ → Packet → World
-waiting w k q = record w { queue = record { number = k; packet = q } ∷ w.queue }
-
-handled_again : (w : World) (k : ℕ) (q : Packet) → handled (waiting w k q) q.from q.to k ≡ w
-unfolding handled is_sent
-handled_again w k q = rw (eq-eqb k k refl, eq-eqb q.from q.from refl, eq-eqb q.to q.to refl) refl
-
--- so a step with a packet that was sent is a delivery
-step_is : (f : Answering) (w : World) (b k : ℕ) (x : Node) (q : Packet) → node_at w b ≡ Some x → q.to ≡ b → kth_between w q.from b k ≡ Some q → happens_by f (waiting w k q) (event.Deliver q.from b k) ≡ step_by f w (Given q) x
-step_is f w b k x q up to kth =
-    let v : World = waiting w k q in
-    deliver_is f v q.from b k x q (same_node w v b refl ∙ up) (same_kth w v q.from b k refl ∙ kth)
-    ∙ ap (λ z. step_by f z (Given q) x) (subst (λ n. handled (waiting w k q) q.from n k ≡ w) to (handled_again w k q))
 
 -- ---- a run so far
 
@@ -128,9 +97,8 @@ module _ (c : Config) (es : List Answered) (f : Answering) (t : Stands c es) whe
       let i = t.numbered q there in
       let kth : kth_between below q.from b i.0 ≡ Some q = subst (λ n. kth_between below q.from n i.0 ≡ Some q) sent.1 i.1 in
       let here : kth_between was.world q.from b i.0 ≡ Some q = sym (same_kth was.world below q.from b i.0 t.same) ∙ kth in
-      let alike : SameRun (happens_by f (waiting was.world i.0 q) (event.Deliver q.from b i.0)) (happens_by f below (event.Deliver q.from b i.0)) = same_goes (waiting was.world i.0 q) below (answered (event.Deliver q.from b i.0)) t.same in
-      goes (event.Deliver a b k) (event.Deliver q.from b i.0) (Hands a b k i.0 d q refl e brings here) tt
-      (subst (λ v. SameRun v (happens_by f below (event.Deliver q.from b i.0))) (step_is f was.world b i.0 x q up sent.1 here ∙ sym is) alike)
+      let alike : SameRun (step_by f was.world (Given q) x) (happens_by f below (event.Deliver q.from b i.0)) = step_delivers f was.world below q.from b i.0 x q t.same up here in
+      goes (event.Deliver a b k) (event.Deliver q.from b i.0) (Hands a b k i.0 d q refl e brings here) tt (subst (λ v. SameRun v (happens_by f below (event.Deliver q.from b i.0))) (sym is) alike)
 
   delivers : (a b k : ℕ) → Stands c (es ++ answered (event.Deliver a b k) ∷ [])
   delivers a b k = by (deliveries_are_direct f was a b k t.carries)

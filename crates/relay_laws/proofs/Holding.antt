@@ -15,17 +15,7 @@ use Rattle.world_model.specs.declared.event.Event.TheVariants as event
 use Rattle.world_model.specs.World.{Script, Node, Started, World, node_at, nodes_with, inc_in, posted, kth_between, handled, traced, after_step, started_at, starts_if, node_starts, stops_if, shows_if, scripts_after}
 use Rattle.world_laws.specs.world_answers.Answers.{step_by, step_by_if, calls_by_if, delivers_by_if, happens_by}
 
-module _ (P : World → Type 0) (same : (w v : World) → v.pairs ≡ w.pairs → v.sent ≡ w.sent → P w → P v) (post : (w : World) (p : Packet) → P w → P (posted w p)) where
-  all_posted : (ps : List Packet) (w : World) → P w → P (fold posted w ps)
-  all_posted [] w k = k
-  all_posted (p ∷ ps) w k = all_posted ps (posted w p) (post w p k)
-
-  after_holds : (w : World) (scripts : List Script) (s : Core) → P w → P (after_step w scripts s)
-  unfolding after_step traced
-  after_holds w scripts s k =
-      let left : World = traced (record w { nodes = nodes_with (record { core = s; scripts = scripts }) w.nodes }) s.records in
-      all_posted s.sends left (same w left refl refl k)
-
+module _ (P : World → Type 0) (same : (w v : World) → v.pairs ≡ w.pairs → v.sent ≡ w.sent → P w → P v) where
   start_holds : (w : World) (n last : ℕ) (o : Option Node) → P w → P (starts_if w n last o)
   unfolding starts_if started_at traced
   start_holds w n last (Some x) k = k
@@ -54,37 +44,47 @@ module _ (P : World → Type 0) (same : (w v : World) → v.pairs ≡ w.pairs �
   show_holds w n what None k = k
   show_holds w n what (Some x) k = same w (shows_if w n what (Some x)) refl refl k
 
-  module _ (f : Answering) where
-    pub step_holds : (w : World) (e : NodeEvent) (x : Node) → P w → P (step_by f w e x)
+  module _ (post : (w : World) (p : Packet) → P w → P (posted w p)) where
+    all_posted : (ps : List Packet) (w : World) → P w → P (fold posted w ps)
+    all_posted [] w k = k
+    all_posted (p ∷ ps) w k = all_posted ps (posted w p) (post w p k)
+
+    after_holds : (w : World) (scripts : List Script) (s : Core) → P w → P (after_step w scripts s)
+    unfolding after_step traced
+    after_holds w scripts s k =
+        let left : World = traced (record w { nodes = nodes_with (record { core = s; scripts = scripts }) w.nodes }) s.records in
+        all_posted s.sends left (same w left refl refl k)
+
+    pub step_holds : (f : Answering) (w : World) (e : NodeEvent) (x : Node) → P w → P (step_by f w e x)
     unfolding step_by
-    step_holds w e x k = after_holds w x.scripts (stepped f x.core e) k
+    step_holds f w e x k = after_holds w x.scripts (stepped f x.core e) k
 
-    step_if_holds : (w : World) (e : NodeEvent) (o : Option Node) → P w → P (step_by_if f w e o)
+    step_if_holds : (f : Answering) (w : World) (e : NodeEvent) (o : Option Node) → P w → P (step_by_if f w e o)
     unfolding step_by_if
-    step_if_holds w e None k = k
-    step_if_holds w e (Some x) k = step_holds w e x k
+    step_if_holds f w e None k = k
+    step_if_holds f w e (Some x) k = step_holds f w e x k
 
-    call_holds : (w : World) (n : ℕ) (c : CallLine) (o : Option Node) → P w → P (calls_by_if f w n c o)
+    call_holds : (f : Answering) (w : World) (n : ℕ) (c : CallLine) (o : Option Node) → P w → P (calls_by_if f w n c o)
     unfolding calls_by_if traced
-    call_holds w n c None k = same w (calls_by_if f w n c None) refl refl k
-    call_holds w n c (Some x) k = step_holds w (Calls c) (record x { scripts = scripts_after c x.core x.scripts }) k
+    call_holds f w n c None k = same w (calls_by_if f w n c None) refl refl k
+    call_holds f w n c (Some x) k = step_holds f w (Calls c) (record x { scripts = scripts_after c x.core x.scripts }) k
 
-    give_holds : (w : World) (a b i : ℕ) (o : Option Node) (p : Option Packet) → P w → P (delivers_by_if f w a b i o p)
+    give_holds : (f : Answering) (w : World) (a b i : ℕ) (o : Option Node) (p : Option Packet) → P w → P (delivers_by_if f w a b i o p)
     unfolding delivers_by_if handled
-    give_holds w a b i None p k = k
-    give_holds w a b i (Some x) None k = k
-    give_holds w a b i (Some x) (Some p) k = step_holds (handled w a b i) (Given p) x (same w (handled w a b i) refl refl k)
+    give_holds f w a b i None p k = k
+    give_holds f w a b i (Some x) None k = k
+    give_holds f w a b i (Some x) (Some p) k = step_holds f (handled w a b i) (Given p) x (same w (handled w a b i) refl refl k)
 
-    pub happens_holds : (w : World) (e : Event) → P w → P (happens_by f w e)
+    pub happens_holds : (f : Answering) (w : World) (e : Event) → P w → P (happens_by f w e)
     unfolding happens_by
-    happens_holds w (event.Start n) k = starts_hold w n k
-    happens_holds w (event.Stop n) k = stop_holds w n (node_at w n) k
-    happens_holds w (event.Tick n) k = step_if_holds w Ticks (node_at w n) k
-    happens_holds w (event.Ask n mask) k = step_if_holds w (Asks mask) (node_at w n) k
-    happens_holds w (event.Call n c) k = call_holds w n c (node_at w n) k
-    happens_holds w (event.Show n what) k = show_holds w n what (node_at w n) k
-    happens_holds w (event.Deliver a b i) k = give_holds w a b i (node_at w b) (kth_between w a b i) k
-    happens_holds w (event.Garbage n bytes) k = step_if_holds w step.Garbage (node_at w n) k
+    happens_holds f w (event.Start n) k = starts_hold w n k
+    happens_holds f w (event.Stop n) k = stop_holds w n (node_at w n) k
+    happens_holds f w (event.Tick n) k = step_if_holds f w Ticks (node_at w n) k
+    happens_holds f w (event.Ask n mask) k = step_if_holds f w (Asks mask) (node_at w n) k
+    happens_holds f w (event.Call n c) k = call_holds f w n c (node_at w n) k
+    happens_holds f w (event.Show n what) k = show_holds w n what (node_at w n) k
+    happens_holds f w (event.Deliver a b i) k = give_holds f w a b i (node_at w b) (kth_between w a b i) k
+    happens_holds f w (event.Garbage n bytes) k = step_if_holds f w step.Garbage (node_at w n) k
 
 -- ---- what was sent stays so
 

@@ -8,28 +8,32 @@ use Rattle.node_state.specs.declared.state.Core.{Core}
 use Rattle.route_state.specs.declared.front.Front.{Front}
 use Rattle.route_state.specs.Relaying.{may_relay}
 use Rattle.route_state.specs.Way.{Course, Arrives, GoesOn, Ends, goes_to, onward, course}
-use Rattle.relay_model.specs.Leaving.{Leaving, alone, wrapped, wrapped_if, around_if, leaves_as}
+use Rattle.relay_model.specs.Leaving.{Leaving, alone, wrapped, wrapped_if, around, around_if, leaves_as}
 
 -- by itself, or in an envelope by the next hop
-pub data LeavesBy (s : Core) (p : Packet) : Leaving → Type 0 where
-  Alone : LeavesBy s p (alone p)
-  Around : (hop : ℕ) → may_relay p.body ≡ true → next_hop s.reach p.to ≡ Some hop → LeavesBy s p (wrapped s p hop)
+pub data LeavesBy (o : Option Core) (p : Packet) : Leaving → Type 0 where
+  Alone : LeavesBy o p (alone p)
+  Around : (s : Core) (hop : ℕ) → o ≡ Some s → may_relay p.body ≡ true → next_hop s.reach p.to ≡ Some hop → LeavesBy o p (wrapped s p hop)
 
-pub leaves_by : (s : Core) (p : Packet) (d : Leaving) → leaves_as s p ≡ Some d → LeavesBy s p d
+pub leaves_by : (o : Option Core) (p : Packet) (d : Leaving) → leaves_as o p ≡ Some d → LeavesBy o p d
 unfolding leaves_as
-leaves_by s p d = by (p.network == 0)
+leaves_by o p d = by (p.network == 0)
   where
-    hop : may_relay p.body ≡ true → (o : Option ℕ) → next_hop s.reach p.to ≡ o → wrapped_if s p o ≡ Some d → LeavesBy s p d
-    hop may None e h = absurd (cc)
-    hop may (Some n) e h = let is : wrapped s p n ≡ d = cc in subst (LeavesBy s p) is (Around n may e)
+    hop : (s : Core) → o ≡ Some s → may_relay p.body ≡ true → (n : Option ℕ) → next_hop s.reach p.to ≡ n → wrapped_if s p n ≡ Some d → LeavesBy o p d
+    hop s up may None e h = absurd (cc)
+    hop s up may (Some n) e h = let is : wrapped s p n ≡ d = cc in subst (LeavesBy o p) is (Around s n up may e)
 
-    around : (b : Bool) → may_relay p.body ≡ b → around_if b s p ≡ Some d → LeavesBy s p d
-    around true may h = hop may (next_hop s.reach p.to) refl h
-    around false may h = absurd (cc)
+    sender : may_relay p.body ≡ true → (x : Option Core) → o ≡ x → around x p ≡ Some d → LeavesBy o p d
+    sender may None up h = absurd (cc)
+    sender may (Some s) up h = hop s up may (next_hop s.reach p.to) refl h
 
-    by : (b : Bool) → elim b as (λ t. Option Leaving) [ true ↦ around_if (may_relay p.body) s p | false ↦ Some (alone p) ] ≡ Some d → LeavesBy s p d
-    by true h = around (may_relay p.body) refl h
-    by false h = let is : alone p ≡ d = cc in subst (LeavesBy s p) is Alone
+    may : (b : Bool) → may_relay p.body ≡ b → around_if b o p ≡ Some d → LeavesBy o p d
+    may true e h = sender e o refl h
+    may false e h = absurd (cc)
+
+    by : (b : Bool) → elim b as (λ t. Option Leaving) [ true ↦ around_if (may_relay p.body) o p | false ↦ Some (alone p) ] ≡ Some d → LeavesBy o p d
+    by true h = may (may_relay p.body) refl h
+    by false h = let is : alone p ≡ d = cc in subst (LeavesBy o p) is Alone
 
 -- ---- an envelope at a node
 

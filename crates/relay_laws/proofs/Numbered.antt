@@ -116,7 +116,7 @@ happens_numbered f w e all = happens_holds AllNumbered same_numbered posted_numb
 -- and at first
 mode_numbered : (c : Config) (m : Mode) → AllNumbered (world_of c m)
 unfolding world_of
-mode_numbered c Fixed = all_start AllNumbered same_numbered posted_numbered (nodes_of c.nodes) (empty_world c) (λ p h. absurd h)
+mode_numbered c Fixed = all_start AllNumbered same_numbered (nodes_of c.nodes) (empty_world c) (λ p h. absurd h)
 mode_numbered c Asked = λ p h. absurd h
 mode_numbered c Rings = λ p h. absurd h
 

@@ -16,8 +16,8 @@ use Rattle.world_model.specs.declared.event.Event.{Event}
 use Rattle.world_model.specs.declared.event.Event.TheVariants as event
 use Rattle.world_model.specs.World.{Node, World, node_at}
 use Rattle.world_laws.specs.world_answers.Answers.{Answered, step_by, happens_by}
-use Rattle.relay_model.specs.Leaving.{Parcel, Bare, Wrapped, Leaving, first_front, leaves_as}
-use Rattle.relay_model.specs.Relays.{Relayed, leaves, datagram_between, handled, core_of, core_in, leaving_of, leaving_in, settled, given_to, passed, takes_course, comes_to, arrives_if, relays_by, relays_on, relayed_new, relayed_after}
+use Rattle.relay_model.specs.Leaving.{Parcel, Bare, Wrapped, Leaving}
+use Rattle.relay_model.specs.Relays.{Relayed, leaves, datagram_between, handled, core_of, core_in, settled, given_to, passed, takes_course, comes_to, arrives_if, relays_by, relays_on, relayed_new, relayed_after}
 use Rattle.relay_laws.specs.Carrying.{EachDatagram}
 use Rattle.relay_laws.specs.Routes.{Hopped, AreHops, first_of, Routed, RoutedBy, EnvelopesAreRouted}
 use Rattle.relay_laws.proofs.Leaving.{LeavesBy, Alone, Around, leaves_by, CourseIs, Comes, Passes, Stops, course_is}
@@ -50,13 +50,9 @@ module _ (c : Config) (es : List Answered) where
   hopped_now target from to s up hop = record { front = es; rest = []; whole = sym (append-nil es); core = s; up = up; hop = hop }
 
   -- its origin
-  left_routed : (s : Core) (p : Packet) → core_in (relayed_after c es).world p.from ≡ Some s → (d : Leaving) → LeavesBy s p d → RoutedBy c es d.from d.to d.parcel
-  left_routed s p up _ Alone = tt
-  left_routed s p up _ (Around hop may e) = record { before = []; hops = (hopped_now p.to p.from hop s up e, tt); origin = refl; left = refl }
-
-  leaving_routed : (p : Packet) (o : Option Core) → core_in (relayed_after c es).world p.from ≡ o → (d : Leaving) → leaving_of o p ≡ Some d → RoutedBy c es d.from d.to d.parcel
-  leaving_routed p None up d e = absurd (cc)
-  leaving_routed p (Some s) up d e = left_routed s p up d (leaves_by s p d e)
+  left_routed : (p : Packet) (d : Leaving) → LeavesBy (core_in (relayed_after c es).world p.from) p d → RoutedBy c es d.from d.to d.parcel
+  left_routed p _ Alone = tt
+  left_routed p _ (Around s hop up may e) = record { before = []; hops = (hopped_now p.to p.from hop s up e, tt); origin = refl; left = refl }
 
   -- a node in its middle, to which it came from a
   passed_routed : (a b to : ℕ) (s : Core) (f g : Front) → core_in (relayed_after c es).world b ≡ Some s → next_hop s.reach f.target ≡ Some to → g.hops + 1 ≡ f.hops → g.origin ≡ f.origin → g.target ≡ f.target → Routed c es a b f → Routed c es b to g
@@ -92,10 +88,10 @@ module _ (c : Config) (es : List Answered) (f : Answering) (ev : Event) where
 
   -- where the event made the direct world into w, what its step sent went out
   settled_routed : (r : Relayed) (w : World) → relays_by f was ev ≡ settled r w → After r → After (settled r w)
-  settled_routed r w is k = settled_hold (RoutedBy c then) r w k (λ p sent d e. leaving_routed c then p (core_in w p.from) (ap (λ v. core_in v p.from) now) d e)
+  settled_routed r w is k = settled_hold (RoutedBy c then) r w k (λ p sent d e. left_routed c then p d (subst (λ o. LeavesBy o p d) (sym (now p)) (leaves_by (core_in w p.from) p d e)))
     where
-      now : (relayed_after c then).world ≡ w
-      now = ap (λ (z : Relayed). z.world) (last_is c es this ∙ is) ∙ settled_world r w
+      now : (p : Packet) → core_in (relayed_after c then).world p.from ≡ core_in w p.from
+      now p = ap (λ (z : Relayed). core_in z.world p.from) (last_is c es this ∙ is) ∙ ap (λ v. core_in v p.from) (settled_world r w)
 
   happens_routed : relays_by f was ev ≡ settled was (happens_by f was.world ev) → Before was → After (settled was (happens_by f was.world ev))
   happens_routed is k = settled_routed was (happens_by f was.world ev) is (old_on k)

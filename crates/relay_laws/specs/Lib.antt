@@ -1,3 +1,4 @@
 pub mod Carrying
 pub mod Routes
+pub mod Bare
 pub mod Direct

@@ -4,6 +4,7 @@
 
 ghost use Rattle.relay_laws.specs.Carrying.{EventsCarry, DeliveriesAreDirect};
 ghost use Rattle.relay_laws.specs.Routes.{EnvelopesAreRouted};
+ghost use Rattle.relay_laws.specs.Bare.{RunsWithoutRelays};
 ghost use Rattle.relay_laws.specs.Direct.{RelayedRunsAreSafe};
 
 /// Whatever happens, each packet that goes by itself is one that its sender's steps sent to who it goes to, and each in an
@@ -30,4 +31,11 @@ pub fn envelopes_are_routed()
 #[tactic(auto, using(crate::proofs::Direct::relayed_runs_are_safe))]
 pub fn relayed_runs_are_safe()
     ensures { RelayedRunsAreSafe }
+{}
+
+/// Where each packet has a network, as where each two nodes share one, the run with relays is that of the direct world: the same
+/// nodes and records, and each datagram is a packet by itself.
+#[tactic(auto, using(crate::proofs::Bare::runs_without_relays))]
+pub fn runs_without_relays()
+    ensures { RunsWithoutRelays }
 {}

@@ -36,14 +36,18 @@ abbrev pub wrapped_if : Core → Packet → Option ℕ → Option Leaving
 wrapped_if s p None = None
 wrapped_if s p (Some hop) = Some (wrapped s p hop)
 
-abbrev pub around_if : Bool → Core → Packet → Option Leaving
-around_if true s p = wrapped_if s p (next_hop s.reach p.to)
-around_if false s p = None
+abbrev pub around : Option Core → Packet → Option Leaving
+around None p = None
+around (Some s) p = wrapped_if s p (next_hop s.reach p.to)
 
--- What becomes of a packet that a step of a node sends, which is so after the step: it leaves by itself on its network; or, where
+abbrev pub around_if : Bool → Option Core → Packet → Option Leaving
+around_if true o p = around o p
+around_if false o p = None
+
+-- What becomes of a packet that a step sent, where this is its sender after the step: it leaves by itself on its network; or, where
 -- the two nodes share none, in an envelope by the next hop; or, without one, it is lost.
-unfoldable pub leaves_as : Core → Packet → Option Leaving
-leaves_as s p = elim (p.network == 0) [ true ↦ around_if (may_relay p.body) s p | false ↦ Some (alone p) ]
+unfoldable pub leaves_as : Option Core → Packet → Option Leaving
+leaves_as o p = elim (p.network == 0) [ true ↦ around_if (may_relay p.body) o p | false ↦ Some (alone p) ]
 
 -- opens each word of this file, for a computation
 unfoldable pub leaving_opens : Unit {0}

@@ -90,13 +90,9 @@ core_of (Some x) = Some x.core
 abbrev pub core_in : World → ℕ → Option Core
 core_in w n = core_of (node_at w n)
 
-abbrev pub leaving_of : Option Core → Packet → Option Leaving
-leaving_of None p = None
-leaving_of (Some s) p = leaves_as s p
-
 -- by its sender as it is after the step
 abbrev pub leaving_in : World → Packet → Option Leaving
-leaving_in w p = leaving_of (core_in w p.from) p
+leaving_in w p = leaves_as (core_in w p.from) p
 
 abbrev pub leaves_if : Relayed → Option Leaving → Relayed
 leaves_if r None = r

@@ -17,17 +17,17 @@ ghost use Rattle.relay_model.specs.Samples.{chain_settings, all_run, chained, as
 /// leaves by itself.
 #[tactic(auto, unfolding(crate::specs::Opens::all_opens))]
 pub fn leaves_by_the_middle()
-    ensures far { leaves_as (chained 1) (said_on 0 3 asks_leader)
+    ensures far { leaves_as (Some (chained 1)) (said_on 0 3 asks_leader)
         ≡ Some (record { from = 1; to = 2; network = 1; parcel = around 31 }) }
-    ensures near { leaves_as (chained 1) (said_on 1 2 asks_leader)
+    ensures near { leaves_as (Some (chained 1)) (said_on 1 2 asks_leader)
         ≡ Some (alone (said_on 1 2 asks_leader)) }
 {}
 
 /// What is for a node that nobody names is lost, and what a ring says is never in an envelope.
 #[tactic(auto, unfolding(crate::specs::Opens::all_opens))]
 pub fn is_lost_without_a_way()
-    ensures nowhere { leaves_as (chained 1) (said_on 0 4 asks_leader) ≡ None }
-    ensures ring { leaves_as (chained 1) (said_on 0 3 beats) ≡ None }
+    ensures nowhere { leaves_as (Some (chained 1)) (said_on 0 4 asks_leader) ≡ None }
+    ensures ring { leaves_as (Some (chained 1)) (said_on 0 3 beats) ≡ None }
 {}
 
 /// At node 2 the envelope goes on to node 3, on network 2, with a hop less left; and no step happens.
