@@ -1,6 +1,6 @@
 -- A world of nodes whose packets may go through other nodes. It is a layer over the world in which each packet that was sent may
 -- be given, the direct world: an event is at most one step of a node, and that step is one of the direct world.
-use Rattle.std.specs.Prelude.{ℕ, ◌==◌, ◌&&◌, ◌+◌, ◌-◌, ◌++◌, List, [], ◌∷◌, find, fold, Option, Some, None, nat_lt, nat_le, slice_get}
+use Rattle.std.specs.Prelude.{ℕ, Bool, true, false, ◌==◌, ◌&&◌, ◌+◌, ◌-◌, ◌++◌, List, [], ◌∷◌, find, fold, Option, Some, None, nat_lt, nat_le, slice_get}
 use Rattle.rsct_packet.specs.Lists.{drop_where, reverse_onto}
 use Rattle.node_state.specs.declared.config.Config.{Config}
 use Rattle.node_state.specs.declared.happened.Happened.{Happened}
