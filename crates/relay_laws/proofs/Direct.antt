@@ -1,5 +1,6 @@
 -- A run with relays, event by event, is one of the direct world.
 use Rattle.std.proofs.Common.{◌≡◌, ℕ, Bool, true, false, List, [], ◌∷◌, ◌++◌, Option, Some, None, refl, sym, ap, ◌∙◌, subst, append_assoc, append-nil}
+use Rattle.std.proofs.lemmas.List.{map-append}
 use Rattle.rsct_packet.specs.Lists.{reverse_onto}
 use Rattle.rsct_packet.specs.Search.{Has}
 use Rattle.node_state.specs.declared.config.Config.{Config}
@@ -43,9 +44,12 @@ record Stands (c : Config) (es : List Answered) : Type 0 where
   carries : Carries (relayed_after c es)
   numbered : AllNumbered (answered_after c direct)
 
+pub may_more : (c : Config) (es : List Event) (e : Event) → AllMayHappen c es → MayHappen c e → AllMayHappen c (es ++ e ∷ [])
+may_more c [] e may here = (here, tt)
+may_more c (x ∷ es) e may here = (may.0, may_more c es e may.1 here)
+
 may_on : (c : Config) (xs : List Answered) (a : Answered) → AllMayHappen c (events_in xs) → MayHappen c a.event → AllMayHappen c (events_in (xs ++ a ∷ []))
-may_on c [] a may here = (here, tt)
-may_on c (x ∷ xs) a may here = (may.0, may_on c xs a may.1 here)
+may_on c xs a may here = subst (AllMayHappen c) (sym (map-append (λ (x : Answered). x.event) xs (a ∷ []))) (may_more c (events_in xs) a.event may here)
 
 module _ (c : Config) (es : List Answered) (f : Answering) (t : Stands c es) where
   abbrev was : Relayed

@@ -7,3 +7,5 @@ pub mod Carrying
 pub mod Routes
 pub mod Bare
 pub mod Direct
+pub mod Waiting
+pub mod Playing

@@ -6,6 +6,7 @@ ghost use Rattle.relay_laws.specs.Carrying.{EventsCarry, DeliveriesAreDirect};
 ghost use Rattle.relay_laws.specs.Routes.{EnvelopesAreRouted};
 ghost use Rattle.relay_laws.specs.Bare.{RunsWithoutRelays};
 ghost use Rattle.relay_laws.specs.Direct.{RelayedRunsAreSafe};
+ghost use Rattle.relay_laws.specs.Plays.{EveryRelayedPlayIsSafe, EveryKeptRelayedPlayIsSafe};
 
 /// Whatever happens, each packet that goes by itself is one that its sender's steps sent to who it goes to, and each in an
 /// envelope is one that its origin's steps sent to its target.
@@ -15,7 +16,6 @@ pub fn events_carry()
 {}
 
 /// Each delivery is, for the nodes and what they record, nothing, or that a node is given a packet that was sent to it.
-#[tactic(auto, using(crate::proofs::Carrying::deliveries_are_direct))]
 pub fn deliveries_are_direct()
     ensures { DeliveriesAreDirect }
 {}
@@ -38,4 +38,17 @@ pub fn relayed_runs_are_safe()
 #[tactic(auto, using(crate::proofs::Bare::runs_without_relays))]
 pub fn runs_without_relays()
     ensures { RunsWithoutRelays }
+{}
+
+/// Where the lines of a script may happen, however it was made, its records with relays are those of a safe run of the direct
+/// world, event by event.
+#[tactic(auto, using(crate::proofs::Playing::every_relayed_play_is_safe))]
+pub fn every_relayed_play_is_safe()
+    ensures { EveryRelayedPlayIsSafe }
+{}
+
+/// So are those up to the event whose datagrams pass a number of bytes.
+#[tactic(auto, using(crate::proofs::Playing::every_kept_relayed_play_is_safe))]
+pub fn every_kept_relayed_play_is_safe()
+    ensures { EveryKeptRelayedPlayIsSafe }
 {}

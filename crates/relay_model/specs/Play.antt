@@ -8,9 +8,10 @@ use Rattle.world_model.specs.declared.event.Event.{Event}
 use Rattle.world_model.specs.declared.event.Event.TheVariants as event
 use Rattle.world_model.specs.declared.script.Line.{Line}
 use Rattle.world_model.specs.declared.script.Line.TheVariants as line
+use Rattle.world_model.specs.declared.script.Script.{Script}
 use Rattle.world_model.specs.World.{Node, by_scripts, node_at}
 use Rattle.world_model.specs.Play.{Cut, is_cut_of, networks_in, healed, with_cuts, flow_limit}
-use Rattle.world_laws.specs.world_answers.Answers.{scripts_at}
+use Rattle.world_laws.specs.world_answers.Answers.{Answered, scripts_at, worded}
 use Rattle.relay_model.specs.Relays.{Sent, Relayed, relays_by, relayed_new}
 
 -- a world that a script is played in, its cuts, and the plain events that its lines stand for so far, newest first
@@ -80,7 +81,21 @@ events_of c ls = reverse_onto (played c ls).events []
 unfoldable pub played_records : Config → List Line → List Happened
 played_records c ls = reverse_onto (played c ls).world.world.trace []
 
+-- an input without `begin` has no events
+unfoldable pub script_records : Script → List Happened
+script_records s = elim s.begun [ true ↦ played_records s.config s.lines | false ↦ [] ]
+
+-- ---- what its clients answer
+
+abbrev pub worded_from : Relayed → List Event → List Answered
+worded_from r [] = []
+worded_from r (e ∷ es) = worded r.world e ∷ worded_from (relays r e) es
+
+-- the events, each with what the clients of the script answer at it
+unfoldable pub all_worded : Config → List Event → List Answered
+all_worded c es = worded_from (relayed_new c) es
+
 -- opens each word of this file, for a computation
 unfoldable pub play_opens : Unit {0}
-unfolding is_cut drops relays in_world with_event flows_to flows all_tick rounds plays played events_of played_records
+unfolding is_cut drops relays in_world with_event flows_to flows all_tick rounds plays played events_of played_records script_records all_worded
 play_opens = tt
