@@ -8,6 +8,7 @@ use Rattle.route_state.specs.Way.{Course, Arrives, GoesOn, Ends, course}
 use Rattle.world_model.specs.declared.event.Event.{Event}
 use Rattle.world_model.specs.declared.event.Event.TheVariants as event
 use Rattle.world_model.specs.World.{Node, World, node_at}
+use Rattle.world_model.specs.Kept.{sent_since}
 use Rattle.world_laws.specs.world_answers.Answers.{step_by, happens_by}
 use Rattle.relay_model.specs.Leaving.{Parcel, Bare, Wrapped, Leaving}
 use Rattle.relay_model.specs.Relays.{Sent, Relayed, is_pair, leaves, datagram_in, datagram_between, handled, leaving_in, leaves_if, sends, settled, given_to, passed, takes_course, comes_to, arrives_if, relays_by}
@@ -36,7 +37,7 @@ sends_same w (p ∷ ps) r v h = sends_same w ps (leaves_if r (leaving_in w p)) (
 
 settled_alike : (r : Relayed) (q : List Sent) (w : World) → SameRelayed (settled r w) (settled (record r { queue = q }) w)
 unfolding settled
-settled_alike r q w = sends_same w _ (record r { world = w }) (record r { queue = q; world = w }) refl
+settled_alike r q w = sends_same w (sent_since r.world w) (record r { world = w }) (record r { queue = q; world = w }) refl
 
 module _ (f : Answering) where
   given_alike : (r : Relayed) (q : List Sent) (x : Node) (p : Packet) → SameRelayed (given_to f r x p) (given_to f (record r { queue = q }) x p)

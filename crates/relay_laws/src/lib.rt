@@ -42,13 +42,11 @@ pub fn runs_without_relays()
 
 /// Where the lines of a script may happen, however it was made, its records with relays are those of a safe run of the direct
 /// world, event by event.
-#[tactic(auto, using(crate::proofs::Playing::every_relayed_play_is_safe))]
 pub fn every_relayed_play_is_safe()
     ensures { EveryRelayedPlayIsSafe }
 {}
 
 /// So are those up to the event whose datagrams pass a number of bytes.
-#[tactic(auto, using(crate::proofs::Playing::every_kept_relayed_play_is_safe))]
 pub fn every_kept_relayed_play_is_safe()
     ensures { EveryKeptRelayedPlayIsSafe }
 {}
