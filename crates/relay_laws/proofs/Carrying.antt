@@ -1,13 +1,13 @@
 -- What the datagrams carry, event by event, and what each delivery is in the direct world.
-use Rattle.std.proofs.Common.{◌≡◌, ℕ, true, List, Option, Some, None, refl, sym, ap, ◌∙◌, subst}
+use Rattle.std.proofs.Common.{◌≡◌, ℕ, true, Option, Some, None, refl, sym, ap, ◌∙◌, subst}
 use Rattle.rsct_packet.specs.Search.{Has}
 use Rattle.node_state.specs.declared.packet.Packet.{Packet}
 use Rattle.node_state.specs.declared.state.Core.{Core}
 use Rattle.node_state.specs.HandOn.{Answering}
-use Rattle.node_state.specs.Step.{Given, stepped}
+use Rattle.node_state.specs.Step.{Given}
 use Rattle.route_state.specs.declared.front.Front.{Front}
 use Rattle.route_state.specs.Relaying.{may_relay, on_one}
-use Rattle.route_state.specs.Way.{Course, Arrives, GoesOn, Ends, course}
+use Rattle.route_state.specs.Way.{Course, course}
 use Rattle.route_state.proofs.NetworkLaws.{network_is_not_read}
 use Rattle.world_model.specs.declared.event.Event.{Event}
 use Rattle.world_model.specs.declared.event.Event.TheVariants as event
@@ -15,7 +15,7 @@ use Rattle.world_model.specs.World.{Node, World, node_at, after_step}
 use Rattle.world_laws.specs.world_answers.Answers.{step_by, happens_by}
 use Rattle.relay_model.specs.Leaving.{Parcel, Bare, Wrapped, Leaving}
 use Rattle.relay_model.specs.Relays.{Relayed, leaves, datagram_between, handled, core_in, settled, given_to, passed, takes_course, comes_to, arrives_if, relays_by}
-use Rattle.relay_laws.specs.Carrying.{Handed, CarriedBy, EachDatagram, Carries, EventsCarry, Brings, IsNotGiven, Down, Unsent, Elsewhere, IsDirect, Nothing, Gives, DeliveriesAreDirect}
+use Rattle.relay_laws.specs.Carrying.{Handed, CarriedBy, EachDatagram, Carries, EventsCarry, Down, Unsent, Elsewhere, IsDirect, Nothing, Gives, DeliveriesAreDirect}
 use Rattle.relay_laws.proofs.Holding.{step_keeps, happens_keeps}
 use Rattle.relay_laws.proofs.Leaving.{LeavesBy, Alone, Around, leaves_by, CourseIs, Comes, Passes, Stops, course_is}
 use Rattle.relay_laws.proofs.Datagrams.{leaves_world, settled_world, leaves_hold, settled_hold, datagram_holds}

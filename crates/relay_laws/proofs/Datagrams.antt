@@ -1,5 +1,5 @@
 -- What holds of all datagrams, where it holds of each as it leaves a node; and of the world that they belong to.
-use Rattle.std.proofs.Common.{◌≡◌, ◌⊎◌, ◌==◌, ◌&&◌, ◌-◌, ℕ, Bool, true, false, List, [], ◌∷◌, length, Option, Some, None, refl, sym, ap, ◌∙◌, subst, inl, inr, ⊎_elim}
+use Rattle.std.proofs.Common.{◌≡◌, ◌⊎◌, ◌==◌, ◌&&◌, ◌-◌, ℕ, Bool, true, false, List, [], ◌∷◌, length, Option, Some, None, refl, sym, ◌∙◌, subst, inl, inr, ⊎_elim}
 use Rattle.std.specs.Prelude.{find, fold, take, nat_lt, nat_le, slice_get}
 use Rattle.std.proofs.lemmas.Bool.{eqb-true, and_parts}
 use Rattle.rsct_packet.specs.Lists.{reverse_onto}

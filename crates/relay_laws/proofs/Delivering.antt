@@ -1,5 +1,5 @@
 -- A step of a node with a packet that was sent is a delivery of the direct world.
-use Rattle.std.proofs.Common.{◌≡◌, ◌==◌, ℕ, true, false, List, ◌∷◌, Option, Some, refl, sym, ap, ◌∙◌, subst}
+use Rattle.std.proofs.Common.{◌≡◌, ◌==◌, ℕ, true, false, List, ◌∷◌, Some, refl, ap, ◌∙◌, subst}
 use Rattle.std.specs.Prelude.{◌&&◌, find}
 use Rattle.std.proofs.lemmas.Bool.{eq-eqb}
 use Rattle.rsct_packet.specs.Lists.{drop_where}

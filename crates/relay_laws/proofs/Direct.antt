@@ -1,5 +1,5 @@
 -- A run with relays, event by event, is one of the direct world.
-use Rattle.std.proofs.Common.{◌≡◌, ℕ, Bool, true, false, List, [], ◌∷◌, ◌++◌, Option, Some, None, refl, sym, ap, ◌∙◌, subst, append_assoc, append-nil}
+use Rattle.std.proofs.Common.{◌≡◌, ℕ, false, List, [], ◌∷◌, ◌++◌, Some, refl, sym, ap, ◌∙◌, subst, append_assoc, append-nil}
 use Rattle.std.proofs.lemmas.List.{map-append}
 use Rattle.rsct_packet.specs.Lists.{reverse_onto}
 use Rattle.rsct_packet.specs.Search.{Has}
@@ -9,7 +9,7 @@ use Rattle.node_state.specs.HandOn.{Answering}
 use Rattle.node_state.specs.Step.{Given}
 use Rattle.world_model.specs.declared.event.Event.{Event}
 use Rattle.world_model.specs.declared.event.Event.TheVariants as event
-use Rattle.world_model.specs.World.{Node, World, node_at, kth_between, world_new}
+use Rattle.world_model.specs.World.{Node, World, node_at, kth_between}
 use Rattle.world_laws.specs.world_runs.Runs.{SameRun}
 use Rattle.world_laws.proofs.world_runs.Queue.{same_trace}
 use Rattle.world_laws.specs.world_answers.Answers.{Answered, step_by, happens_by, events_in, answered_after, answered_records}
@@ -19,7 +19,7 @@ use Rattle.world_safety.specs.Scripts.{IsSafe}
 use Rattle.world_safety.proofs.Scripts.{every_answer_is_safe}
 use Rattle.world_safety.proofs.HeardStates.{answered_last}
 use Rattle.relay_model.specs.Leaving.{Parcel, Bare, Wrapped}
-use Rattle.relay_model.specs.Relays.{Relayed, datagram_between, relays_by, relays_on, relayed_new, relayed_after, relayed_records}
+use Rattle.relay_model.specs.Relays.{Relayed, datagram_between, relays_by, relayed_new, relayed_after, relayed_records}
 use Rattle.relay_laws.specs.Carrying.{Carries, Brings, IsNotGiven, IsDirect, Nothing, Gives}
 use Rattle.relay_laws.specs.Direct.{is_delivery, IsDirectOf, Itself, Hands, Moves, AreDirect, NoEvents, OneMore, RelayedRunsAreSafe}
 use Rattle.relay_laws.proofs.Numbered.{AllNumbered, happens_numbered, new_numbered}

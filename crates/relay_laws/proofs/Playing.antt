@@ -9,8 +9,7 @@ use Rattle.world_model.specs.declared.event.Event.{Event}
 use Rattle.world_model.specs.declared.event.Event.TheVariants as event
 use Rattle.world_model.specs.declared.script.Line.{Line}
 use Rattle.world_model.specs.declared.script.Line.TheVariants as line
-use Rattle.world_model.specs.declared.script.Script.{Script}
-use Rattle.world_model.specs.World.{Node, World, node_at}
+use Rattle.world_model.specs.World.{Node, node_at}
 use Rattle.world_model.specs.Play as direct
 use Rattle.world_model.specs.Play.{flow_limit}
 use Rattle.world_model.specs.Kept.{Bytes}
@@ -24,7 +23,6 @@ use Rattle.world_safety.proofs.Playing.{all_front, events_may}
 use Rattle.relay_model.specs.Relays.{Sent, Relayed, relays_on, relayed_new, relayed_after, relayed_records}
 use Rattle.relay_model.specs.Play.{Played, is_cut, drops, relays, in_world, with_event, flows_to, flows, all_tick, rounds, plays, played, events_of, played_records, script_records, worded_from, all_worded}
 use Rattle.relay_model.specs.Limits.{with_parcel, left_since, Ended, runs_from, runs_within, ended, kept_records}
-use Rattle.relay_laws.specs.Direct.{IsSafeRelayed}
 use Rattle.relay_laws.specs.Plays.{IsSafeRelayedScript, EveryRelayedPlayIsSafe, EveryKeptRelayedPlayIsSafe}
 use Rattle.relay_laws.proofs.Waiting.{SameRelayed, same_relays}
 use Rattle.relay_laws.proofs.Direct.{may_more, relayed_runs_are_safe}

@@ -1,8 +1,6 @@
 -- By which nodes an envelope came, event by event.
-use Rattle.std.proofs.Common.{◌≡◌, ◌≢◌, ◌+◌, ℕ, List, [], ◌∷◌, ◌++◌, length, Option, Some, None, refl, sym, ap, ◌∙◌, subst, arith, append_assoc, append-nil}
-use Rattle.std.specs.Prelude.{fold}
+use Rattle.std.proofs.Common.{◌≡◌, ◌+◌, ℕ, List, [], ◌∷◌, ◌++◌, length, Option, Some, None, refl, sym, ap, ◌∙◌, subst, arith, append_assoc, append-nil}
 use Rattle.std.proofs.lemmas.List.Sums.{fold-append}
-use Rattle.rsct_packet.specs.Search.{Has}
 use Rattle.node_reach.specs.Hops.{next_hop}
 use Rattle.node_state.specs.declared.config.Config.{Config}
 use Rattle.node_state.specs.declared.packet.Packet.{Packet}
@@ -11,15 +9,15 @@ use Rattle.node_state.specs.HandOn.{Answering}
 use Rattle.node_state.specs.Step.{Given}
 use Rattle.route_state.specs.declared.front.Front.{Front}
 use Rattle.route_state.specs.Envelope.{max_hops}
-use Rattle.route_state.specs.Way.{Course, Arrives, GoesOn, Ends, course}
+use Rattle.route_state.specs.Way.{Course, course}
 use Rattle.world_model.specs.declared.event.Event.{Event}
 use Rattle.world_model.specs.declared.event.Event.TheVariants as event
 use Rattle.world_model.specs.World.{Node, World, node_at}
 use Rattle.world_laws.specs.world_answers.Answers.{Answered, step_by, happens_by}
 use Rattle.relay_model.specs.Leaving.{Parcel, Bare, Wrapped, Leaving}
-use Rattle.relay_model.specs.Relays.{Relayed, leaves, datagram_between, handled, core_of, core_in, settled, given_to, passed, takes_course, comes_to, arrives_if, relays_by, relays_on, relayed_new, relayed_after}
+use Rattle.relay_model.specs.Relays.{Relayed, datagram_between, handled, core_of, core_in, settled, given_to, passed, takes_course, comes_to, arrives_if, relays_by, relays_on, relayed_new, relayed_after}
 use Rattle.relay_laws.specs.Carrying.{EachDatagram}
-use Rattle.relay_laws.specs.Routes.{Hopped, AreHops, first_of, Routed, RoutedBy, EnvelopesAreRouted}
+use Rattle.relay_laws.specs.Routes.{Hopped, AreHops, Routed, RoutedBy, EnvelopesAreRouted}
 use Rattle.relay_laws.proofs.Leaving.{LeavesBy, Alone, Around, leaves_by, CourseIs, Comes, Passes, Stops, course_is}
 use Rattle.relay_laws.proofs.Datagrams.{settled_world, leaves_hold, settled_hold, datagram_holds}
 

@@ -1,5 +1,5 @@
 -- What the datagrams of a world with relays carry, and what each delivery is in the direct world.
-use Rattle.std.specs.Prelude.{ℕ, ◌≡◌, ◌≢◌, true, List, Option, Some, None}
+use Rattle.std.specs.Prelude.{ℕ, ◌≡◌, ◌≢◌, true, List, Some, None}
 use Rattle.rsct_packet.specs.Search.{Has}
 use Rattle.node_state.specs.declared.packet.Packet.{Packet}
 use Rattle.node_state.specs.HandOn.{Answering}

@@ -13,9 +13,9 @@ use Rattle.world_model.specs.declared.event.Event.TheVariants as event
 use Rattle.world_model.specs.declared.script.Line.{Line}
 use Rattle.world_model.specs.declared.script.Line.TheVariants as line
 use Rattle.world_model.specs.Reading.{first_settings}
-use Rattle.world_model.specs.World.{Node, World, empty_world}
+use Rattle.world_model.specs.World.{World, empty_world}
 use Rattle.relay_model.specs.Leaving.{Parcel, Wrapped}
-use Rattle.relay_model.specs.Relays.{Pair, Relayed}
+use Rattle.relay_model.specs.Relays.{Relayed}
 
 -- node 2 alone is on both networks
 unfoldable pub chain_settings : Config
