@@ -1,7 +1,9 @@
 -- By which nodes an envelope came, event by event.
 use Rattle.std.proofs.Common.{◌≡◌, ◌+◌, ℕ, List, [], ◌∷◌, ◌++◌, length, Option, Some, None, refl, sym, ap, ◌∙◌, subst, arith, append_assoc, append-nil}
+use Rattle.std.specs.Prelude.{IfSome}
 use Rattle.std.proofs.lemmas.List.Sums.{fold-append}
-use Rattle.node_reach.specs.Hops.{next_hop}
+use Rattle.node_reach.specs.Hops.{next_hop, IsNextHop}
+use Rattle.node_reach.proofs.HopLaws.{hops_are_exact}
 use Rattle.node_state.specs.declared.config.Config.{Config}
 use Rattle.node_state.specs.declared.packet.Packet.{Packet}
 use Rattle.node_state.specs.declared.state.Core.{Core}
@@ -31,7 +33,7 @@ last_is c es e = fold-append relays_on (relayed_new c) es (e ∷ [])
 
 hopped_on : (c : Config) (es : List Answered) (e : Answered) (target from to : ℕ) → Hopped c es target from to → Hopped c (es ++ e ∷ []) target from to
 hopped_on c es e target from to h =
-    record { front = h.front; rest = h.rest ++ e ∷ []; whole = ap (λ xs. xs ++ e ∷ []) h.whole ∙ append_assoc h.front h.rest (e ∷ []); core = h.core; up = h.up; hop = h.hop }
+    record { front = h.front; rest = h.rest ++ e ∷ []; whole = ap (λ xs. xs ++ e ∷ []) h.whole ∙ append_assoc h.front h.rest (e ∷ []); core = h.core; up = h.up; hop = h.hop; shortest = h.shortest }
 
 hops_on : (c : Config) (es : List Answered) (e : Answered) (target to : ℕ) (ns : List ℕ) → AreHops c es target to ns → AreHops c (es ++ e ∷ []) target to ns
 hops_on c es e target to [] h = tt
@@ -45,7 +47,7 @@ routed_on c es e a b (Wrapped f p) h = record { before = h.before; hops = hops_o
 
 module _ (c : Config) (es : List Answered) where
   hopped_now : (target from to : ℕ) (s : Core) → core_in (relayed_after c es).world from ≡ Some s → next_hop s.reach target ≡ Some to → Hopped c es target from to
-  hopped_now target from to s up hop = record { front = es; rest = []; whole = sym (append-nil es); core = s; up = up; hop = hop }
+  hopped_now target from to s up hop = record { front = es; rest = []; whole = sym (append-nil es); core = s; up = up; hop = hop; shortest = subst (λ o. IfSome o (λ n. IsNextHop s.reach target n)) hop (hops_are_exact s.reach target).some }
 
   -- its origin
   left_routed : (p : Packet) (d : Leaving) → LeavesBy (core_in (relayed_after c es).world p.from) p d → RoutedBy c es d.from d.to d.parcel

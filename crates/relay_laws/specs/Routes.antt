@@ -1,6 +1,6 @@
 -- By which nodes an envelope came.
 use Rattle.std.specs.Prelude.{ℕ, ◌≡◌, ◌+◌, List, [], ◌∷◌, ◌++◌, length, Some}
-use Rattle.node_reach.specs.Hops.{next_hop}
+use Rattle.node_reach.specs.Hops.{next_hop, IsNextHop}
 use Rattle.node_state.specs.declared.config.Config.{Config}
 use Rattle.node_state.specs.declared.state.Core.{Core}
 use Rattle.route_state.specs.declared.front.Front.{Front}
@@ -18,6 +18,8 @@ pub record Hopped (c : Config) (es : List Answered) (target from to : ℕ) : Typ
   pub core : Core
   pub up : core_in (relayed_after c front).world from ≡ Some core
   pub hop : next_hop core.reach target ≡ Some to
+  -- the least that is second on a shortest walk of its rows
+  pub shortest : IsNextHop core.reach target to
 
 -- each node was the next hop of the one behind it; the last of them comes first
 abbrev pub AreHops : Config → List Answered → ℕ → ℕ → List ℕ → Type 0
