@@ -10,6 +10,4 @@ pub use examples::{
     serves_nobody_unasked, tells_a_status_client, tells_places, tells_what_is_refused,
     ticks_when_due, turns_down_a_call,
 };
-pub use laws::{
-    alone_without_other_machines, did_up_to_now, lives_are_actions, lives_are_doings,
-};
+pub use laws::{alone_without_other_machines, did_up_to_now, lives_are_actions, lives_are_doings};

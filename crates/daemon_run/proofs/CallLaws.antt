@@ -1,5 +1,5 @@
 -- The calls of the settings, one after the other, and how a daemon begins.
-use Rattle.std.proofs.Common.{◌≡◌, ℕ, Bool, ◌+◌, ◌<◌, ◌≤◌, List, [], ◌∷◌, ◌++◌, map, length, take, drop, get_or, Option, None, refl, sym, ◌∙◌, ap, ap₂, subst, append-nil, add-one}
+use Rattle.std.proofs.Common.{◌≡◌, ℕ, Bool, ◌+◌, ◌<◌, ◌≤◌, List, [], ◌∷◌, ◌++◌, map, length, take, drop, get_or, None, refl, sym, ◌∙◌, ap, ap₂, subst, append-nil, add-one}
 use Rattle.std.proofs.Math.Seq.{take-suc}
 use Rattle.std.proofs.lemmas.List.{map-append, take-append-drop}
 use Rattle.std.proofs.lemmas.Grind.{flat_map-append}
@@ -7,22 +7,20 @@ use Rattle.hags_io.specs.Telling.{Telling}
 use Rattle.link_use.proofs.SendLaws.{next_item}
 use Rattle.node_state.specs.declared.call.CallLine.{CallLine}
 use Rattle.node_state.specs.declared.config.Config.{Config}
-use Rattle.node_state.specs.declared.happened.Happened.{Happened}
 use Rattle.node_state.specs.Step.{Calls, at_work}
 use Rattle.world_model.specs.declared.script.Line.{Line}
 use Rattle.world_model.specs.declared.script.Script.{Script}
-use Rattle.daemon_model.specs.Sent.{Exchange}
 use Rattle.daemon_model.specs.Daemon.{Daemon, Opening, left_for, fresh, begun_for, stepped_by, opened, own_call, own_calls}
-use Rattle.daemon_model.specs.Actions.{Action, Opens, did, did_all}
+use Rattle.daemon_model.specs.Actions.{Opens, did, did_all}
 use Rattle.daemon_model.specs.Doings.{since, step_doings, doings, doings_of, Made, MadeFront}
-use Rattle.daemon_model.proofs.AddLaws.{since_is, did_append, doings_append}
+use Rattle.daemon_model.proofs.AddLaws.{since_is}
 use Rattle.daemon_model.proofs.MadeLaws.{made_on, none_made, made_front_on, made_front_more}
 use Rattle.daemon_run.specs.Hosting.{Known}
 use Rattle.daemon_run.specs.declared.hosted.Hosted.{Hosted}
 use Rattle.daemon_run.specs.declared.running.Running.{Running}
 use Rattle.daemon_run.specs.Audience.{Audience, StepHands, OpeningHands}
 use Rattle.daemon_run.specs.Doing.{daemon_of, Passes, Acts, ActsBreak, left_doings, Settles, StepsAs, StepBreaks}
-use Rattle.daemon_run.specs.Calling.{calls_in, CallsAs, CallsBreak, fresh_running, opening_doings, opened_by, BeginsAs, BeginBreaks}
+use Rattle.daemon_run.specs.Calling.{calls_in, CallsAs, CallsBreak, fresh_running, opening_doings, BeginsAs, BeginBreaks}
 use Rattle.daemon_run.proofs.WriteLaws.{all_taken}
 use Rattle.daemon_run.proofs.GoesLaws.{since_comes, acts_none, acts_on, acts_break_on, acts_break_more, attends_on}
 use Rattle.daemon_run.proofs.StepLaws.{silent, settled_is}
@@ -186,7 +184,6 @@ module _ {C : Type 0} where
         made = subst (MadeFront t v) (ap₂ (λ x y. x ++ y) (sym (begun_since C remote script.config me inc moment)) (sym (ap (λ (e : Daemon). doings_of e (map Opens n.opening)) is)))
             (made_front_on t u v (left_doings (fresh_running {C = C} remote script.config me inc moment)) (doings_of (daemon_of s d.calls d.records) (map Opens n.opening)) h.made (n.breaks d.calls d.records));
       }
-
 
 -- ---- it breaks off at once
 

@@ -1,27 +1,25 @@
 -- How a daemon's whole life comes together.
-use Rattle.std.proofs.Common.{◌≡◌, ℕ, ◌+◌, ◌≤◌, Bool, true, false, List, [], ◌∷◌, ◌++◌, map, refl, sym, ◌∙◌, ap, ap₂, subst, append_assoc, append-nil, arith}
-use Rattle.std.specs.Prelude.{flat_map, Option}
-use Rattle.hags_io.specs.Deeds.{Deed, Read, Opened}
+use Rattle.std.proofs.Common.{◌≡◌, ℕ, ◌+◌, ◌≤◌, Bool, List, [], ◌∷◌, ◌++◌, map, refl, sym, ◌∙◌, ap, subst, append_assoc, append-nil, arith}
+use Rattle.std.specs.Prelude.{Option}
+use Rattle.hags_io.specs.Deeds.{Read, Opened}
 use Rattle.hags_io.specs.Edges.{Rose}
 use Rattle.hags_io.specs.Telling.{Telling, Did}
 use Rattle.hags_io.specs.Fronts.{EndsByWrite, EndsByReceive}
-use Rattle.hags_io.proofs.DeedLaws.{did_on}
 use Rattle.hags_io.proofs.FrontLaws.{went_as, rose_by_write, rose_by_receive}
 use Rattle.client_callbacks.specs.declared.votes.VoteItem.{VoteItem}
 use Rattle.client_callbacks.specs.Handed.{Handed}
 use Rattle.link_use.proofs.OpenLaws.{rose_after}
 use Rattle.node_state.specs.declared.config.Config.{Config}
-use Rattle.node_state.specs.declared.state.Core.{Core}
 use Rattle.node_state.specs.Step.{at_work}
 use Rattle.world_model.specs.declared.script.Script.{Script}
-use Rattle.daemon_model.specs.Daemon.{Daemon, Opening, Turn, Life, fresh, begun_for, opened_all, lived}
-use Rattle.daemon_model.specs.Actions.{Action, Opens, did_all, turn_actions, life_actions}
+use Rattle.daemon_model.specs.Daemon.{Daemon, Opening, Turn, fresh, begun_for, lived}
+use Rattle.daemon_model.specs.Actions.{Opens, did_all}
 use Rattle.daemon_model.specs.Doings.{Doing, Reads, since, doings_of, life_doings, Made, MadeFront}
-use Rattle.daemon_model.specs.Lives.{GoesOn, Lived, LivedFront, ServesAs, ServesTo, ServesFront, most_failed}
+use Rattle.daemon_model.specs.Lives.{GoesOn, Lived, ServesAs, ServesTo, ServesFront, most_failed}
 use Rattle.daemon_model.specs.Settings.{placings, openings}
 use Rattle.daemon_model.proofs.ActionLaws.{lives_are_actions, opens_done}
 use Rattle.daemon_model.proofs.AddLaws.{did_append, doings_append}
-use Rattle.daemon_model.proofs.MadeLaws.{made_on, all_made, made_front_on, made_front_more}
+use Rattle.daemon_model.proofs.MadeLaws.{made_on, made_front_on}
 use Rattle.daemon_run.specs.declared.hosted.Hosted.{Hosted}
 use Rattle.daemon_run.specs.declared.running.Running.{Running}
 use Rattle.daemon_run.specs.Hosting.{Known}

@@ -1,12 +1,12 @@
 -- Parts of a daemon's run, one after the other.
-use Rattle.std.proofs.Common.{◌≡◌, List, [], ◌∷◌, ◌++◌, map, refl, sym, ◌∙◌, ap, ap₂, subst, append_assoc, append-nil}
+use Rattle.std.proofs.Common.{◌≡◌, List, [], ◌++◌, map, refl, sym, ◌∙◌, ap, ap₂, subst, append_assoc, append-nil}
 use Rattle.std.proofs.lemmas.List.{map-append}
 use Rattle.hags_io.specs.Telling.{Telling}
 use Rattle.node_state.specs.declared.happened.Happened.{Happened}
 use Rattle.daemon_model.specs.Sent.{Exchange}
 use Rattle.daemon_model.specs.Daemon.{Daemon}
 use Rattle.daemon_model.specs.Actions.{Action, did_all}
-use Rattle.daemon_model.specs.Doings.{Doing, Exchanges, writes, step_doings, since, doings_of, Made, MadeFront}
+use Rattle.daemon_model.specs.Doings.{Exchanges, writes, step_doings, since, doings_of, Made, MadeFront}
 use Rattle.daemon_model.proofs.AddLaws.{Adds, since_is, doings_append, did_append}
 use Rattle.daemon_model.proofs.MadeLaws.{made_nothing, made_on, all_made, none_made, made_front_on, made_front_more}
 use Rattle.daemon_run.specs.Hosting.{Known}

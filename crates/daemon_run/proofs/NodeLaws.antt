@@ -1,5 +1,5 @@
 -- What a daemon's node did, by some answers of its clients, and what it handed to them.
-use Rattle.std.proofs.Common.{◌≡◌, ℕ, Bool, false, List, [], Option, IsTrue, refl, sym, ap, ◌∙◌, subst}
+use Rattle.std.proofs.Common.{◌≡◌, ℕ, false, List, [], Option, IsTrue, refl, sym, ap, ◌∙◌, subst}
 use Rattle.std.specs.Prelude.{map, drop, is_none, IfSome}
 use Rattle.client_callbacks.specs.declared.votes.VoteItem.{VoteItem}
 use Rattle.client_callbacks.specs.Handed.{Handed}

@@ -1,5 +1,5 @@
 -- What comes from clients on other machines.
-use Rattle.std.proofs.Common.{◌≡◌, if◌then◌else◌, ℕ, ◌<◌, ◌^◌, Bool, true, false, List, [], ◌∷◌, ◌++◌, Option, Some, None, refl, sym, ◌∙◌, ap, ap₂, subst, append-nil}
+use Rattle.std.proofs.Common.{◌≡◌, if◌then◌else◌, ℕ, ◌<◌, ◌^◌, Bool, true, false, List, [], ◌++◌, Option, Some, None, refl, sym, ◌∙◌, ap, ap₂, subst, append-nil}
 use Rattle.std.specs.Prelude.{not, map, option_map}
 use Rattle.hags_io.specs.Deeds.{Exchanged}
 use Rattle.hags_io.specs.Telling.{Telling}
@@ -18,7 +18,6 @@ use Rattle.remote_clients.specs.declared.sessions.Sessions.{Sessions}
 use Rattle.remote_clients.specs.Sessions.{is_refused, finished, turned_down}
 use Rattle.daemon_model.specs.Sent.{Exchange, said, number_if, message_calls}
 use Rattle.daemon_model.specs.Daemon.{Daemon, left_for, stepped_for, stepped_by, given, up_in, with_up, call_in, key_called, line_carried, called_by, down_in, down_sent, brought, given_on}
-use Rattle.daemon_model.specs.Doings.{Exchanges, Made, MadeFront}
 use Rattle.daemon_model.proofs.AddLaws.{Adds, adds_on, adds_step, adds_sessions, adds_called}
 use Rattle.daemon_run.specs.Hosting.{Known}
 use Rattle.daemon_run.specs.declared.hosted.Hosted.{Hosted}
@@ -158,6 +157,12 @@ module _ {C : Type 0} where
       → WentFront t u (map Exchanged (message_calls r.outbox.me r.outbox.incarnation r.outbox.number 0 network bytes)) → SendsFront r t u network message
   down_front r network message bytes t u same fits w =
       said_front r.outbox.number fits t u (message_calls r.outbox.me r.outbox.incarnation r.outbox.number 0 network message) (subst (λ (b : List ℕ). WentFront t u (map Exchanged (message_calls r.outbox.me r.outbox.incarnation r.outbox.number 0 network b))) same w)
+
+  -- by a daemon that stands alike
+  pub front_at : (q p : Running C) (key k network : ℕ) (t s u : Telling) → p ≡ q → k ≡ key → s ≡ t → SendsFront p s u network (down_in p.sessions k) → SendsFront q t u network (down_in q.sessions key)
+  front_at q p key k network t s u same keys told h =
+      subst (λ (x : Telling). SendsFront q x u network (down_in q.sessions key)) told
+      (subst (λ (n : ℕ). SendsFront q s u network (down_in q.sessions n)) keys (subst (λ (x : Running C). SendsFront x s u network (down_in x.sessions k)) same h))
 
   down_comes : (r s : Running C) (key network : ℕ) (t u : Telling) → Sends r s t u network (down_in r.sessions key) → Comes r s (down_sent key network) (down_exchanges r network (down_in r.sessions key)) []
   unfolding down_sent

@@ -1,13 +1,10 @@
 -- Turns, one after the other.
-use Rattle.std.proofs.Common.{◌≡◌, ℕ, ◌+◌, ◌<◌, ◌≤◌, List, [], ◌∷◌, ◌++◌, length, refl, sym, ◌∙◌, ap, subst, append_assoc, append-nil, arith}
-use Rattle.std.specs.Prelude.{flat_map}
+use Rattle.std.proofs.Common.{◌≡◌, ℕ, ◌+◌, ◌<◌, ◌≤◌, List, [], ◌∷◌, ◌++◌, length, refl, sym, ◌∙◌, ap, subst, append-nil, arith}
 use Rattle.std.proofs.lemmas.List.{length-append}
 use Rattle.std.proofs.lemmas.Grind.{flat_map-append}
 use Rattle.hags_io.specs.Telling.{Telling}
-use Rattle.node_state.specs.declared.happened.Happened.{Happened}
-use Rattle.daemon_model.specs.Sent.{Exchange}
 use Rattle.daemon_model.specs.Daemon.{Daemon, Turn, turned, turned_all}
-use Rattle.daemon_model.specs.Actions.{Action, did_all, turn_actions}
+use Rattle.daemon_model.specs.Actions.{did_all, turn_actions}
 use Rattle.daemon_model.specs.Lives.{most_failed, GoesOn}
 use Rattle.daemon_model.proofs.ActionLaws.{turns_done}
 use Rattle.daemon_run.specs.Hosting.{Known}

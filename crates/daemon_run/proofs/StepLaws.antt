@@ -1,17 +1,21 @@
 -- Steps of a daemon's node, with what they record and send.
-use Rattle.std.proofs.Common.{◌≡◌, ℕ, Bool, List, ◌++◌, Option, Some, None, refl, sym, ◌∙◌, ap, subst}
+use Rattle.std.proofs.Common.{◌≡◌, ℕ, Bool, List, [], ◌++◌, Option, None, refl, sym, ◌∙◌, ap, subst}
+use Rattle.std.specs.Prelude.{map, option_map}
 use Rattle.hags_io.specs.Telling.{Telling}
+use Rattle.link_use.specs.declared.sending.Outbox.{Outbox}
 use Rattle.node_state.specs.declared.happened.Happened.{Happened}
 use Rattle.node_state.specs.declared.state.Core.{Core}
 use Rattle.node_state.specs.HandOn.{Answering}
 use Rattle.node_state.specs.declared.call.CallLine.{CallLine}
+use Rattle.node_state.specs.declared.packet.Packet.{Packet}
 use Rattle.node_state.specs.Step.{NodeEvent, Calls, at_work, stepped}
-use Rattle.remote_clients.specs.Sessions.{is_refused}
+use Rattle.remote_clients.specs.Sessions.{noted_all, is_refused}
 use Rattle.node_core.specs.Node.{NodeView}
-use Rattle.daemon_model.specs.Sent.{Exchange, sent_calls}
+use Rattle.daemon_model.specs.Sent.{Exchange, sent_calls, number_after}
 use Rattle.daemon_model.specs.Daemon.{Daemon, left_for, stepped_for}
-use Rattle.daemon_model.specs.Doings.{since, MadeFront}
+use Rattle.daemon_model.specs.Doings.{Exchanges, writes, since, Made, MadeFront}
 use Rattle.daemon_model.proofs.AddLaws.{since_is}
+use Rattle.daemon_model.proofs.MadeLaws.{made_on, made_front_on, made_front_more}
 use Rattle.daemon_run.specs.Hosting.{Known}
 use Rattle.daemon_run.specs.declared.hosted.Hosted.{Hosted}
 use Rattle.daemon_run.specs.declared.running.Running.{Running}
@@ -24,7 +28,46 @@ use Rattle.daemon_run.proofs.NodeLaws.{from_work}
 pub silent : Answering
 silent = λ place sessions entry after p. None
 
+-- ---- what the node left
+
+module _ {C : Type 0} where
+  -- the packets were taken first
+  pub records_left : (r : Running C) (n : NodeView (Hosted C)) (records : List Happened) → n ≡ record (r.node) { core = record (r.node.core) { sends = [] } } → records ≡ n.core.records → records ≡ r.node.core.records
+  records_left r n records taken is = is ∙ ap (λ (m : NodeView (Hosted C)). m.core.records) taken
+
+  -- its lines were written, and its packets went out
+  pub left_made : (r : Running C) (sends : List Packet) (records : List Happened) (t u v : Telling) → sends ≡ r.node.core.sends → records ≡ r.node.core.records → Made t u (writes records) → Made u v (map Exchanges (sent_calls r.outbox.me r.outbox.incarnation r.outbox.number sends))
+      → Made t v (left_doings r)
+  left_made r sends records t u v sent recorded wrote went =
+      made_on t u v (writes r.node.core.records) (map Exchanges (sent_calls r.outbox.me r.outbox.incarnation r.outbox.number r.node.core.sends)) (subst (λ (rs : List Happened). Made t u (writes rs)) recorded wrote)
+      (subst (λ (ps : List Packet). Made u v (map Exchanges (sent_calls r.outbox.me r.outbox.incarnation r.outbox.number ps))) sent went)
+
+  -- its lines were written, and of its packets a front went out
+  pub left_unsent : (r : Running C) (sends : List Packet) (records : List Happened) (t u v : Telling) → sends ≡ r.node.core.sends → records ≡ r.node.core.records → Made t u (writes records) → MadeFront u v (map Exchanges (sent_calls r.outbox.me r.outbox.incarnation r.outbox.number sends))
+      → MadeFront t v (left_doings r)
+  left_unsent r sends records t u v sent recorded wrote front =
+      made_front_on t u v (writes r.node.core.records) (map Exchanges (sent_calls r.outbox.me r.outbox.incarnation r.outbox.number r.node.core.sends)) (subst (λ (rs : List Happened). Made t u (writes rs)) recorded wrote)
+      (subst (λ (ps : List Packet). MadeFront u v (map Exchanges (sent_calls r.outbox.me r.outbox.incarnation r.outbox.number ps))) sent front)
+
+  -- not even its lines were written
+  pub left_unwritten : (r : Running C) (records : List Happened) (t u : Telling) → records ≡ r.node.core.records → MadeFront t u (writes records) → MadeFront t u (left_doings r)
+  left_unwritten r records t u recorded front =
+      made_front_more t u (writes r.node.core.records) (map Exchanges (sent_calls r.outbox.me r.outbox.incarnation r.outbox.number r.node.core.sends)) (subst (λ (rs : List Happened). MadeFront t u (writes rs)) recorded front)
+
 module _ {C : Type 0} (calling : Option ℕ) where
+  -- and the lines came to who is to hear them
+  pub settles : (r s : Running C) (n m : NodeView (Hosted C)) (o : Outbox) (sends : List Packet) (records : List Happened) (t u : Telling) → n ≡ record (r.node) { core = record (r.node.core) { sends = [] } } → m ≡ record n { core = record (n.core) { records = [] } }
+      → sends ≡ r.node.core.sends → records ≡ r.node.core.records → o ≡ record (r.outbox) { number = number_after r.outbox.number sends } → s ≡ record r { node = m; outbox = o; sessions = option_map (noted_all calling records) r.sessions } → Made t u (left_doings r)
+      → Settles calling r s t u
+  settles r s n m o sends records t u taken left sent recorded number is made = record {
+    is =
+        is
+        ∙ (ap (λ (x : NodeView (Hosted C)). record r { node = x; outbox = o; sessions = option_map (noted_all calling records) r.sessions }) (left ∙ ap (λ (x : NodeView (Hosted C)). record x { core = record (x.core) { records = [] } }) taken)
+        ∙ (ap (λ (x : Outbox). record r { node = record (r.node) { core = at_work r.node.core }; outbox = x; sessions = option_map (noted_all calling records) r.sessions }) (number ∙ ap (λ (ps : List Packet). record (r.outbox) { number = number_after r.outbox.number ps }) sent)
+        ∙ ap (λ (rs : List Happened). record r { node = record (r.node) { core = at_work r.node.core }; outbox = record (r.outbox) { number = number_after r.outbox.number r.node.core.sends }; sessions = option_map (noted_all calling rs) r.sessions }) recorded));
+    made = made;
+  }
+
   step_is : (r : Running C) (f : Answering) (c : Core) (e : NodeEvent) (before : List Exchange) (noted : List Happened) → c ≡ stepped f r.node.core e
       → stepped_for calling f e (daemon_of r before noted) ≡ left_for calling (daemon_of r before noted) c
   unfolding stepped_for

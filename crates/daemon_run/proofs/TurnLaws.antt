@@ -1,33 +1,34 @@
 -- The parts of a turn, and turns.
-use Rattle.std.proofs.Common.{◌≡◌, ℕ, ◌+◌, ◌-◌, ◌≤◌, ◌<◌, Bool, true, false, List, [], ◌∷◌, ◌++◌, Option, Some, None, refl, sym, ◌∙◌, ap, ap₂, subst, append_assoc, append-nil}
+use Rattle.std.proofs.Common.{◌≡◌, ℕ, ◌+◌, ◌-◌, ◌≤◌, ◌<◌, true, false, List, [], ◌∷◌, ◌++◌, Option, Some, None, refl, sym, ◌∙◌, ap, ap₂, subst, append_assoc, append-nil}
 use Rattle.std.specs.Prelude.{option_map}
 use Rattle.std.proofs.lemmas.Bool.{le-leb, lt-leb}
 use Rattle.hags_io.specs.declared.link.LinkCall.{LinkCall}
 use Rattle.hags_io.specs.declared.link.LinkCall.TheVariants as call
 use Rattle.hags_io.specs.Deeds.{Read, Exchanged}
 use Rattle.hags_io.specs.Telling.{Telling, Did}
-use Rattle.hags_io.specs.Fronts.{Went, WentFront}
+use Rattle.hags_io.specs.Fronts.{WentFront}
 use Rattle.hags_io.proofs.FrontLaws.{went_as}
 use Rattle.link_use.specs.declared.receiving.Receiving.{Receiving}
-use Rattle.link_use.specs.Receiving.{IsReceive, Receives, ReceivesFront, received_by, whole_by}
+use Rattle.link_use.specs.declared.receiving.Whole.{Whole}
+use Rattle.link_use.specs.Receiving.{IsReceive, Receives, ReceivesFront, received_by, whole_in}
 use Rattle.link_use.proofs.SendLaws.{each_front}
 use Rattle.piece_link.specs.Joining.{Joining}
 use Rattle.node_state.specs.declared.happened.Happened.{Happened}
 use Rattle.node_state.specs.HandOn.{Answering}
 use Rattle.node_state.specs.Step.{Ticks, at_work}
 use Rattle.daemon_model.specs.Sent.{Exchange, plain, as_sent}
-use Rattle.daemon_model.specs.Daemon.{Daemon, Turn, stepped_by, is_due, ticked_if, ticked, joined_by, received, up_in, given_on, network_of, heard}
-use Rattle.daemon_model.specs.Actions.{Action, Hears, did, did_all, turn_actions}
+use Rattle.daemon_model.specs.Daemon.{Daemon, stepped_by, is_due, ticked_if, ticked, joined_by, received, up_in, given_on, network_of, heard}
+use Rattle.daemon_model.specs.Actions.{Hears, did, did_all}
 use Rattle.daemon_model.specs.Actions as actions
-use Rattle.daemon_model.specs.Doings.{Doing, Reads, Exchanges, step_doings, since, doings, doings_of, Made, MadeFront}
-use Rattle.daemon_model.proofs.MadeLaws.{made_nothing, made_on, all_made, none_made, made_front_on, made_front_more}
+use Rattle.daemon_model.specs.Doings.{Reads, Exchanges, step_doings, since, doings, doings_of, Made, MadeFront}
+use Rattle.daemon_model.proofs.MadeLaws.{made_nothing, made_on, made_front_on, made_front_more}
 use Rattle.daemon_run.specs.Hosting.{Known}
 use Rattle.daemon_run.specs.declared.hosted.Hosted.{Hosted}
 use Rattle.daemon_run.specs.declared.running.Running.{Running}
 use Rattle.remote_session.specs.Daemon.{SeenUp, NotUp, KeysFull, KnownKey, CallMade}
 use Rattle.daemon_run.specs.Audience.{Audience, StepHands, TickHands, BroughtHands, GivenHands, HeardHands}
-use Rattle.daemon_run.specs.Doing.{daemon_of, Comes, Goes, Breaks, Acts, ActsBreak, Passes, Attends, StepsAs, StepBreaks, TicksAs, TickBreaks, GivesAs, GiveBreaks, HearsAs, HearBreaks, TurnsAs, TurnBreaks}
-use Rattle.daemon_run.proofs.GoesLaws.{goes_none, goes_as, since_comes, breaks_as, acts_on, acts_break_none, acts_break_on, acts_break_more, attends_on}
+use Rattle.daemon_run.specs.Doing.{daemon_of, Comes, Acts, ActsBreak, Passes, StepsAs, StepBreaks, TicksAs, TickBreaks, GivesAs, GiveBreaks, HearsAs, HearBreaks, TurnsAs, TurnBreaks}
+use Rattle.daemon_run.proofs.GoesLaws.{goes_none, goes_as, since_comes, breaks_as, acts_on, acts_break_on, acts_break_more, attends_on}
 use Rattle.daemon_run.proofs.StepLaws.{silent}
 
 -- ---- when a tick is due
@@ -87,6 +88,12 @@ whole_message got j network message (Some m) e = (ap Some (sym (ap second e)), s
 no_message : (got : LinkCall) (o : Option (List ℕ)) → ◌≡◌ {A = Option (ℕ × List ℕ)} None (option_map (λ m. (network_of got, m)) o) → o ≡ None
 no_message got None e = refl
 no_message got (Some m) e = absurd cc
+
+-- a message was whole, of these bytes
+pub received_whole : (r q : Receiving) (o : Option Whole) (w : Whole) (bytes : List ℕ) (t u : Telling) → o ≡ Some w → bytes ≡ w.message.items → Receives r q (whole_in o) t u → Receives r q (Some (w.network, bytes)) t u
+received_whole r q o w bytes t u some is h =
+    let whole : List ℕ → Option (ℕ × List ℕ) = λ m. Some (w.network, m) in
+    subst (λ (x : Option (ℕ × List ℕ)). Receives r q x t u) (ap whole_in some ∙ sym (ap whole is)) h
 
 none_same : (m n : ℕ) (f : Answering) → given_on m None f ≡ given_on n None f
 unfolding given_on
@@ -192,8 +199,8 @@ module _ {C : Type 0} where
       let s : Running C = after_receive r h.got in
       let acts : Acts r s t u (Hears h.got silent ∷ []) =
       hear_acts r s h.got silent [] [] t u u h.receive h.told
-          (heard_comes r s h.got 0 None silent [] [] none (none_same (network_of h.got) 0 silent) (given_none s 0 silent))
-          (since_heard r s h.got None 0 silent [] [] none (none_same (network_of h.got) 0 silent) (given_none s 0 silent)) (made_nothing u) in
+      (heard_comes r s h.got 0 None silent [] [] none (none_same (network_of h.got) 0 silent) (given_none s 0 silent))
+      (since_heard r s h.got None 0 silent [] [] none (none_same (network_of h.got) 0 silent) (given_none s 0 silent)) (made_nothing u) in
       record {
         got = h.got;
         answers = silent;
@@ -235,7 +242,7 @@ module _ {C : Type 0} where
             let e : Daemon = daemon_of (after_receive r h.got) (before ++ plain (as_sent h.got) ∷ []) noted in
             let rest : since (received h.got (daemon_of r before noted)) (heard h.got g.answers (daemon_of r before noted)) ≡ since e (given_on network (Some message) g.answers e) =
             ap (λ (d : Daemon). since d (given_on (network_of h.got) (joined_by h.got r.receiving.joiner).message g.answers d)) (received_is r h.got before noted)
-                ∙ (ap (λ (o : Option (List ℕ)). since e (given_on (network_of h.got) o g.answers e)) whole.0 ∙ ap (λ (n : ℕ). since e (given_on n (Some message) g.answers e)) whole.1) in
+            ∙ (ap (λ (o : Option (List ℕ)). since e (given_on (network_of h.got) o g.answers e)) whole.0 ∙ ap (λ (n : ℕ). since e (given_on n (Some message) g.answers e)) whole.1) in
             subst (MadeFront t v) (sym (append-nil _ ∙ ap (λ x. Exchanges (plain (as_sent h.got)) ∷ x) rest))
             (made_front_on t u v (Exchanges (plain (as_sent h.got)) ∷ []) (since e (given_on network (Some message) g.answers e)) (got_made t u h.got h.receive h.told) (g.breaks (before ++ plain (as_sent h.got) ∷ []) noted));
       }

@@ -9,7 +9,7 @@ use Rattle.hags_io.proofs.FrontLaws.{went_as}
 use Rattle.node_state.specs.declared.happened.Happened.{Happened}
 use Rattle.world_model.specs.Text.{line_of}
 use Rattle.daemon_model.specs.Daemon.{records_text}
-use Rattle.daemon_model.specs.Doings.{Doing, Writes, writes, deed_of, Made, MadeFront}
+use Rattle.daemon_model.specs.Doings.{Writes, writes, Made, MadeFront}
 use Rattle.daemon_model.proofs.MadeLaws.{made_nothing, still_made}
 
 -- a front as long as the list is the list

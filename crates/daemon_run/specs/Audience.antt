@@ -15,7 +15,7 @@ use Rattle.node_state.specs.HandOn.{Answering}
 use Rattle.node_state.specs.Bytes.{event_of}
 use Rattle.node_state.specs.Handed.{Logged, logged_in}
 use Rattle.node_state.specs.State.{state_of}
-use Rattle.node_state.specs.Step.{NodeEvent, Ticks, Asks, Given, Calls, at_work, stepped}
+use Rattle.node_state.specs.Step.{NodeEvent, Ticks, Asks, Given, Calls, stepped}
 use Rattle.node_state.specs.Step as step
 use Rattle.node_calls.specs.Calling.{clients_with}
 use Rattle.entry_delivery.specs.Received.{handed_by, AreLogs, Handing, AreFor, logged_by, after_handings}

@@ -136,7 +136,7 @@ impl<C: Callbacks> Running<C> {
 
     /// A call happens, of this key or of none, and what it leaves is written and sent, and comes to who is to hear it.
     /// Answers whether it was refused.
-    #[tactic(auto, using(crate::proofs::StepLaws::step_done, crate::proofs::StepLaws::call_step_done, crate::proofs::StepLaws::step_broke, crate::proofs::StepLaws::step_none))]
+    #[tactic(auto, using(crate::proofs::StepLaws::step_done, crate::proofs::StepLaws::call_step_done, crate::proofs::StepLaws::step_none))]
     pub(crate) fn carry_call<H: Hosts<C>, O: Outside>(
         &mut self,
         alloc: Global,

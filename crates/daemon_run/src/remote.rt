@@ -136,7 +136,7 @@ impl<C: Callbacks> Running<C> {
 
     /// A whole message that came on this network: an Up of a client on another machine, where those are served, after
     /// which its Down is sent; or one for the node.
-    #[tactic(auto, using(crate::proofs::RemoteLaws::give_done, crate::proofs::RemoteLaws::give_broke, crate::proofs::RemoteLaws::known_done, crate::proofs::RemoteLaws::known_broke, crate::proofs::RemoteLaws::full_done, crate::proofs::RemoteLaws::full_broke, crate::proofs::RemoteLaws::call_done, crate::proofs::RemoteLaws::call_broke_off, crate::proofs::RemoteLaws::down_broke, crate::proofs::RemoteLaws::give_none))]
+    #[tactic(auto, using(crate::proofs::RemoteLaws::give_done, crate::proofs::RemoteLaws::give_broke, crate::proofs::RemoteLaws::known_done, crate::proofs::RemoteLaws::full_done, crate::proofs::RemoteLaws::call_done, crate::proofs::RemoteLaws::call_broke_off, crate::proofs::RemoteLaws::give_none))]
     pub(crate) fn give<H: Hosts<C>, O: Outside>(
         &mut self,
         alloc: Global,

@@ -53,7 +53,6 @@ impl<C: Callbacks> Running<C> {
     /// clients on other machines that are to hear them. So what a daemon wrote says at least what others know of it.
     /// Where that fails, a front of it was done. `calling`: the key whose call the step was, if it was one. Answers
     /// whether a call was refused in it.
-    #[tactic(auto, using(daemon_model::proofs::MadeLaws::made_on, daemon_model::proofs::MadeLaws::made_front_on, daemon_model::proofs::MadeLaws::made_front_more, daemon_model::proofs::MadeLaws::all_made))]
     pub fn settle<O: Outside>(
         &mut self,
         alloc: Global,
@@ -73,8 +72,7 @@ impl<C: Callbacks> Running<C> {
         let sends = self.node.take_sends(alloc);
         let records = self.node.take_records(alloc);
         write_records(alloc, records.as_slice(), outside)?;
-        self.outbox
-            .send_packets(alloc, sends.as_slice(), outside)?;
+        self.outbox.send_packets(alloc, sends.as_slice(), outside)?;
         self.note(alloc, calling, records.as_slice())?;
         Ok(is_refused(records.as_slice()))
     }
@@ -93,7 +91,7 @@ impl<C: Callbacks> Running<C> {
     }
 
     /// An event happens to the node; its lines are written, and what that leaves is sent.
-    #[tactic(auto, using(crate::proofs::StepLaws::step_done, crate::proofs::StepLaws::step_broke, crate::proofs::StepLaws::step_none))]
+    #[tactic(auto, using(crate::proofs::StepLaws::step_done, crate::proofs::StepLaws::step_none))]
     pub fn step<O: Outside>(
         &mut self,
         alloc: Global,

@@ -68,7 +68,7 @@ fn started<C: Callbacks>(
 }
 
 /// The start of the node, and the calls of the settings.
-#[tactic(auto, using(crate::proofs::CallLaws::begins_done, crate::proofs::CallLaws::begins_broke, crate::proofs::CallLaws::begins_stopped, crate::proofs::CallLaws::begins_none))]
+#[tactic(auto, using(crate::proofs::CallLaws::begins_done, crate::proofs::CallLaws::begins_none))]
 fn begin<C: Callbacks, H: Hosts<C>, O: Outside>(
     alloc: Global,
     script: &Script,
@@ -141,7 +141,7 @@ fn live<C: Callbacks, H: Hosts<C>, O: Outside>(
 /// an empty one; each with the notices and tellings behind it that the run handed to that client, in order, and the ballots
 /// that it filled. Of an object of which no list is known nothing is said. Just the clients of those lines vote by no items,
 /// so that no other client stands in place of an object.
-#[tactic(auto, using(link_use::proofs::OpenLaws::over_link, link_use::proofs::OpenLaws::not_opened, link_use::proofs::OpenLaws::ran, link_use::proofs::OpenLaws::rose_closed, crate::proofs::EndLaws::rose_writing, crate::proofs::EndLaws::rose_receiving))]
+#[tactic(auto, using(link_use::proofs::OpenLaws::over_link, link_use::proofs::OpenLaws::not_opened, link_use::proofs::OpenLaws::ran, link_use::proofs::OpenLaws::rose_closed))]
 pub fn serve<C: Callbacks, H: Hosts<C>, O: Outside>(
     alloc: Global,
     script: &Script,

@@ -42,7 +42,7 @@ impl<C: Callbacks> Running<C> {
     }
 
     /// A receive, with what comes of it.
-    #[tactic(auto, using(crate::proofs::TurnLaws::hear_done, crate::proofs::TurnLaws::hear_broke, crate::proofs::TurnLaws::hear_nothing, crate::proofs::TurnLaws::hear_none))]
+    #[tactic(auto, using(crate::proofs::TurnLaws::hear_nothing, crate::proofs::TurnLaws::hear_none))]
     fn hear<H: Hosts<C>, O: Outside>(
         &mut self,
         alloc: Global,
@@ -65,7 +65,13 @@ impl<C: Callbacks> Running<C> {
         match self.receiving.receive(alloc, buf, outside)? {
             None => Ok(()),
             Some(whole) => {
-                self.give(alloc, whole.message.as_slice(), whole.network, hosts, outside)
+                self.give(
+                    alloc,
+                    whole.message.as_slice(),
+                    whole.network,
+                    hosts,
+                    outside,
+                )
             }
         }
     }
@@ -97,7 +103,7 @@ impl<C: Callbacks> Running<C> {
     }
 
     /// So many turns; fewer where 16 receives fail in a row.
-    #[tactic(auto, using(crate::proofs::ServeLaws::turns_none, crate::proofs::ServeLaws::turns_unbegun, crate::proofs::ServeLaws::turns_next, crate::proofs::ServeLaws::turns_ended, crate::proofs::ServeLaws::turns_front, crate::proofs::ServeLaws::turns_broken, crate::proofs::ServeLaws::turns_all))]
+    #[tactic(auto, using(crate::proofs::ServeLaws::turns_none, crate::proofs::ServeLaws::turns_unbegun, crate::proofs::ServeLaws::turns_next, crate::proofs::ServeLaws::turns_all))]
     pub fn serve_turns<H: Hosts<C>, O: Outside>(
         &mut self,
         alloc: Global,

@@ -60,7 +60,7 @@ const REJECTED: &[u8] =
     b"up 1 5\nring 1 1 1.5.1 1 1\nin 1 1.1.5 1.5\nasked 1.5.7.1 1 db join\nput 1 1.1.5 db 0 begin join 1.5.7.1 phases=n\nheard 1.5.7.1 1.1.5 db 0 begin-join - =\ncast 1.5.7.1 1.1.5/0 1 R\n";
 
 /// What is left where these objects are handed to a daemon for three turns, in which what it sends comes back to it;
-/// none where it does not end with 0.
+/// none where it stops before.
 fn joined(
     alloc: Global,
     text: &[u8],
@@ -71,7 +71,7 @@ fn joined(
     let Some(script) = settings(alloc, text, 2) else {
         return Ok(None);
     };
-    if served(alloc, &script, 3, &mut edges, objects) == 0 {
+    if served(alloc, &script, 3, &mut edges, objects).is_ok() {
         Ok(Some(edges))
     } else {
         Ok(None)

@@ -1,5 +1,6 @@
 //! How a daemon ends, and settings that are refused.
-use crate::runs::{ALONE, ALONE_TEXT, Edges, Failing, served, settings, status};
+use crate::runs::{ALONE, ALONE_TEXT, Edges, Failing, end_of, served, settings};
+use link_use::Stop;
 use std::test::Fail;
 
 const FIFTEEN: &[u32] = &[1, 2, 3, 4, 5, 6, 7, 8, 9, 10, 11, 12, 13, 14, 15];
@@ -17,10 +18,10 @@ fn a_link_that_does_not_open_ends_it(rt: HostRuntime) -> Result<(), Fail> {
         ..Failing::nothing()
     };
     let mut edges = Edges::new(alloc, &[], &[0], failing)?;
-    assert!(rt; status(alloc, ALONE, 2, &mut edges) == Some(6));
+    assert!(rt; end_of(alloc, ALONE, 2, &mut edges) == Some(Err(Stop::LinkFault)));
     assert!(rt; edges.wrote(b""));
     assert!(rt; edges.called(b""));
-    assert!(rt; edges.link.opened() == Some((4001, false)));
+    assert!(rt; edges.outside.link.opened() == Some((4001, false)));
     Ok(())
 }
 
@@ -32,7 +33,7 @@ fn one_failed_receive_does_not_end_it(rt: HostRuntime) -> Result<(), Fail> {
         ..Failing::nothing()
     };
     let mut edges = Edges::new(alloc, &[], &[0], failing)?;
-    assert!(rt; status(alloc, ALONE, 3, &mut edges) == Some(0));
+    assert!(rt; end_of(alloc, ALONE, 3, &mut edges) == Some(Ok(())));
     assert!(rt; edges.wrote(ALONE_TEXT));
     assert!(rt; edges.called(b"QFQ"));
     Ok(())
@@ -42,17 +43,17 @@ fn one_failed_receive_does_not_end_it(rt: HostRuntime) -> Result<(), Fail> {
 fn sixteen_failed_receives_in_a_row_end_it(rt: HostRuntime) -> Result<(), Fail> {
     let alloc = rt.alloc();
     for (recvs, turns, want) in [
-        (SIXTEEN, 16, 6),
-        (FIFTEEN, 16, 0),
-        (SIXTEEN, 15, 0),
-        (SIXTEEN_APART, 40, 0),
+        (SIXTEEN, 16, Err(Stop::LinkFault)),
+        (FIFTEEN, 16, Ok(())),
+        (SIXTEEN, 15, Ok(())),
+        (SIXTEEN_APART, 40, Ok(())),
     ] {
         let failing = Failing {
             recvs,
             ..Failing::nothing()
         };
         let mut edges = Edges::new(alloc, &[], &[0], failing)?;
-        assert!(rt; status(alloc, ALONE, turns, &mut edges) == Some(want));
+        assert!(rt; end_of(alloc, ALONE, turns, &mut edges) == Some(want));
         assert!(rt; edges.wrote(ALONE_TEXT));
     }
     Ok(())
@@ -66,7 +67,7 @@ fn nothing_follows_the_sixteenth(rt: HostRuntime) -> Result<(), Fail> {
         ..Failing::nothing()
     };
     let mut edges = Edges::new(alloc, &[], &[0], failing)?;
-    assert!(rt; status(alloc, ALONE, 20, &mut edges) == Some(6));
+    assert!(rt; end_of(alloc, ALONE, 20, &mut edges) == Some(Err(Stop::LinkFault)));
     assert!(rt; edges.called(b"FFFFFFFFFFFFFFFF"));
     Ok(())
 }
@@ -79,14 +80,14 @@ fn an_output_that_fails_ends_it(rt: HostRuntime) -> Result<(), Fail> {
         ..Failing::nothing()
     };
     let mut edges = Edges::new(alloc, &[], &[0], failing)?;
-    assert!(rt; status(alloc, ALONE, 2, &mut edges) == Some(5));
+    assert!(rt; end_of(alloc, ALONE, 2, &mut edges) == Some(Err(Stop::WriteFault)));
     assert!(rt; edges.wrote(b""));
     assert!(rt; edges.called(b""));
     Ok(())
 }
 
 #[test]
-fn what_went_out_before_the_output_failed_stands(rt: HostRuntime) -> Result<(), Fail> {
+fn what_was_written_before_the_output_failed_stands(rt: HostRuntime) -> Result<(), Fail> {
     let alloc = rt.alloc();
     let text = b"node 1\nport 4000\nbegin\nclient 1 a A\njoin a db 7\n";
     let failing = Failing {
@@ -94,9 +95,10 @@ fn what_went_out_before_the_output_failed_stands(rt: HostRuntime) -> Result<(), 
         ..Failing::nothing()
     };
     let mut edges = Edges::new(alloc, &[], &[0], failing)?;
-    assert!(rt; status(alloc, text, 2, &mut edges) == Some(5));
+    assert!(rt; end_of(alloc, text, 2, &mut edges) == Some(Err(Stop::WriteFault)));
     assert!(rt; edges.wrote(ALONE_TEXT));
-    assert!(rt; edges.called(b"S"));
+    // The packet of the join is not sent, since its record was not written.
+    assert!(rt; edges.called(b""));
     Ok(())
 }
 
@@ -106,7 +108,7 @@ fn an_object_that_is_not_there_halts_it(rt: HostRuntime) -> Result<(), Fail> {
     let text = b"node 1\nport 4000\nbegin\nclient 1 a boxed\n";
     let script = settings(alloc, text, 1).ok_or("settings")?;
     let mut edges = Edges::sound(alloc, &[], &[0])?;
-    assert!(rt; served(alloc, &script, 2, &mut edges, Vec::new(alloc)) == 3);
+    assert!(rt; served(alloc, &script, 2, &mut edges, Vec::new(alloc)) == Err(Stop::NoMemory));
     assert!(rt; edges.wrote(ALONE_TEXT));
     assert!(rt; edges.called(b""));
     Ok(())
@@ -125,8 +127,8 @@ fn settings_are_refused_before_the_link_is_opened(rt: HostRuntime) -> Result<(),
         b"node 1\nbegin\nclient 1 a A\ngoodbye a\n".as_slice(),
     ] {
         let mut edges = Edges::sound(alloc, &[], &[0])?;
-        assert!(rt; status(alloc, text, 2, &mut edges) == None);
-        assert!(rt; edges.link.opened() == None);
+        assert!(rt; end_of(alloc, text, 2, &mut edges) == None);
+        assert!(rt; edges.outside.link.opened() == None);
     }
     Ok(())
 }

@@ -1,5 +1,6 @@
 //! Each send and each receive of a daemon that ticks forty times fails in turn.
-use crate::runs::{ALONE_TEXT, Edges, Failing, status};
+use crate::runs::{ALONE_TEXT, Edges, Failing, end_of};
+use link_use::Stop;
 use rsct_packet::NoMemory;
 use std::alloc::Global;
 use std::test::Fail;
@@ -19,12 +20,15 @@ const SIXTEEN: &[u32] = &[
     20, 21, 22, 23, 24, 25, 26, 27, 28, 29, 30, 31, 32, 33, 34, 35,
 ];
 
-/// The status of the forty turns where these calls fail, and how often it sent; none where it wrote something else.
-fn ends(alloc: Global, failing: Failing<'_>) -> Result<Option<(u8, usize)>, NoMemory> {
+/// How a daemon ended, and how often it sent.
+type Ended = (Result<(), Stop>, usize);
+
+/// How the forty turns end where these calls fail, and how often it sent; none where it wrote something else.
+fn ends(alloc: Global, failing: Failing<'_>) -> Result<Option<Ended>, NoMemory> {
     let mut edges = Edges::new(alloc, &[], MOMENTS, failing)?;
-    let ended = status(alloc, PAIR, 40, &mut edges);
+    let ended = end_of(alloc, PAIR, 40, &mut edges);
     Ok(match ended {
-        Some(status) if edges.wrote(ALONE_TEXT) => Some((status, edges.sends())),
+        Some(end) if edges.wrote(ALONE_TEXT) => Some((end, edges.sends())),
         _ => None,
     })
 }
@@ -39,7 +43,7 @@ fn one_failed_send_changes_nothing(rt: HostRuntime) -> Result<(), Fail> {
             ..Failing::nothing()
         };
         let ended = ends(alloc, failing)?;
-        assert!(rt; ended == Some((0, 40)), "at send {number}");
+        assert!(rt; ended == Some((Ok(()), 40)), "at send {number}");
     }
     Ok(())
 }
@@ -54,7 +58,7 @@ fn one_failed_receive_changes_nothing(rt: HostRuntime) -> Result<(), Fail> {
             ..Failing::nothing()
         };
         let ended = ends(alloc, failing)?;
-        assert!(rt; ended == Some((0, 40)), "at receive {number}");
+        assert!(rt; ended == Some((Ok(()), 40)), "at receive {number}");
     }
     Ok(())
 }
@@ -67,6 +71,6 @@ fn sixteen_failed_receives_in_the_middle_end_it(rt: HostRuntime) -> Result<(), F
         ..Failing::nothing()
     };
     let ended = ends(alloc, failing)?;
-    assert!(rt; ended == Some((6, 35)));
+    assert!(rt; ended == Some((Err(Stop::LinkFault), 35)));
     Ok(())
 }

@@ -1,5 +1,6 @@
 //! Clients on other machines: what a daemon that serves them answers.
-use crate::runs::{ALONE, ALONE_TEXT, Edges, served_as, serving, settings, status};
+use crate::runs::{ALONE, ALONE_TEXT, Edges, end_of, served_as, serving, settings};
+use link_use::Stop;
 use std::alloc::Global;
 use std::test::Fail;
 
@@ -39,8 +40,8 @@ const STRANGER_REFUSED: &[u8] =
 const REFUSED_TEXT: &[u8] =
     b"up 1 5\nring 1 1 1.5.1 1 1\nin 1 1.1.5 1.5\nrefused 1.a BAD_MEMBER_TOKEN\n";
 
-/// The status with which a daemon of a node alone ends that serves clients on other machines.
-fn status_to_all(alloc: Global, turns: u32, edges: &mut Edges) -> Option<u8> {
+/// How a daemon of a node alone ends that serves clients on other machines.
+fn end_to_all(alloc: Global, turns: u32, edges: &mut Edges) -> Option<Result<(), Stop>> {
     let script = settings(alloc, ALONE, 0)?;
     let left = Vec::new(alloc);
     Some(served_as(alloc, &script, serving(turns, true), edges, left))
@@ -50,7 +51,7 @@ fn status_to_all(alloc: Global, turns: u32, edges: &mut Edges) -> Option<u8> {
 fn a_call_is_taken_once(rt: HostRuntime) -> Result<(), Fail> {
     let alloc = rt.alloc();
     let mut edges = Edges::sound(alloc, &[CLIENT_ASKED, CLIENT_ASKED_AGAIN], &[0])?;
-    assert!(rt; status_to_all(alloc, 2, &mut edges) == Some(0));
+    assert!(rt; end_to_all(alloc, 2, &mut edges) == Some(Ok(())));
     assert!(rt; edges.called(b"DSDS"));
     assert!(rt; edges.sent_to(0, 1) == Some(CLIENT_TAKEN));
     assert!(rt; edges.sent_to(0, 3) == Some(CLIENT_STILL_TAKEN));
@@ -62,7 +63,7 @@ fn a_call_is_taken_once(rt: HostRuntime) -> Result<(), Fail> {
 fn a_client_hears_why_its_call_is_refused(rt: HostRuntime) -> Result<(), Fail> {
     let alloc = rt.alloc();
     let mut edges = Edges::sound(alloc, &[CLIENT_ASKED, LEAVE_ASKED], &[0])?;
-    assert!(rt; status_to_all(alloc, 2, &mut edges) == Some(0));
+    assert!(rt; end_to_all(alloc, 2, &mut edges) == Some(Ok(())));
     assert!(rt; edges.called(b"DSDS"));
     assert!(rt; edges.sent_to(0, 3) == Some(LEAVE_REFUSED));
     assert!(rt; edges.wrote(REFUSED_TEXT));
@@ -73,7 +74,7 @@ fn a_client_hears_why_its_call_is_refused(rt: HostRuntime) -> Result<(), Fail> {
 fn a_client_of_another_node_is_turned_down(rt: HostRuntime) -> Result<(), Fail> {
     let alloc = rt.alloc();
     let mut edges = Edges::sound(alloc, &[STRANGER_ASKED], &[0])?;
-    assert!(rt; status_to_all(alloc, 1, &mut edges) == Some(0));
+    assert!(rt; end_to_all(alloc, 1, &mut edges) == Some(Ok(())));
     assert!(rt; edges.called(b"DS"));
     assert!(rt; edges.sent_to(0, 1) == Some(STRANGER_REFUSED));
     assert!(rt; edges.wrote(ALONE_TEXT));
@@ -84,7 +85,7 @@ fn a_client_of_another_node_is_turned_down(rt: HostRuntime) -> Result<(), Fail> 
 fn an_up_is_no_packet_to_who_serves_no_other_machines(rt: HostRuntime) -> Result<(), Fail> {
     let alloc = rt.alloc();
     let mut edges = Edges::sound(alloc, &[CLIENT_ASKED], &[0])?;
-    assert!(rt; status(alloc, ALONE, 2, &mut edges) == Some(0));
+    assert!(rt; end_of(alloc, ALONE, 2, &mut edges) == Some(Ok(())));
     assert!(rt; edges.called(b"DQ"));
     assert!(rt; edges.wrote(ALONE_TEXT));
     Ok(())

@@ -1,5 +1,5 @@
 //! Questions of status clients, which a daemon answers.
-use crate::runs::{ALONE, Edges, status};
+use crate::runs::{ALONE, Edges, end_of};
 use std::test::Fail;
 
 /// A question in its piece: its number is 7, and it asks of rings.
@@ -36,7 +36,7 @@ fn a_question_is_answered_to_who_asks(rt: HostRuntime) -> Result<(), Fail> {
         (VOTES_ASKED, NOTHING_TOLD),
     ] {
         let mut edges = Edges::sound(alloc, &[asked], &[0])?;
-        assert!(rt; status(alloc, ALONE, 2, &mut edges) == Some(0));
+        assert!(rt; end_of(alloc, ALONE, 2, &mut edges) == Some(Ok(())));
         assert!(rt; edges.called(b"DSQ"));
         assert!(rt; edges.sent_to(0, 1) == Some(told));
     }
@@ -47,7 +47,7 @@ fn a_question_is_answered_to_who_asks(rt: HostRuntime) -> Result<(), Fail> {
 fn a_question_asked_twice_is_answered_twice(rt: HostRuntime) -> Result<(), Fail> {
     let alloc = rt.alloc();
     let mut edges = Edges::sound(alloc, &[RINGS_ASKED, RINGS_ASKED], &[0])?;
-    assert!(rt; status(alloc, ALONE, 2, &mut edges) == Some(0));
+    assert!(rt; end_of(alloc, ALONE, 2, &mut edges) == Some(Ok(())));
     assert!(rt; edges.called(b"DSDS"));
     assert!(rt; edges.sent_to(0, 1) == Some(RINGS_TOLD));
     Ok(())
@@ -57,7 +57,7 @@ fn a_question_asked_twice_is_answered_twice(rt: HostRuntime) -> Result<(), Fail>
 fn bytes_that_are_no_piece_are_dropped(rt: HostRuntime) -> Result<(), Fail> {
     let alloc = rt.alloc();
     let mut edges = Edges::sound(alloc, &[b"RP", b"", RINGS_ASKED], &[0])?;
-    assert!(rt; status(alloc, ALONE, 3, &mut edges) == Some(0));
+    assert!(rt; end_of(alloc, ALONE, 3, &mut edges) == Some(Ok(())));
     assert!(rt; edges.called(b"DDDS"));
     Ok(())
 }

@@ -4,7 +4,8 @@ ghost use Rattle.hags_io.specs.LinkMemory.{AreWithin, Ascend};
 
 use client_callbacks::{Callbacks, DaemonClient};
 use daemon_run::{Hosts, Objects, Serving, serve};
-use hags_io::{Clock, Link, LinkCall, LinkFails, MemClock, MemLink, MemSink, Sink};
+use hags_io::{History, LinkCall, LinkFails, MemClock, MemLink, MemSink, Outside, Parts};
+use link_use::Stop;
 use rsct_packet::NoMemory;
 use script_reader::read_daemon;
 use std::alloc::Global;
@@ -78,9 +79,7 @@ fn link_of(alloc: Global, pieces: &[&[u8]], failing: Failing<'_>) -> Result<MemL
 /// What a daemon runs over.
 #[derive(Drop)]
 pub(crate) struct Edges {
-    pub link: MemLink,
-    pub clock: MemClock,
-    pub out: MemSink,
+    pub outside: Parts<MemSink, MemLink, MemClock>,
 }
 
 impl Edges {
@@ -95,9 +94,12 @@ impl Edges {
         requires ascend { Ascend moments.now }
     {
         Ok(Edges {
-            link: link_of(alloc, pieces, failing)?,
-            clock: MemClock::new(Vec::from_slice(alloc, moments)?),
-            out: MemSink::new(alloc, Vec::from_slice(alloc, failing.puts)?),
+            outside: Parts {
+                out: MemSink::new(alloc, Vec::from_slice(alloc, failing.puts)?),
+                link: link_of(alloc, pieces, failing)?,
+                clock: MemClock::new(Vec::from_slice(alloc, moments)?),
+                history: History::new(),
+            },
         })
     }
 
@@ -111,19 +113,19 @@ impl Edges {
 
     /// Is this what was written?
     pub(crate) fn wrote(&self, text: &[u8]) -> bool {
-        self.out.held() == text
+        self.outside.out.held() == text
     }
 
     /// Are these the calls of the link: D for a datagram received, Q where none came, F for a failed receive, S for a
     /// send, L for a send that failed?
     pub(crate) fn called(&self, letters: &[u8]) -> bool {
-        let calls = self.link.calls();
+        let calls = self.outside.link.calls();
         calls.len() == letters.len() && calls.iter().map(letter).eq(letters.iter().copied())
     }
 
     /// How many sends there were, whether they went out or not.
     pub(crate) fn sends(&self) -> usize {
-        let calls = self.link.calls();
+        let calls = self.outside.link.calls();
         calls
             .iter()
             .filter(|call| matches!(call, LinkCall::Sent(_, _, _, _)))
@@ -132,7 +134,7 @@ impl Edges {
 
     /// What the call at this index sent, where it was a send to this node on network 1.
     pub(crate) fn sent_to(&self, node: u8, index: usize) -> Option<&[u8]> {
-        match self.link.calls().get(index)? {
+        match self.outside.link.calls().get(index)? {
             LinkCall::Sent(to, 1, piece, _) => {
                 if *to == node {
                     Some(piece.as_slice())
@@ -178,62 +180,62 @@ pub(crate) fn serving(turns: u32, remote: bool) -> Serving
     }
 }
 
-/// The status with which a daemon ends. Its node is let go here, where the kind of its clients is open.
-pub(crate) fn ended<C: Callbacks, H: Hosts<C>, K: Sink, L: Link, M: Clock>(
+/// How a daemon ends. Its node is let go here, where the kind of its clients is open.
+pub(crate) fn ended<C: Callbacks, H: Hosts<C>, O: Outside>(
     alloc: Global,
     script: &Script,
     serving: Serving,
-    out: &mut K,
-    link: &mut L,
-    clock: &mut M,
     hosts: &mut H,
-) -> u8
+    outside: &mut O,
+) -> Result<(), Stop>
     requires node { serving.me ≤ 32 }
     requires ports { script.now.config.port + 32 ≤ 65535 }
 {
-    let served = serve::<C, H, K, L, M>(alloc, script, serving, out, link, clock, hosts);
-    served.status
+    let _node = serve::<C, H, O>(alloc, script, serving, hosts, outside)?;
+    Ok(())
 }
 
-/// The status with which the daemon of these settings ends after so many turns, where these objects are handed to it.
+/// How the daemon of these settings ends after so many turns, where these objects are handed to it.
 pub(crate) fn served(
     alloc: Global,
     script: &Script,
     turns: u32,
     edges: &mut Edges,
     left: Vec<Box<dyn Callbacks>>,
-) -> u8
+) -> Result<(), Stop>
     requires { script.now.config.port + 32 ≤ 65535 }
 {
     served_as(alloc, script, serving(turns, false), edges, left)
 }
 
-/// The status with which such a daemon ends, where these objects are handed to it.
+/// How such a daemon ends, where these objects are handed to it.
 pub(crate) fn served_as(
     alloc: Global,
     script: &Script,
     serving: Serving,
     edges: &mut Edges,
     left: Vec<Box<dyn Callbacks>>,
-) -> u8
+) -> Result<(), Stop>
     requires node { serving.me ≤ 32 }
     requires ports { script.now.config.port + 32 ≤ 65535 }
 {
     let mut objects = Objects { left };
-    ended::<DaemonClient, Objects, MemSink, MemLink, MemClock>(
+    ended::<DaemonClient, Objects, Parts<MemSink, MemLink, MemClock>>(
         alloc,
         script,
         serving,
-        &mut edges.out,
-        &mut edges.link,
-        &mut edges.clock,
         &mut objects,
+        &mut edges.outside,
     )
 }
 
-/// The status with which the daemon of these settings ends after so many turns, without objects; none where the settings
-/// are refused.
-pub(crate) fn status(alloc: Global, text: &[u8], turns: u32, edges: &mut Edges) -> Option<u8> {
+/// How the daemon of these settings ends after so many turns, without objects; none where the settings are refused.
+pub(crate) fn end_of(
+    alloc: Global,
+    text: &[u8],
+    turns: u32,
+    edges: &mut Edges,
+) -> Option<Result<(), Stop>> {
     let script = settings(alloc, text, 0)?;
     Some(served(alloc, &script, turns, edges, Vec::new(alloc)))
 }

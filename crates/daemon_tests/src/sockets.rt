@@ -4,8 +4,9 @@ ghost use Rattle.std.specs.Prelude.{◌≤◌, ◌+◌, length};
 use crate::questions::{RINGS_ASKED, RINGS_TOLD};
 use crate::runs::{ended, serving, settings};
 use client_callbacks::DaemonClient;
-use daemon_run::{Objects, buffer};
-use hags_io::{Clock, Got, Link, MemSink, SysClock, UdpLink};
+use daemon_run::Objects;
+use hags_io::{Clock, Got, History, Link, MemSink, Parts, SysClock, UdpLink};
+use link_use::{Stop, buffer};
 use rsct_packet::NoMemory;
 use std::alloc::Global;
 use std::net::Net;
@@ -17,29 +18,31 @@ const LOCALHOST: u32 = 0x7f00_0001;
 
 /// How the daemon of these settings ends over a socket of its own, and what it wrote. Each of its 25 turns waits 20
 /// milliseconds at most, so it takes half a second.
-fn served_over<R: Net, M: Clock>(
+fn served_over<R: Net, M: Clock + Drop>(
     alloc: Global,
     rt: &R,
     script: &Script,
-    clock: &mut M,
-) -> Result<(u8, MemSink), NoMemory>
+    clock: M,
+) -> Result<(Result<(), Stop>, MemSink), NoMemory>
     requires { script.now.config.port + 32 ≤ 65535 }
 {
-    let mut link = UdpLink::new(alloc, rt)?;
-    let mut out = MemSink::new(alloc, Vec::new(alloc));
+    let mut outside = Parts {
+        out: MemSink::new(alloc, Vec::new(alloc)),
+        link: UdpLink::new(alloc, rt)?,
+        clock,
+        history: History::new(),
+    };
     let mut objects = Objects {
         left: Vec::new(alloc),
     };
-    let status = ended::<DaemonClient, Objects, MemSink, UdpLink<'_, R>, M>(
+    let ended = ended::<DaemonClient, Objects, Parts<MemSink, UdpLink<'_, R>, M>>(
         alloc,
         script,
         serving(25, false),
-        &mut out,
-        &mut link,
-        clock,
         &mut objects,
+        &mut outside,
     );
-    Ok((status, out))
+    Ok((ended, outside.out))
 }
 
 /// The client joins, and nobody else is waited for.
@@ -52,13 +55,12 @@ const JOINED: &[u8] =
 fn what_a_daemon_sends_to_itself_comes_back(rt: HostRuntime) -> Result<(), Fail> {
     let alloc = rt.alloc();
     let mut script = settings(alloc, JOINS, 0).ok_or("settings")?;
-    let mut clock = SysClock::new(&rt);
     // Other tests may run beside this one: the first port that is free is taken.
     for port in 48_000..48_100u16 {
         script.config.port = port;
-        let (status, out) = served_over(alloc, &rt, &script, &mut clock)?;
-        if status != 6 {
-            assert!(rt; status == 0);
+        let (ended, out) = served_over(alloc, &rt, &script, SysClock::new(&rt))?;
+        if ended != Err(Stop::LinkFault) {
+            assert!(rt; ended.is_ok());
             assert!(rt; out.held() == JOINED);
             return Ok(());
         }
@@ -115,15 +117,15 @@ fn who_asks_over_another_socket_is_answered(rt: HostRuntime) -> Result<(), Fail>
     for port in 48_100..48_200u16 {
         script.config.port = port;
         own.place(1, 1, LOCALHOST, port + 1);
-        let mut asking = Asking {
+        let asking = Asking {
             clock: SysClock::new(&rt),
             link: &mut own,
             has_asked: false,
         };
-        let (status, _out) = served_over(alloc, &rt, &script, &mut asking)?;
-        if status != 6 {
-            assert!(rt; status == 0);
-            let mut room = buffer(alloc, 65_536)?;
+        let (ended, _out) = served_over(alloc, &rt, &script, asking)?;
+        if ended != Err(Stop::LinkFault) {
+            assert!(rt; ended.is_ok());
+            let mut room = buffer(alloc)?;
             let buf = room.as_mut_slice();
             assert!(rt; received(&mut own, buf) == Got::Datagram(RINGS_TOLD.len(), 1));
             assert!(rt; buf.starts_with(RINGS_TOLD));

@@ -1,6 +1,6 @@
 //! The start of a daemon and its turns.
 use crate::questions::{RINGS_ASKED, RINGS_TOLD};
-use crate::runs::{ALONE, ALONE_TEXT, Edges, Failing, status};
+use crate::runs::{ALONE, ALONE_TEXT, Edges, Failing, end_of};
 use std::test::Fail;
 
 /// Settings of two nodes.
@@ -29,10 +29,10 @@ const REFUSED: &[u8] =
 fn a_node_alone_starts_and_sends_nothing(rt: HostRuntime) -> Result<(), Fail> {
     let alloc = rt.alloc();
     let mut edges = Edges::sound(alloc, &[], &[0])?;
-    assert!(rt; status(alloc, ALONE, 2, &mut edges) == Some(0));
+    assert!(rt; end_of(alloc, ALONE, 2, &mut edges) == Some(Ok(())));
     assert!(rt; edges.wrote(ALONE_TEXT));
     assert!(rt; edges.called(b"QQ"));
-    assert!(rt; edges.link.opened() == Some((4001, true)));
+    assert!(rt; edges.outside.link.opened() == Some((4001, true)));
     Ok(())
 }
 
@@ -41,8 +41,8 @@ fn each_adapter_is_at_the_port_of_its_node(rt: HostRuntime) -> Result<(), Fail> 
     let alloc = rt.alloc();
     let text = b"node 1\nnode 3\nadapter 1 2 10.0.0.1\nadapter 3 2 10.0.0.3\nport 4000\nbegin\n";
     let mut edges = Edges::sound(alloc, &[], &[0])?;
-    assert!(rt; status(alloc, text, 1, &mut edges) == Some(0));
-    let places = edges.link.places();
+    assert!(rt; end_of(alloc, text, 1, &mut edges) == Some(Ok(())));
+    let places = edges.outside.link.places();
     assert!(rt; places.get(1, 2) == Some((0x0a00_0001, 4001)));
     assert!(rt; places.get(3, 2) == Some((0x0a00_0003, 4003)));
     assert!(rt; places.get(1, 1) == None);
@@ -54,7 +54,7 @@ fn each_adapter_is_at_the_port_of_its_node(rt: HostRuntime) -> Result<(), Fail> 
 fn ticks_where_100_milliseconds_have_passed(rt: HostRuntime) -> Result<(), Fail> {
     let alloc = rt.alloc();
     let mut edges = Edges::sound(alloc, &[], &[50, 50, 149, 150, 249, 251, 350, 351])?;
-    assert!(rt; status(alloc, TWO, 7, &mut edges) == Some(0));
+    assert!(rt; end_of(alloc, TWO, 7, &mut edges) == Some(Ok(())));
     assert!(rt; edges.called(b"QQSQQSQQSQ"));
     assert!(rt; edges.sent_to(2, 2) == Some(PROCLAIM_1));
     assert!(rt; edges.sent_to(2, 5) == Some(PROCLAIM_2));
@@ -66,7 +66,7 @@ fn ticks_where_100_milliseconds_have_passed(rt: HostRuntime) -> Result<(), Fail>
 fn a_late_tick_is_one_tick(rt: HostRuntime) -> Result<(), Fail> {
     let alloc = rt.alloc();
     let mut edges = Edges::sound(alloc, &[], &[0, 1000, 1000, 1099, 1100])?;
-    assert!(rt; status(alloc, TWO, 4, &mut edges) == Some(0));
+    assert!(rt; end_of(alloc, TWO, 4, &mut edges) == Some(Ok(())));
     assert!(rt; edges.called(b"SQQQSQ"));
     Ok(())
 }
@@ -84,7 +84,10 @@ fn a_failed_send_is_a_lost_packet(rt: HostRuntime) -> Result<(), Fail> {
             ..Failing::nothing()
         };
         let mut edges = Edges::new(alloc, &[], &[0, 100, 200, 300], failing)?;
-        assert!(rt; status(alloc, TWO, 3, &mut edges) == Some(0), "send {lost}");
+        assert!(rt;
+            end_of(alloc, TWO, 3, &mut edges) == Some(Ok(())),
+            "send {lost}"
+        );
         assert!(rt; edges.called(calls), "send {lost}");
         assert!(rt; edges.wrote(ALONE_TEXT), "send {lost}");
     }
@@ -95,7 +98,7 @@ fn a_failed_send_is_a_lost_packet(rt: HostRuntime) -> Result<(), Fail> {
 fn a_view_below_the_promise_is_refused(rt: HostRuntime) -> Result<(), Fail> {
     let alloc = rt.alloc();
     let mut edges = Edges::sound(alloc, &[PREPARE_LATE], &[0])?;
-    assert!(rt; status(alloc, TWO, 2, &mut edges) == Some(0));
+    assert!(rt; end_of(alloc, TWO, 2, &mut edges) == Some(Ok(())));
     assert!(rt; edges.called(b"DSQ"));
     assert!(rt; edges.sent_to(2, 1) == Some(REFUSED));
     Ok(())
@@ -105,7 +108,7 @@ fn a_view_below_the_promise_is_refused(rt: HostRuntime) -> Result<(), Fail> {
 fn a_refusal_to_a_node_that_the_settings_lack_is_lost(rt: HostRuntime) -> Result<(), Fail> {
     let alloc = rt.alloc();
     let mut edges = Edges::sound(alloc, &[PREPARE_STRAY, RINGS_ASKED], &[0])?;
-    assert!(rt; status(alloc, TWO, 3, &mut edges) == Some(0));
+    assert!(rt; end_of(alloc, TWO, 3, &mut edges) == Some(Ok(())));
     assert!(rt; edges.called(b"DDSQ"));
     assert!(rt; edges.sent_to(0, 2) == Some(RINGS_TOLD));
     Ok(())

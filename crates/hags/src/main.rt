@@ -2,8 +2,8 @@
 #![tactic(auto)]
 
 use client_callbacks::{Callbacks, SteadyClient};
-use hags_cli::{Edges, hags};
-use hags_io::{StdSink, StdSource, SysClock, UdpLink};
+use hags_cli::{Edges, Output, hags};
+use hags_io::{History, Parts, StdSink, StdSource, SysClock, UdpLink};
 use std::process::ExitCode;
 use std::{env, io};
 
@@ -26,12 +26,17 @@ fn called(rt: &HostRuntime, words: &[String], clients: Vec<Box<dyn Callbacks>>) 
     };
     let mut edges = Edges {
         input: StdSource::new(rt.stdin()),
-        out: StdSink::new(rt.stdout()),
-        err: StdSink::new(rt.stderr()),
-        link,
-        clock: SysClock::new(rt),
+        output: Output {
+            outside: Parts {
+                out: StdSink::new(rt.stdout()),
+                link,
+                clock: SysClock::new(rt),
+                history: History::new(),
+            },
+        },
     };
-    hags(rt.alloc(), words, &mut edges, clients)
+    let mut err = StdSink::new(rt.stderr());
+    hags(rt.alloc(), words, &mut edges, &mut err, clients)
 }
 
 fn main(rt: HostRuntime) -> ExitCode {

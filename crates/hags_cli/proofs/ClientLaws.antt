@@ -1,5 +1,6 @@
 -- How a client of a daemon on another machine ends.
-use Rattle.std.proofs.Common.{◌≡◌, ℕ, List, length, ◌≤◌, true, Option, Some, None, IfSome, ◌∙◌, inr}
+use Rattle.std.proofs.Common.{◌≡◌, ℕ, List, length, ◌≤◌, true, Option, Some, None, IfSome, IsErr, IsErrAnd, refl, sym, ◌∙◌, subst, inr}
+use Rattle.std.specs.Prelude.{Result, Ok, Err}
 use Rattle.std.specs.Io.KnownBytes.{IsAtEnd}
 use Rattle.hags_io.specs.Edges.{Rose}
 use Rattle.world_model.specs.declared.script.Aim.TheVariants.{Asks}
@@ -7,11 +8,22 @@ use Rattle.world_model.specs.declared.script.LineWhy.{LineWhy}
 use Rattle.world_model.specs.declared.script.Script.{Script}
 use Rattle.world_model.specs.Reading.{IsScript, IsNone, input_limit}
 use Rattle.script_reader.specs.ClientScript.{client_script}
+use Rattle.script_reader.specs.Reading.{FailsScript}
+use Rattle.script_reader.specs.declared.faults.ScriptFault.{ScriptFault}
+use Rattle.script_reader.specs.declared.faults.ScriptFault.TheVariants as script_fault
+use Rattle.link_use.specs.declared.stop.Stop.{Stop}
+use Rattle.link_use.specs.declared.stop.Stop.TheVariants as stop
+use Rattle.client_run.specs.declared.client.ClientFault.{ClientFault}
+use Rattle.client_run.specs.declared.client.ClientFault.TheVariants as client_fault
 use Rattle.client_run.specs.declared.serving.Usage.{Usage}
 use Rattle.hags_cli.specs.declared.ending.Ending.{Ending}
 use Rattle.hags_cli.specs.declared.ending.Ending.TheVariants as ending
-use Rattle.hags_cli.specs.Run.{ReadsAs}
-use Rattle.hags_cli.specs.Tasks.{uses, Seen, Untouched, CallsEnd, UsesBy, UsesOver, UsesAll, WaitsOn, LosesSession, FindsFull, UsesPart, UsesNoMore, EndsAs}
+use Rattle.hags_cli.specs.declared.input.InputFault.{InputFault}
+use Rattle.hags_cli.specs.declared.input.InputFault.TheVariants as input_fault
+use Rattle.hags_cli.specs.Endings.{ending_of_input, ending_of_script, ending_of_client}
+use Rattle.hags_cli.specs.Run.{ReadsAs, InputFails}
+use Rattle.hags_cli.specs.Tasks.{uses, Seen, Untouched, CallsEnd, UsesBy, UsesOver, UsesAll, WaitsOn, LosesSession, FindsFull, UsesPart, UsesNoMore, FailsAs, EndsAs}
+use Rattle.hags_cli.proofs.EndLaws.{ended_by}
 use Rattle.hags_cli.proofs.LongInputs.{script_within_for}
 use Rattle.hags_cli.proofs.TaskLaws.{keeps_same, memory_ends}
 
@@ -22,7 +34,7 @@ unfolding client_script
 calls_have None front node s h e = tt
 calls_have (Some b) front node s h e = h true (Asks node) ∙ e
 
-pub calls_end : (left : Option (List ℕ)) (front : List ℕ) (node n : ℕ) (why : LineWhy) → IfSome left (ReadsAs front) → client_script node front ≡ IsNone n why → IfSome left (λ b. client_script node b ≡ IsNone n why)
+calls_end : (left : Option (List ℕ)) (front : List ℕ) (node n : ℕ) (why : LineWhy) → IfSome left (ReadsAs front) → client_script node front ≡ IsNone n why → IfSome left (λ b. client_script node b ≡ IsNone n why)
 unfolding client_script
 calls_end None front node n why h e = tt
 calls_end (Some b) front node n why h e = h true (Asks node) ∙ e
@@ -33,8 +45,22 @@ calls_are new front node s h e = h (script_within_for true (Asks node) front s e
 
 -- ---- calls that are not read
 
-pub uses_settings : (e : Ending) (u : Usage) (x : Seen) → x.now.held ≡ x.before.held → Untouched x → CallsEnd u.node x.left x.reads x.reads_now e → EndsAs e (Some (uses u)) x
-uses_settings ending.Done u x still touched h = absurd h
+pub input_ends : (node : ℕ) (left : Option (List ℕ)) (reads reads_now : ℕ) (f : InputFault) (e : Ending) → e ≡ ending_of_input f → InputFails reads reads_now f → CallsEnd node left reads reads_now e
+input_ends node left reads reads_now f e is h = subst (λ (z : Ending). CallsEnd node left reads reads_now z) (sym is) (by f h)
+  where
+    by : (f : InputFault) → InputFails reads reads_now f → CallsEnd node left reads reads_now (ending_of_input f)
+    by input_fault.ReadFault h = h
+    by input_fault.NoMemory h = tt
+
+pub script_ends : (node : ℕ) (left : Option (List ℕ)) (reads reads_now : ℕ) (front : List ℕ) (f : ScriptFault) (e : Ending) → e ≡ ending_of_script f → IfSome left (ReadsAs front) → FailsScript f (client_script node front)
+    → CallsEnd node left reads reads_now e
+script_ends node left reads reads_now front f e is whole h = subst (λ (z : Ending). CallsEnd node left reads reads_now z) (sym is) (by f h)
+  where
+    by : (f : ScriptFault) → FailsScript f (client_script node front) → CallsEnd node left reads reads_now (ending_of_script f)
+    by (script_fault.Line number why) h = calls_end left front node number why whole h
+    by script_fault.NoMemory h = tt
+
+pub uses_settings : (e : Ending) (u : Usage) (x : Seen) → x.now.held ≡ x.before.held → Untouched x → CallsEnd u.node x.left x.reads x.reads_now e → FailsAs e (Some (uses u)) x
 uses_settings ending.Usage u x still touched h = absurd h
 uses_settings (ending.BadLine line why) u x still touched h = (h, keeps_same x still, touched)
 uses_settings ending.NoMemory u x still touched h = memory_ends (Some (uses u)) x still touched
@@ -52,23 +78,21 @@ module _ (u : Usage) (x : Seen) (s : Script) (spelled : IfSome x.left (λ b. cli
   used_by : (P : Script → Type 0) → P s → UsesBy x u P
   used_by P h = record { script = s; spelled = spelled; holds = h }
 
-  pub uses_done : IsAtEnd x.rest → UsesOver x u (UsesAll x u) s → EndsAs ending.Done (Some (uses u)) x
+  pub uses_done : IsAtEnd x.rest → UsesOver x u (UsesAll x u) s → EndsAs (Ok tt) (Some (uses u)) x
   uses_done end h = (used_by (UsesOver x u (UsesAll x u)) h, end)
 
-  pub uses_no_reply : UsesOver x u (WaitsOn x u) s → EndsAs ending.NoReply (Some (uses u)) x
-  uses_no_reply h = used_by (UsesOver x u (WaitsOn x u)) h
-
-  pub uses_lost : UsesOver x u (LosesSession x u) s → EndsAs ending.SessionLost (Some (uses u)) x
-  uses_lost h = used_by (UsesOver x u (LosesSession x u)) h
-
-  pub uses_full : UsesOver x u (FindsFull x u) s → EndsAs ending.DaemonFull (Some (uses u)) x
-  uses_full h = used_by (UsesOver x u (FindsFull x u)) h
-
-  pub uses_no_more : Rose x.before.link_faults x.now.link_faults → UsesNoMore x u s → EndsAs ending.LinkFault (Some (uses u)) x
-  uses_no_more rose h = (rose, used_by (UsesNoMore x u) h)
-
-  pub uses_part : Rose x.before.write_faults x.now.write_faults → UsesPart x u s → EndsAs ending.WriteFault (Some (uses u)) x
-  uses_part rose h = (rose, used_by (UsesPart x u) h)
-
-  pub uses_no_memory : UsesPart x u s → EndsAs ending.NoMemory (Some (uses u)) x
-  uses_no_memory h = inr (used_by (UsesPart x u) h)
+  -- by whatever fault it ended
+  pub uses_fault : (r : Result (Unit {0}) Ending) (f : ClientFault) → IsErr r × IsErrAnd r (λ e. e ≡ ending_of_client f) → (f ≡ client_fault.NoReply → UsesOver x u (WaitsOn x u) s) → (f ≡ client_fault.Lost → UsesOver x u (LosesSession x u) s) → (f ≡ client_fault.Full → UsesOver x u (FindsFull x u) s)
+      → (f ≡ client_fault.Stop stop.LinkFault → UsesNoMore x u s) → UsesPart x u s → (f ≡ client_fault.Stop stop.WriteFault → Rose x.before.write_faults x.now.write_faults) → (f ≡ client_fault.Stop stop.LinkFault → Rose x.before.link_faults x.now.link_faults)
+      → EndsAs r (Some (uses u)) x
+  uses_fault r f is unanswered lost full failing part wrote failed = ended_by r (ending_of_client f) (λ q. EndsAs q (Some (uses u)) x) is (by f unanswered lost full failing wrote failed)
+    where
+      by : (f : ClientFault) → (f ≡ client_fault.NoReply → UsesOver x u (WaitsOn x u) s) → (f ≡ client_fault.Lost → UsesOver x u (LosesSession x u) s) → (f ≡ client_fault.Full → UsesOver x u (FindsFull x u) s)
+          → (f ≡ client_fault.Stop stop.LinkFault → UsesNoMore x u s) → (f ≡ client_fault.Stop stop.WriteFault → Rose x.before.write_faults x.now.write_faults) → (f ≡ client_fault.Stop stop.LinkFault → Rose x.before.link_faults x.now.link_faults)
+          → FailsAs (ending_of_client f) (Some (uses u)) x
+      by client_fault.NoReply unanswered lost full failing wrote failed = used_by (UsesOver x u (WaitsOn x u)) (unanswered refl)
+      by client_fault.Lost unanswered lost full failing wrote failed = used_by (UsesOver x u (LosesSession x u)) (lost refl)
+      by client_fault.Full unanswered lost full failing wrote failed = used_by (UsesOver x u (FindsFull x u)) (full refl)
+      by (client_fault.Stop stop.NoMemory) unanswered lost full failing wrote failed = inr (used_by (UsesPart x u) part)
+      by (client_fault.Stop stop.WriteFault) unanswered lost full failing wrote failed = (wrote refl, used_by (UsesPart x u) part)
+      by (client_fault.Stop stop.LinkFault) unanswered lost full failing wrote failed = (failed refl, used_by (UsesNoMore x u) (failing refl))

@@ -6,3 +6,5 @@ pub mod LoadLaws
 pub mod SettingsLaws
 pub mod CommandLaws
 pub mod ClientLaws
+pub mod OutputLaws
+pub mod EndLaws

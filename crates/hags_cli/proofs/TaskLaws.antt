@@ -1,11 +1,16 @@
 -- From how a call ended to what its status says.
-use Rattle.std.proofs.Common.{◌≡◌, ◌≢◌, ℕ, ◌≤◌, List, [], ◌++◌, Option, Some, None, IfSome, IfNone, refl, sym, ◌∙◌, ap, subst, inl, inr, arith, ◌⊎◌}
+use Rattle.std.proofs.Common.{◌≡◌, ◌≢◌, ℕ, ◌-◌, ◌^◌, ◌≤◌, min, List, [], ◌++◌, Option, Some, None, IfSome, IfNone, refl, sym, ◌∙◌, ap, subst, inl, inr, arith, ◌⊎◌}
 use Rattle.std.specs.Prelude.{codes, decimal}
+use Rattle.std.specs.Prelude.{Result, Ok, Err}
 use Rattle.std.specs.Io.KnownBytes.{Appends, Keeps, IsAtEnd}
+use Rattle.std.proofs.KnownBytes.{Keeps-refl}
 use Rattle.hags_io.specs.declared.source.Put.{Put}
 use Rattle.hags_io.specs.declared.source.Put.TheVariants as put
 use Rattle.hags_io.specs.Edges.{GrowsByFront, Rose, Puts}
 use Rattle.hags_io.proofs.ByteLaws.{none_grew}
+use Rattle.hags_io.specs.Telling.{Telling}
+use Rattle.hags_words.specs.declared.command.Command.{Command}
+use Rattle.hags_words.specs.declared.command.Command.TheVariants as command
 use Rattle.node_state.specs.declared.happened.Happened.{Happened}
 use Rattle.world_model.specs.declared.script.LineWhy.{LineWhy}
 use Rattle.world_model.specs.Reading.{IsScript, IsNone, script_of}
@@ -18,26 +23,14 @@ use Rattle.transcript.proofs.KindLaws.{all_lines, named_lines}
 use Rattle.script_reader.specs.ClientScript.{client_script}
 use Rattle.hags_cli.specs.declared.ending.Ending.{Ending}
 use Rattle.hags_cli.specs.declared.ending.Ending.TheVariants as ending
-use Rattle.hags_cli.specs.Run.{PlaysAll, PlaysPast, PlaysFront, MayHavePlayed, Says, SpellsScript, OnBadLine, PlaysTo, status_of, said_of, ending_text}
-use Rattle.hags_cli.specs.Tasks.{Task, plays, loads, tells, serves, asks, uses, shown_of, Shows, played_as, Asks, Seen, Untouched, counted, HasFault, IsOutside, OutsideAs, OutsideAt, ReadFaultAs, LinkFaultAs, NoReplyAs, LostAs, FullAs, SpellsSettings, SpellsCalls, CanBeDone, LoadEnds, TellEnds, EndsAs, Ended, SaysLine}
+use Rattle.hags_cli.specs.Endings.{Says, status_of, said_of, ending_text}
+use Rattle.hags_cli.specs.Run.{PlaysAll, PlaysPast, PlaysFront, MayHavePlayed, RunEnds, SpellsScript}
+use Rattle.hags_cli.specs.Tasks.{Task, plays, loads, tells, serves, asks, uses, list_in, shown_of, Shows, played_as, task_asked, Asks, Seen, Untouched, counted, HasFault, IsOutside, OutsideAs, OutsideAt, ReadFaultAs, LinkFaultAs, NoReplyAs, LostAs, FullAs, SpellsSettings, SpellsCalls, CanBeDone, DoneAs, LoadEnds, TellEnds, FailsAs, EndsAs, Ended, SaysLine}
+use Rattle.hags_cli.proofs.OutputLaws.{rose_within}
 
 -- ---- which ending a status is
 
-status_done : (e : Ending) → status_of e ≡ 0 → e ≡ ending.Done
-status_done ending.Done h = refl
-status_done ending.Usage h = absurd (omega arith)
-status_done (ending.BadLine n why) h = absurd (omega arith)
-status_done ending.NoMemory h = absurd (omega arith)
-status_done ending.ReadFault h = absurd (omega arith)
-status_done ending.WriteFault h = absurd (omega arith)
-status_done ending.LinkFault h = absurd (omega arith)
-status_done ending.TooMuchKept h = absurd (omega arith)
-status_done ending.NoReply h = absurd (omega arith)
-status_done ending.SessionLost h = absurd (omega arith)
-status_done ending.DaemonFull h = absurd (omega arith)
-
 status_usage : (e : Ending) → status_of e ≡ 1 → e ≡ ending.Usage
-status_usage ending.Done h = absurd (omega arith)
 status_usage ending.Usage h = refl
 status_usage (ending.BadLine n why) h = absurd (omega arith)
 status_usage ending.NoMemory h = absurd (omega arith)
@@ -50,7 +43,6 @@ status_usage ending.SessionLost h = absurd (omega arith)
 status_usage ending.DaemonFull h = absurd (omega arith)
 
 status_no_memory : (e : Ending) → status_of e ≡ 3 → e ≡ ending.NoMemory
-status_no_memory ending.Done h = absurd (omega arith)
 status_no_memory ending.Usage h = absurd (omega arith)
 status_no_memory (ending.BadLine n why) h = absurd (omega arith)
 status_no_memory ending.NoMemory h = refl
@@ -63,7 +55,6 @@ status_no_memory ending.SessionLost h = absurd (omega arith)
 status_no_memory ending.DaemonFull h = absurd (omega arith)
 
 status_read_fault : (e : Ending) → status_of e ≡ 4 → e ≡ ending.ReadFault
-status_read_fault ending.Done h = absurd (omega arith)
 status_read_fault ending.Usage h = absurd (omega arith)
 status_read_fault (ending.BadLine n why) h = absurd (omega arith)
 status_read_fault ending.NoMemory h = absurd (omega arith)
@@ -76,7 +67,6 @@ status_read_fault ending.SessionLost h = absurd (omega arith)
 status_read_fault ending.DaemonFull h = absurd (omega arith)
 
 status_write_fault : (e : Ending) → status_of e ≡ 5 → e ≡ ending.WriteFault
-status_write_fault ending.Done h = absurd (omega arith)
 status_write_fault ending.Usage h = absurd (omega arith)
 status_write_fault (ending.BadLine n why) h = absurd (omega arith)
 status_write_fault ending.NoMemory h = absurd (omega arith)
@@ -89,7 +79,6 @@ status_write_fault ending.SessionLost h = absurd (omega arith)
 status_write_fault ending.DaemonFull h = absurd (omega arith)
 
 status_link_fault : (e : Ending) → status_of e ≡ 6 → e ≡ ending.LinkFault
-status_link_fault ending.Done h = absurd (omega arith)
 status_link_fault ending.Usage h = absurd (omega arith)
 status_link_fault (ending.BadLine n why) h = absurd (omega arith)
 status_link_fault ending.NoMemory h = absurd (omega arith)
@@ -102,7 +91,6 @@ status_link_fault ending.SessionLost h = absurd (omega arith)
 status_link_fault ending.DaemonFull h = absurd (omega arith)
 
 status_too_much_kept : (e : Ending) → status_of e ≡ 7 → e ≡ ending.TooMuchKept
-status_too_much_kept ending.Done h = absurd (omega arith)
 status_too_much_kept ending.Usage h = absurd (omega arith)
 status_too_much_kept (ending.BadLine n why) h = absurd (omega arith)
 status_too_much_kept ending.NoMemory h = absurd (omega arith)
@@ -115,7 +103,6 @@ status_too_much_kept ending.SessionLost h = absurd (omega arith)
 status_too_much_kept ending.DaemonFull h = absurd (omega arith)
 
 status_no_reply : (e : Ending) → status_of e ≡ 9 → e ≡ ending.NoReply
-status_no_reply ending.Done h = absurd (omega arith)
 status_no_reply ending.Usage h = absurd (omega arith)
 status_no_reply (ending.BadLine n why) h = absurd (omega arith)
 status_no_reply ending.NoMemory h = absurd (omega arith)
@@ -128,7 +115,6 @@ status_no_reply ending.SessionLost h = absurd (omega arith)
 status_no_reply ending.DaemonFull h = absurd (omega arith)
 
 status_lost : (e : Ending) → status_of e ≡ 10 → e ≡ ending.SessionLost
-status_lost ending.Done h = absurd (omega arith)
 status_lost ending.Usage h = absurd (omega arith)
 status_lost (ending.BadLine n why) h = absurd (omega arith)
 status_lost ending.NoMemory h = absurd (omega arith)
@@ -141,7 +127,6 @@ status_lost ending.SessionLost h = refl
 status_lost ending.DaemonFull h = absurd (omega arith)
 
 status_full : (e : Ending) → status_of e ≡ 11 → e ≡ ending.DaemonFull
-status_full ending.Done h = absurd (omega arith)
 status_full ending.Usage h = absurd (omega arith)
 status_full (ending.BadLine n why) h = absurd (omega arith)
 status_full ending.NoMemory h = absurd (omega arith)
@@ -155,8 +140,8 @@ status_full ending.DaemonFull h = refl
 
 -- ---- what each status says
 
-ended_as : (e f : Ending) (t : Option Task) (x : Seen) → e ≡ f → EndsAs e t x → EndsAs f t x
-ended_as e f t x is h = subst (λ (z : Ending). EndsAs z t x) is h
+ended_as : (e f : Ending) (t : Option Task) (x : Seen) → e ≡ f → FailsAs e t x → FailsAs f t x
+ended_as e f t x is h = subst (λ (z : Ending). FailsAs z t x) is h
 
 outside : (task : Task) (left : Option (List ℕ)) (n : ℕ) (why : LineWhy) → IfSome left (HasFault task n why) → IfSome left (IsOutside task)
 outside task None n why h = tt
@@ -171,8 +156,7 @@ outside_as (Some (serves s objects)) n why x h = (outside (serves s objects) x.l
 outside_as (Some (asks a)) n why x h = (outside (asks a) x.left n why h.0, h.1, h.2)
 outside_as (Some (uses u)) n why x h = (outside (uses u) x.left n why h.0, h.1, h.2)
 
-ended_outside : (e : Ending) (t : Option Task) (x : Seen) → EndsAs e t x → status_of e ≡ 2 → Asks t (OutsideAs x)
-ended_outside ending.Done t x h s = absurd (omega arith)
+ended_outside : (e : Ending) (t : Option Task) (x : Seen) → FailsAs e t x → status_of e ≡ 2 → Asks t (OutsideAs x)
 ended_outside ending.Usage t x h s = absurd (omega arith)
 ended_outside (ending.BadLine n why) t x h s = outside_as t n why x h
 ended_outside ending.NoMemory t x h s = absurd (omega arith)
@@ -185,11 +169,10 @@ ended_outside ending.SessionLost t x h s = absurd (omega arith)
 ended_outside ending.DaemonFull t x h s = absurd (omega arith)
 
 -- words that ask for nothing
-ended_words : (e : Ending) (t : Option Task) (x : Seen) → EndsAs e t x → t ≡ None → (status_of e ≡ 1) ⊎ (status_of e ≡ 3)
-ended_words e t x h none = by e (subst (λ (z : Option Task). EndsAs e z x) none h)
+ended_words : (e : Ending) (t : Option Task) (x : Seen) → FailsAs e t x → t ≡ None → (status_of e ≡ 1) ⊎ (status_of e ≡ 3)
+ended_words e t x h none = by e (subst (λ (z : Option Task). FailsAs e z x) none h)
   where
-    by : (e : Ending) → EndsAs e None x → (status_of e ≡ 1) ⊎ (status_of e ≡ 3)
-    by ending.Done h = absurd h
+    by : (e : Ending) → FailsAs e None x → (status_of e ≡ 1) ⊎ (status_of e ≡ 3)
     by ending.Usage h = inl refl
     by (ending.BadLine n why) h = absurd h
     by ending.NoMemory h = inr refl
@@ -202,7 +185,6 @@ ended_words e t x h none = by e (subst (λ (z : Option Task). EndsAs e z x) none
     by ending.DaemonFull h = absurd h
 
 status_known : (e : Ending) → (status_of e ≤ 7) ⊎ ((9 ≤ status_of e) × (status_of e ≤ 11))
-status_known ending.Done = inl (omega arith)
 status_known ending.Usage = inl (omega arith)
 status_known (ending.BadLine n why) = inl (omega arith)
 status_known ending.NoMemory = inl (omega arith)
@@ -250,9 +232,8 @@ asks_nothing : (t : Option Task) (P : Task → Type 0) → t ≡ None → Asks t
 asks_nothing t P none h = subst (λ (z : Option Task). Asks z P) none h
 
 -- where each ending has its cause, what can be done leaves three of them
-ended_complete : (e : Ending) (t : Option Task) (x : Seen) → EndsAs e t x → Asks t (CanBeDone x) → (Rose x.reads x.reads_now → ⊥) → (Rose x.before.write_faults x.now.write_faults → ⊥) → (Asks t (LinkFaultAs x) → ⊥) → (Asks t (NoReplyAs x) → ⊥) → (Asks t (LostAs x) → ⊥) → (Asks t (FullAs x) → ⊥)
+ended_complete : (e : Ending) (t : Option Task) (x : Seen) → FailsAs e t x → Asks t (CanBeDone x) → (Rose x.reads x.reads_now → ⊥) → (Rose x.before.write_faults x.now.write_faults → ⊥) → (Asks t (LinkFaultAs x) → ⊥) → (Asks t (NoReplyAs x) → ⊥) → (Asks t (LostAs x) → ⊥) → (Asks t (FullAs x) → ⊥)
     → (status_of e ≡ 0) ⊎ ((status_of e ≡ 3) ⊎ (status_of e ≡ 7))
-ended_complete ending.Done t x h can r w l n gone full = inl refl
 ended_complete ending.Usage t x h can r w l n gone full = absurd (asks_nothing t (CanBeDone x) h.0 can)
 ended_complete (ending.BadLine line why) t x h can r w l n gone full = absurd (outside_cannot t line why x h can)
 ended_complete ending.NoMemory t x h can r w l n gone full = inr (inl refl)
@@ -266,11 +247,23 @@ ended_complete ending.DaemonFull t x h can r w l n gone full = absurd (full h)
 
 -- ---- all of it
 
-ended_so : (e : Ending) (t : Option Task) (x : Seen) → EndsAs e t x → Ended (status_of e) t x
-ended_so e t x h = record {
+never_done : (e : Ending) → status_of e ≡ 0 → ⊥
+never_done ending.Usage h = omega arith
+never_done (ending.BadLine n why) h = omega arith
+never_done ending.NoMemory h = omega arith
+never_done ending.ReadFault h = omega arith
+never_done ending.WriteFault h = omega arith
+never_done ending.LinkFault h = omega arith
+never_done ending.TooMuchKept h = omega arith
+never_done ending.NoReply h = omega arith
+never_done ending.SessionLost h = omega arith
+never_done ending.DaemonFull h = omega arith
+
+failed_so : (e : Ending) (t : Option Task) (x : Seen) → FailsAs e t x → Ended (status_of e) t x
+failed_so e t x h = record {
   usage = λ s. ended_as e ending.Usage t x (status_usage e s) h;
   words = ended_words e t x h;
-  done = λ s. ended_as e ending.Done t x (status_done e s) h;
+  done = λ s. absurd (never_done e s);
   outside = ended_outside e t x h;
   memory = λ s. ended_as e ending.NoMemory t x (status_no_memory e s) h;
   read = λ s. ended_as e ending.ReadFault t x (status_read_fault e s) h;
@@ -284,8 +277,28 @@ ended_so e t x h = record {
   complete = ended_complete e t x h;
 }
 
-pub ended : (e : Ending) (n : ℕ) (t : Option Task) (x : Seen) → n ≡ status_of e → EndsAs e t x → Ended n t x
-ended e n t x is h = subst (λ (k : ℕ). Ended k t x) (sym is) (ended_so e t x h)
+-- a call that failed
+pub failed : (e : Ending) (n : ℕ) (t : Option Task) (x : Seen) → n ≡ status_of e → FailsAs e t x → Ended n t x
+failed e n t x is h = subst (λ (k : ℕ). Ended k t x) (sym is) (failed_so e t x h)
+
+-- a call that was done
+pub done : (t : Option Task) (x : Seen) → Asks t (DoneAs x) → Ended 0 t x
+done t x h = record {
+  usage = λ s. absurd (omega arith);
+  words = λ none. absurd (asks_nothing t (DoneAs x) none h);
+  done = λ s. h;
+  outside = λ s. absurd (omega arith);
+  memory = λ s. absurd (omega arith);
+  read = λ s. absurd (omega arith);
+  write = λ s. absurd (omega arith);
+  link = λ s. absurd (omega arith);
+  past = λ s. absurd (omega arith);
+  no_reply = λ s. absurd (omega arith);
+  lost = λ s. absurd (omega arith);
+  full = λ s. absurd (omega arith);
+  no_other = inl (omega arith);
+  complete = λ can read write link reply gone full. inl refl;
+}
 
 -- ---- what is said
 
@@ -306,7 +319,6 @@ says_bad_line e n why text faults later old new is line g =
     subst (λ (x : Ending). Says faults later old new (ending_text x)) (sym is) (subst (Says faults later old new) line g)
 
 said_as : (e : Ending) → (status_of e ≡ 2 → ⊥) → ending_text e ≡ said_of (status_of e)
-said_as ending.Done other = refl
 said_as ending.Usage other = refl
 said_as (ending.BadLine line why) other = absurd (other refl)
 said_as ending.NoMemory other = refl
@@ -331,8 +343,7 @@ line_fault (Some (serves s objects)) n why x h = h.0
 line_fault (Some (asks a)) n why x h = h.0
 line_fault (Some (uses u)) n why x h = h.0
 
-says_line_of : (e : Ending) (t : Option Task) (x : Seen) (faults later : ℕ) (before after : Option (List ℕ)) → EndsAs e t x → Says faults later before after (ending_text e) → status_of e ≡ 2 → SaysLine t x.left faults later before after
-says_line_of ending.Done t x faults later before after p g h = absurd (omega arith)
+says_line_of : (e : Ending) (t : Option Task) (x : Seen) (faults later : ℕ) (before after : Option (List ℕ)) → FailsAs e t x → Says faults later before after (ending_text e) → status_of e ≡ 2 → SaysLine t x.left faults later before after
 says_line_of ending.Usage t x faults later before after p g h = absurd (omega arith)
 says_line_of (ending.BadLine n why) t x faults later before after p g h = record { line = n; why = why; fault = line_fault t n why x p; said = g }
 says_line_of ending.NoMemory t x faults later before after p g h = absurd (omega arith)
@@ -344,7 +355,7 @@ says_line_of ending.NoReply t x faults later before after p g h = absurd (omega 
 says_line_of ending.SessionLost t x faults later before after p g h = absurd (omega arith)
 says_line_of ending.DaemonFull t x faults later before after p g h = absurd (omega arith)
 
-pub says_line : (e : Ending) (n : ℕ) (t : Option Task) (x : Seen) (faults later : ℕ) (before after : Option (List ℕ)) → n ≡ status_of e → EndsAs e t x → Says faults later before after (ending_text e) → n ≡ 2 → SaysLine t x.left faults later before after
+pub says_line : (e : Ending) (n : ℕ) (t : Option Task) (x : Seen) (faults later : ℕ) (before after : Option (List ℕ)) → n ≡ status_of e → FailsAs e t x → Says faults later before after (ending_text e) → n ≡ 2 → SaysLine t x.left faults later before after
 says_line e n t x faults later before after is p g h = says_line_of e t x faults later before after p g (sym is ∙ h)
 
 -- ---- the kinds that are named
@@ -395,63 +406,74 @@ may_as f g e (Some b) old new (inr p) = inr (front_is f g e b old new p)
 pub untouched : (x : Seen) → x.now.deeds ≡ x.before.deeds → x.now.calls ≡ x.before.calls → x.now.places ≡ x.before.places → x.now.opened ≡ x.before.opened → x.now.moments ≡ x.before.moments → Untouched x
 untouched x deeds calls places opened moments = record { deeds = deeds; calls = calls; places = places; opened = opened; moments = moments }
 
-pub run_ends : (k : Kinds) (list : List ℕ) → ((rs : List Happened) → kinds_text k rs ≡ shown_of list rs) → (e : Ending) (x : Seen) → Untouched x → (e ≡ ending.Done → IfSome x.left (PlaysAll (kinds_text k) x.before.held x.now.held) × IsAtEnd x.rest)
-    → OnBadLine e (λ n why. IfSome x.left (λ b. script_of b ≡ IsNone n why) × Keeps x.before.held x.now.held) → (e ≡ ending.NoMemory → IfSome x.left (MayHavePlayed (kinds_text k) x.before.held x.now.held)) → (e ≡ ending.ReadFault → Rose x.reads x.reads_now × Keeps x.before.held x.now.held)
-    → (e ≡ ending.WriteFault → Rose x.before.write_faults x.now.write_faults × IfSome x.left (PlaysFront (kinds_text k) x.before.held x.now.held)) → (e ≡ ending.TooMuchKept → IfSome x.left (PlaysPast (kinds_text k) x.before.held x.now.held)) → PlaysTo e → EndsAs e (Some (plays list)) x
-run_ends k list same ending.Done x still done line memory read write past command = (all_as (kinds_text k) (shown_of list) same x.left x.before.held x.now.held (done refl).0, (done refl).1)
-run_ends k list same ending.Usage x still done line memory read write past command = absurd command
-run_ends k list same (ending.BadLine n why) x still done line memory read write past command = (line.0, line.1, still)
-run_ends k list same ending.NoMemory x still done line memory read write past command = may_as (kinds_text k) (shown_of list) same x.left x.before.held x.now.held (memory refl)
-run_ends k list same ending.ReadFault x still done line memory read write past command = ((read refl).0, (read refl).1, still)
-run_ends k list same ending.WriteFault x still done line memory read write past command = ((write refl).0, front_as (kinds_text k) (shown_of list) same x.left x.before.held x.now.held (write refl).1)
-run_ends k list same ending.LinkFault x still done line memory read write past command = absurd command
-run_ends k list same ending.TooMuchKept x still done line memory read write past command = past_as (kinds_text k) (shown_of list) same x.left x.before.held x.now.held (past refl)
-run_ends k list same ending.NoReply x still done line memory read write past command = absurd command
-run_ends k list same ending.SessionLost x still done line memory read write past command = absurd command
-run_ends k list same ending.DaemonFull x still done line memory read write past command = absurd command
-
-pub load_ends : (e : Ending) (steps : ℕ) (x : Seen) → x.rest ≡ x.left → LoadEnds e steps x.before.write_faults x.now.write_faults x.before.held x.now.held → EndsAs e (Some (loads steps)) x
-load_ends ending.Done steps x still h = (h, still)
-load_ends ending.Usage steps x still h = absurd h
-load_ends (ending.BadLine n why) steps x still h = absurd h
-load_ends ending.NoMemory steps x still h = h.written
-load_ends ending.ReadFault steps x still h = absurd h
-load_ends ending.WriteFault steps x still h = h
-load_ends ending.LinkFault steps x still h = absurd h
-load_ends ending.TooMuchKept steps x still h = h
-load_ends ending.NoReply steps x still h = absurd h
-load_ends ending.SessionLost steps x still h = absurd h
-load_ends ending.DaemonFull steps x still h = absurd h
-
-tells_so : (e : Ending) (text : List ℕ) (x : Seen) → x.rest ≡ x.left → TellEnds e text x.before.write_faults x.now.write_faults x.before.held x.now.held → EndsAs e (Some (tells text)) x
-tells_so ending.Done text x still h = (h, still)
-tells_so ending.Usage text x still h = absurd h
-tells_so (ending.BadLine n why) text x still h = absurd h
-tells_so ending.NoMemory text x still h = h
-tells_so ending.ReadFault text x still h = absurd h
-tells_so ending.WriteFault text x still h = h
-tells_so ending.LinkFault text x still h = absurd h
-tells_so ending.TooMuchKept text x still h = absurd h
-tells_so ending.NoReply text x still h = absurd h
-tells_so ending.SessionLost text x still h = absurd h
-tells_so ending.DaemonFull text x still h = absurd h
-
-pub tell_ends : (e : Ending) (text wanted : List ℕ) (x : Seen) → text ≡ wanted → x.rest ≡ x.left → TellEnds e text x.before.write_faults x.now.write_faults x.before.held x.now.held → EndsAs e (Some (tells wanted)) x
-tell_ends e text wanted x is still h = subst (λ (t : List ℕ). EndsAs e (Some (tells t)) x) is (tells_so e text x still h)
-
-pub keeps_itself : (held : Option (List ℕ)) → Keeps held held
-keeps_itself None = tt
-keeps_itself (Some bytes) = refl
-
 pub keeps_same : (x : Seen) → x.now.held ≡ x.before.held → Keeps x.before.held x.now.held
-keeps_same x still = subst (Keeps x.before.held) (sym still) (keeps_itself x.before.held)
+keeps_same x still = subst (Keeps x.before.held) (sym still) (Keeps-refl x.before.held)
+
+-- nothing was touched
+pub same_untouched : (x : Seen) → x.now ≡ x.before → Untouched x
+same_untouched x e = record {
+  deeds = ap (λ (t : Telling). t.deeds) e;
+  calls = ap (λ (t : Telling). t.calls) e;
+  places = ap (λ (t : Telling). t.places) e;
+  opened = ap (λ (t : Telling). t.opened) e;
+  moments = ap (λ (t : Telling). t.moments) e;
+}
+
+-- the lines of these kinds are those that are shown
+run_so : (k : Kinds) (list : List ℕ) → ((rs : List Happened) → kinds_text k rs ≡ shown_of list rs) → (r : Result (Unit {0}) Ending) (x : Seen) (still : Type 0) → (still → x.now ≡ x.before)
+    → RunEnds r (kinds_text k) x.left x.rest (Rose x.reads x.reads_now) (Rose (min x.before.write_faults (2 ^ 64 - 1)) (min x.now.write_faults (2 ^ 64 - 1))) still x.before.held x.now.held → EndsAs r (Some (plays list)) x
+run_so k list same (Ok u) x still as_was h = (all_as (kinds_text k) (shown_of list) same x.left x.before.held x.now.held h.0, h.1)
+run_so k list same (Err ending.Usage) x still as_was h = absurd h
+run_so k list same (Err (ending.BadLine n why)) x still as_was h = (h.0, keeps_same x (ap (λ (t : Telling). t.held) (as_was h.1)), same_untouched x (as_was h.1))
+run_so k list same (Err ending.NoMemory) x still as_was h = may_as (kinds_text k) (shown_of list) same x.left x.before.held x.now.held h
+run_so k list same (Err ending.ReadFault) x still as_was h = (h.0, keeps_same x (ap (λ (t : Telling). t.held) (as_was h.1)), same_untouched x (as_was h.1))
+run_so k list same (Err ending.WriteFault) x still as_was h = (rose_within x.before.write_faults x.now.write_faults h.0, front_as (kinds_text k) (shown_of list) same x.left x.before.held x.now.held h.1)
+run_so k list same (Err ending.LinkFault) x still as_was h = absurd h
+run_so k list same (Err ending.TooMuchKept) x still as_was h = past_as (kinds_text k) (shown_of list) same x.left x.before.held x.now.held h
+run_so k list same (Err ending.NoReply) x still as_was h = absurd h
+run_so k list same (Err ending.SessionLost) x still as_was h = absurd h
+run_so k list same (Err ending.DaemonFull) x still as_was h = absurd h
+
+pub run_ends : (objects : ℕ) (c : Option Command) (list : Option (List ℕ)) (k : Kinds) (r : Result (Unit {0}) Ending) (x : Seen) (still : Type 0) → c ≡ Some (command.Run list) → Shows k list → played_as list ≡ Some (plays (list_in list)) → (still → x.now ≡ x.before)
+    → RunEnds r (kinds_text k) x.left x.rest (Rose x.reads x.reads_now) (Rose (min x.before.write_faults (2 ^ 64 - 1)) (min x.now.write_faults (2 ^ 64 - 1))) still x.before.held x.now.held → EndsAs r (task_asked objects c) x
+run_ends objects c list k r x still is shows played as_was h =
+    subst (λ (t : Option Task). EndsAs r t x) (sym (ap (task_asked objects) is ∙ played)) (run_so k (list_in list) shows r x still as_was h)
+
+pub load_ends : (r : Result (Unit {0}) Ending) (steps : ℕ) (x : Seen) → x.rest ≡ x.left → LoadEnds r steps (min x.before.write_faults (2 ^ 64 - 1)) (min x.now.write_faults (2 ^ 64 - 1)) x.before.held x.now.held → EndsAs r (Some (loads steps)) x
+load_ends (Ok u) steps x still h = (h, still)
+load_ends (Err ending.Usage) steps x still h = absurd h
+load_ends (Err (ending.BadLine n why)) steps x still h = absurd h
+load_ends (Err ending.NoMemory) steps x still h = h.written
+load_ends (Err ending.ReadFault) steps x still h = absurd h
+load_ends (Err ending.WriteFault) steps x still h = (rose_within x.before.write_faults x.now.write_faults h.0, h.1)
+load_ends (Err ending.LinkFault) steps x still h = absurd h
+load_ends (Err ending.TooMuchKept) steps x still h = h
+load_ends (Err ending.NoReply) steps x still h = absurd h
+load_ends (Err ending.SessionLost) steps x still h = absurd h
+load_ends (Err ending.DaemonFull) steps x still h = absurd h
+
+tells_so : (r : Result (Unit {0}) Ending) (text : List ℕ) (x : Seen) → x.rest ≡ x.left → TellEnds r text (min x.before.write_faults (2 ^ 64 - 1)) (min x.now.write_faults (2 ^ 64 - 1)) x.before.held x.now.held → EndsAs r (Some (tells text)) x
+tells_so (Ok u) text x still h = (h, still)
+tells_so (Err ending.Usage) text x still h = absurd h
+tells_so (Err (ending.BadLine n why)) text x still h = absurd h
+tells_so (Err ending.NoMemory) text x still h = h
+tells_so (Err ending.ReadFault) text x still h = absurd h
+tells_so (Err ending.WriteFault) text x still h = (rose_within x.before.write_faults x.now.write_faults h.0, h.1)
+tells_so (Err ending.LinkFault) text x still h = absurd h
+tells_so (Err ending.TooMuchKept) text x still h = absurd h
+tells_so (Err ending.NoReply) text x still h = absurd h
+tells_so (Err ending.SessionLost) text x still h = absurd h
+tells_so (Err ending.DaemonFull) text x still h = absurd h
+
+pub tell_ends : (r : Result (Unit {0}) Ending) (text wanted : List ℕ) (x : Seen) → text ≡ wanted → x.rest ≡ x.left → TellEnds r text (min x.before.write_faults (2 ^ 64 - 1)) (min x.now.write_faults (2 ^ 64 - 1)) x.before.held x.now.held → EndsAs r (Some (tells wanted)) x
+tell_ends r text wanted x is still h = subst (λ (t : List ℕ). EndsAs r (Some (tells t)) x) is (tells_so r text x still h)
 
 nothing_played : (list : List ℕ) (left held now : Option (List ℕ)) → Keeps held now → IfSome left (MayHavePlayed (shown_of list) held now)
 nothing_played list None held now kept = tt
 nothing_played list (Some b) held now kept = inl kept
 
 -- before anything was done
-pub memory_ends : (t : Option Task) (x : Seen) → x.now.held ≡ x.before.held → Untouched x → EndsAs ending.NoMemory t x
+pub memory_ends : (t : Option Task) (x : Seen) → x.now.held ≡ x.before.held → Untouched x → FailsAs ending.NoMemory t x
 memory_ends None x still touched = keeps_same x still
 memory_ends (Some (plays list)) x still touched = nothing_played list x.left x.before.held x.now.held (keeps_same x still)
 memory_ends (Some (loads steps)) x still touched = none_grew x.before.held x.now.held _ (keeps_same x still)
@@ -460,5 +482,5 @@ memory_ends (Some (serves s objects)) x still touched = inl (keeps_same x still,
 memory_ends (Some (asks a)) x still touched = keeps_same x still
 memory_ends (Some (uses u)) x still touched = inl (keeps_same x still, touched)
 
-pub usage_ends : (t : Option Task) (x : Seen) → t ≡ None → x.now.held ≡ x.before.held → x.rest ≡ x.left → Untouched x → EndsAs ending.Usage t x
+pub usage_ends : (t : Option Task) (x : Seen) → t ≡ None → x.now.held ≡ x.before.held → x.rest ≡ x.left → Untouched x → FailsAs ending.Usage t x
 usage_ends t x none still rest touched = (none, keeps_same x still, rest, touched)

@@ -1,18 +1,19 @@
--- How an input is read, what a run leaves, and what is said of how it ended.
-use Rattle.std.specs.Prelude.{◌≡◌, ℕ, ◌==◌, Bool, List, [], ◌∷◌, codes, Option, Some, None, ◌⊎◌, ◌++◌, if◌then◌else◌}
-use Rattle.std.specs.Io.KnownBytes.{Appends, Keeps}
+-- How an input is read, and what a run leaves.
+use Rattle.std.specs.Prelude.{◌≡◌, ℕ, Bool, List, Option, Some, None, IfSome, Result, Ok, Err, ◌⊎◌}
+use Rattle.std.specs.Io.KnownBytes.{Appends, Keeps, IsAtEnd}
 use Rattle.hags_io.specs.Edges.{GrowsByFront, Rose}
 use Rattle.node_state.specs.declared.happened.Happened.{Happened}
-use Rattle.world_model.specs.declared.script.LineWhy.{LineWhy}
 use Rattle.world_model.specs.declared.script.Script.{Script}
 use Rattle.world_model.specs.declared.script.Aim.{Aim}
 use Rattle.world_model.specs.Reading.{IsScript, IsNone, script_of}
 use Rattle.script_reader.specs.ClientScript.{lines_for}
-use Rattle.world_model.specs.Play.{script_records, written}
+use Rattle.world_model.specs.Play.{script_records}
 use Rattle.world_model.specs.Kept.{kept_past, kept_records, most_kept}
 use Rattle.net_script.specs.PlaySafe.{ScriptIsSafe, KeptRunIsSafe}
 use Rattle.hags_cli.specs.declared.ending.Ending.{Ending}
 use Rattle.hags_cli.specs.declared.ending.Ending.TheVariants as ending
+use Rattle.hags_cli.specs.declared.input.InputFault.{InputFault}
+use Rattle.hags_cli.specs.declared.input.InputFault.TheVariants as input_fault
 
 -- an input is read as this front of it is, for whatever it is read, as a script or as the calls of a client
 abbrev pub ReadsAs : List ℕ → List ℕ → Type 0
@@ -48,60 +49,23 @@ pub record PlaysFront (shown : List Happened → List ℕ) (old new : Option (Li
 abbrev pub MayHavePlayed : (List Happened → List ℕ) → Option (List ℕ) → Option (List ℕ) → List ℕ → Type 0
 MayHavePlayed shown old new b = Keeps old new ⊎ PlaysFront shown old new b
 
--- the whole text was said; or nothing, where there was no memory for it; or a front of it, where the sink failed
-abbrev pub Says : ℕ → ℕ → Option (List ℕ) → Option (List ℕ) → List ℕ → Type 0
-Says faults later old new text = Appends old new text ⊎ (Keeps old new ⊎ (Rose faults later × GrowsByFront old new text))
-
 -- the source tells what is left, and it is a script
 abbrev pub SpellsScript : Option (List ℕ) → Type 0
 SpellsScript None = ⊥
 SpellsScript (Some b) = (s : Script) × (script_of b ≡ IsScript s)
 
--- what holds of a bad line
-abbrev pub OnBadLine : Ending → (ℕ → LineWhy → Type 0) → Type 0
-OnBadLine (ending.BadLine n why) P = P n why
-OnBadLine _ P = Unit {0}
+-- how an input was not read
+abbrev pub InputFails : ℕ → ℕ → InputFault → Type 0
+InputFails reads reads_now input_fault.ReadFault = Rose reads reads_now
+InputFails reads reads_now input_fault.NoMemory = Unit {0}
 
--- so a run ends
-abbrev pub PlaysTo : Ending → Type 0
-PlaysTo ending.Usage = ⊥
-PlaysTo ending.LinkFault = ⊥
-PlaysTo ending.NoReply = ⊥
-PlaysTo ending.SessionLost = ⊥
-PlaysTo ending.DaemonFull = ⊥
-PlaysTo _ = Unit {0}
-
-abbrev pub status_of : Ending → ℕ
-status_of ending.Done = 0
-status_of ending.Usage = 1
-status_of (ending.BadLine n why) = 2
-status_of ending.NoMemory = 3
-status_of ending.ReadFault = 4
-status_of ending.WriteFault = 5
-status_of ending.LinkFault = 6
-status_of ending.TooMuchKept = 7
-status_of ending.NoReply = 9
-status_of ending.SessionLost = 10
-status_of ending.DaemonFull = 11
-
-abbrev pub line_of : List ℕ → List ℕ
-line_of text = text ++ 10 ∷ []
-
--- what is said on err, by status; that of a bad line is its own
-abbrev pub said_of : ℕ → List ℕ
-said_of status =
-    if status == 1
-    then line_of (codes "hags: usage: hags run [--kinds LIST] / load N / daemon --node N [--inc I] [--turns T] / status WHAT --node N [--turns T]")
-    else if status == 3 then line_of (codes "hags: no memory")
-    else if status == 4 then line_of (codes "hags: read fault")
-    else if status == 5 then line_of (codes "hags: write fault")
-    else if status == 6 then line_of (codes "hags: link fault")
-    else if status == 7 then line_of (codes "hags: too much kept")
-    else if status == 9 then line_of (codes "hags: no reply")
-    else if status == 10 then line_of (codes "hags: session lost")
-    else if status == 11 then line_of (codes "hags: daemon full")
-    else []
-
-abbrev pub ending_text : Ending → List ℕ
-ending_text (ending.BadLine n why) = written [] (IsNone n why)
-ending_text e = said_of (status_of e)
+-- What a run leaves of its input and its output, by how it ends: where it failed to read or to write, this holds of the faults;
+-- and where it did not begin to play, this, of its output as a whole.
+abbrev pub RunEnds : Result (Unit {0}) Ending → (List Happened → List ℕ) → (left rest : Option (List ℕ)) → (read_failed write_failed still : Type 0) → (old new : Option (List ℕ)) → Type 0
+RunEnds (Ok u) shown left rest read_failed write_failed still old new = IfSome left (PlaysAll shown old new) × IsAtEnd rest
+RunEnds (Err (ending.BadLine n why)) shown left rest read_failed write_failed still old new = IfSome left (λ b. script_of b ≡ IsNone n why) × still
+RunEnds (Err ending.NoMemory) shown left rest read_failed write_failed still old new = IfSome left (MayHavePlayed shown old new)
+RunEnds (Err ending.ReadFault) shown left rest read_failed write_failed still old new = read_failed × still
+RunEnds (Err ending.WriteFault) shown left rest read_failed write_failed still old new = write_failed × IfSome left (PlaysFront shown old new)
+RunEnds (Err ending.TooMuchKept) shown left rest read_failed write_failed still old new = IfSome left (PlaysPast shown old new)
+RunEnds (Err e) shown left rest read_failed write_failed still old new = ⊥

@@ -1,5 +1,5 @@
 -- What the words of a call ask for, and what each of its endings leaves.
-use Rattle.std.specs.Prelude.{◌≡◌, ℕ, ◌≤◌, ◌⊎◌, ◌+◌, ◌/◌, ◌%◌, ◌^◌, ◌-◌, min, max, Bool, true, false, List, [], ◌∷◌, Option, Some, None, IfSome}
+use Rattle.std.specs.Prelude.{◌≡◌, ℕ, ◌≤◌, ◌⊎◌, ◌+◌, ◌/◌, ◌%◌, ◌^◌, ◌-◌, min, max, Bool, true, false, List, [], ◌∷◌, Option, Some, None, IfSome, Result, Ok, Err}
 use Rattle.std.specs.Io.KnownBytes.{Appends, Keeps, IsAtEnd}
 use Rattle.hags_io.specs.Edges.{GrowsByFront, Rose}
 use Rattle.hags_io.specs.Deeds.{Deed, Read}
@@ -34,9 +34,11 @@ use Rattle.hags_words.specs.declared.help.TheConstants.{VERSION}
 use Rattle.hags_words.specs.Commands.{command_of}
 use Rattle.hags_words.specs.Help.{help_of}
 use Rattle.hags_cli.specs.declared.daemon_command.Service.{Service}
+use Rattle.hags_cli.specs.declared.edges.Edges.{Edges}
 use Rattle.hags_cli.specs.declared.ending.Ending.{Ending}
 use Rattle.hags_cli.specs.declared.ending.Ending.TheVariants as ending
-use Rattle.hags_cli.specs.Run.{PlaysAll, PlaysPast, PlaysFront, MayHavePlayed, SpellsScript, Says}
+use Rattle.hags_cli.specs.Endings.{Says}
+use Rattle.hags_cli.specs.Run.{PlaysAll, PlaysPast, PlaysFront, MayHavePlayed, SpellsScript}
 
 -- to play the script of the input and write the lines of these kinds, joined by commas, or of all where none is named; to
 -- play a load of so many steps; to write a text; to serve a node, with so many objects for its clients; to ask one; or to
@@ -103,6 +105,17 @@ pub record Seen : Type 0 where
   pub before : Telling
   pub now : Telling
 
+-- by what the source, the outside and their parts tell
+abbrev pub seen : {S O : Type 0} → (left : S → Option (List ℕ)) → (faults : S → ℕ) → (told : O → Telling) → (old new : Edges S O) → Seen
+seen left faults told old new = record {
+  left = left old.input;
+  rest = left new.input;
+  reads = faults old.input;
+  reads_now = faults new.input;
+  before = told old.output.outside;
+  now = told new.output.outside;
+}
+
 -- nothing was told to the link, sent, received or read of the clock
 pub record Untouched (x : Seen) : Type 0 where
   pub deeds : x.now.deeds ≡ x.before.deeds
@@ -131,20 +144,20 @@ pub record LoadsFront (steps : ℕ) (old new : Option (List ℕ)) : Type 0 where
   pub written : GrowsByFront old new (load_text steps)
   pub safe : KeptRunIsSafe most_kept (load_script steps)
 
-abbrev pub LoadEnds : Ending → ℕ → ℕ → ℕ → Option (List ℕ) → Option (List ℕ) → Type 0
-LoadEnds ending.Done steps faults later old new = LoadsAll steps old new
-LoadEnds ending.NoMemory steps faults later old new = LoadsFront steps old new
-LoadEnds ending.WriteFault steps faults later old new = Rose faults later × LoadsFront steps old new
-LoadEnds ending.TooMuchKept steps faults later old new = LoadsPast steps old new
-LoadEnds _ steps faults later old new = ⊥
+abbrev pub LoadEnds : Result (Unit {0}) Ending → ℕ → ℕ → ℕ → Option (List ℕ) → Option (List ℕ) → Type 0
+LoadEnds (Ok u) steps faults later old new = LoadsAll steps old new
+LoadEnds (Err ending.NoMemory) steps faults later old new = LoadsFront steps old new
+LoadEnds (Err ending.WriteFault) steps faults later old new = Rose faults later × LoadsFront steps old new
+LoadEnds (Err ending.TooMuchKept) steps faults later old new = LoadsPast steps old new
+LoadEnds (Err e) steps faults later old new = ⊥
 
 -- ---- what a text leaves
 
-abbrev pub TellEnds : Ending → List ℕ → ℕ → ℕ → Option (List ℕ) → Option (List ℕ) → Type 0
-TellEnds ending.Done text faults later old new = Appends old new text
-TellEnds ending.NoMemory text faults later old new = Keeps old new
-TellEnds ending.WriteFault text faults later old new = Rose faults later × GrowsByFront old new text
-TellEnds _ text faults later old new = ⊥
+abbrev pub TellEnds : Result (Unit {0}) Ending → List ℕ → ℕ → ℕ → Option (List ℕ) → Option (List ℕ) → Type 0
+TellEnds (Ok u) text faults later old new = Appends old new text
+TellEnds (Err ending.NoMemory) text faults later old new = Keeps old new
+TellEnds (Err ending.WriteFault) text faults later old new = Rose faults later × GrowsByFront old new text
+TellEnds (Err e) text faults later old new = ⊥
 
 -- ---- settings
 
@@ -202,14 +215,6 @@ pub record Runs (x : Seen) (s : Service) (objects : ℕ) (P : Running → Type 0
 
 abbrev pub port_of : Service → Running → ℕ
 port_of s r = r.script.config.port + s.node
-
--- so a daemon ends
-abbrev pub ServedAs : Ending → Type 0
-ServedAs ending.Done = Unit {0}
-ServedAs ending.NoMemory = Unit {0}
-ServedAs ending.WriteFault = Unit {0}
-ServedAs ending.LinkFault = Unit {0}
-ServedAs _ = ⊥
 
 -- whatever its node came to
 pub record IsServed (script : Script) (me incarnation : ℕ) (remote : Bool) (turns : ℕ) (old new : Telling) : Type 0 where
@@ -414,18 +419,21 @@ CanBeDone x (uses u) = SpellsCalls u.node x.left
 
 -- ---- all endings
 
-abbrev pub EndsAs : Ending → Option Task → Seen → Type 0
-EndsAs ending.Done t x = Asks t (DoneAs x)
-EndsAs ending.Usage t x = (t ≡ None) × Keeps x.before.held x.now.held × (x.rest ≡ x.left) × Untouched x
-EndsAs (ending.BadLine line why) t x = Asks t (OutsideAt line why x)
-EndsAs ending.NoMemory t x = MemoryAs x t
-EndsAs ending.ReadFault t x = Asks t (ReadFaultAs x)
-EndsAs ending.WriteFault t x = Rose x.before.write_faults x.now.write_faults × Asks t (WriteFaultAs x)
-EndsAs ending.LinkFault t x = Rose x.before.link_faults x.now.link_faults × Asks t (LinkFaultAs x)
-EndsAs ending.TooMuchKept t x = Asks t (PastAs x)
-EndsAs ending.NoReply t x = Asks t (NoReplyAs x)
-EndsAs ending.SessionLost t x = Asks t (LostAs x)
-EndsAs ending.DaemonFull t x = Asks t (FullAs x)
+abbrev pub FailsAs : Ending → Option Task → Seen → Type 0
+FailsAs ending.Usage t x = (t ≡ None) × Keeps x.before.held x.now.held × (x.rest ≡ x.left) × Untouched x
+FailsAs (ending.BadLine line why) t x = Asks t (OutsideAt line why x)
+FailsAs ending.NoMemory t x = MemoryAs x t
+FailsAs ending.ReadFault t x = Asks t (ReadFaultAs x)
+FailsAs ending.WriteFault t x = Rose x.before.write_faults x.now.write_faults × Asks t (WriteFaultAs x)
+FailsAs ending.LinkFault t x = Rose x.before.link_faults x.now.link_faults × Asks t (LinkFaultAs x)
+FailsAs ending.TooMuchKept t x = Asks t (PastAs x)
+FailsAs ending.NoReply t x = Asks t (NoReplyAs x)
+FailsAs ending.SessionLost t x = Asks t (LostAs x)
+FailsAs ending.DaemonFull t x = Asks t (FullAs x)
+
+abbrev pub EndsAs : Result (Unit {0}) Ending → Option Task → Seen → Type 0
+EndsAs (Ok u) t x = Asks t (DoneAs x)
+EndsAs (Err e) t x = FailsAs e t x
 
 -- How a call ended, by its status. `complete`: what can be done is done, or memory runs out, or packets pass the limit, where
 -- neither the input nor the output failed, the link held, what was asked and each call was answered, and the daemon that a

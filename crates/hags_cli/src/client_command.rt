@@ -5,19 +5,19 @@ ghost use Rattle.rsct_packet.specs.Format.{EachFits};
 ghost use Rattle.world_model.specs.Reading.{IsScript};
 ghost use Rattle.script_reader.specs.ClientScript.{client_script};
 ghost use Rattle.client_run.specs.Running.{IsCall};
-ghost use Rattle.hags_cli.specs.Tasks.{CallsEnd, EndsAs, uses};
+ghost use Rattle.hags_cli.specs.Tasks.{CallsEnd, EndsAs, seen, uses};
 
+use crate::edges::Edges;
 use crate::ending::Ending;
-use crate::input::{InputFault, read_input};
-use client_run::{ClientFault, Usage, use_daemon};
-use hags_io::{Clock, Link, Parts, Sink, Source};
-use link_use::Stop;
-use script_reader::{ScriptFault, read_client};
+use crate::input::read_input;
+use client_run::{Usage, use_daemon};
+use hags_io::{Outside, Source};
+use script_reader::read_client;
 use std::alloc::Global;
 use world_model::Script;
 
 /// Reads the settings and the calls of a client of a node (1 to 32) to their end. The fault is how the command ends.
-#[tactic(auto, using(crate::proofs::ClientLaws::calls_are, crate::proofs::ClientLaws::calls_have, crate::proofs::ClientLaws::calls_end, crate::proofs::SettingsLaws::has_ports))]
+#[tactic(auto, using(crate::proofs::ClientLaws::calls_are, crate::proofs::ClientLaws::calls_have, crate::proofs::ClientLaws::input_ends, crate::proofs::ClientLaws::script_ends, crate::proofs::SettingsLaws::has_ports))]
 fn read_calls<S: Source>(alloc: Global, node: u8, input: &mut S) -> Result<Script, Ending>
     ensures read { IfOk result (λ script. IfSome (S.left input.old)
         (λ b. client_script node b ≡ IsScript script)) }
@@ -27,46 +27,28 @@ fn read_calls<S: Source>(alloc: Global, node: u8, input: &mut S) -> Result<Scrip
     ensures fault { IfErr result (CallsEnd node (S.left input.old) (S.faults input.old)
         (S.faults input.new)) }
 {
-    let front = match read_input(alloc, input) {
-        Ok(front) => front,
-        Err(InputFault::ReadFault) => return Err(Ending::ReadFault),
-        Err(InputFault::NoMemory) => return Err(Ending::NoMemory),
-    };
-    match read_client(alloc, front.as_slice(), node) {
-        Ok(script) => Ok(script),
-        Err(ScriptFault::Line(number, why)) => Err(Ending::BadLine(number, why)),
-        Err(ScriptFault::NoMemory) => Err(Ending::NoMemory),
-    }
+    let front = read_input(alloc, input)?;
+    let script = read_client(alloc, front.as_slice(), node)?;
+    Ok(script)
 }
 
 /// Reads the settings and the calls to their end, and hands the calls to the daemon of the node.
-#[tactic(auto, using(crate::proofs::ClientLaws::uses_settings, crate::proofs::ClientLaws::uses_done, crate::proofs::ClientLaws::uses_no_reply, crate::proofs::ClientLaws::uses_lost, crate::proofs::ClientLaws::uses_full, crate::proofs::ClientLaws::uses_no_more, crate::proofs::ClientLaws::uses_part, crate::proofs::ClientLaws::uses_no_memory, crate::proofs::TaskLaws::untouched))]
-pub fn use_node<S: Source, K: Sink, L: Link, M: Clock>(
+#[tactic(auto, using(crate::proofs::ClientLaws::uses_settings, crate::proofs::ClientLaws::uses_done, crate::proofs::TaskLaws::untouched))]
+pub fn use_node<S: Source, O: Outside>(
     alloc: Global,
     usage: Usage,
-    input: &mut S,
-    outside: &mut Parts<K, L, M>,
-) -> Ending
-    ensures { EndsAs result (Some (uses usage)) (record {
-      left = S.left input.old;
-      rest = S.left input.new;
-      reads = S.faults input.old;
-      reads_now = S.faults input.new;
-      before = (Parts K L M).told outside.old;
-      now = (Parts K L M).told outside.new;
-    }) }
+    edges: &mut Edges<S, O>,
+) -> Result<(), Ending>
+    ensures { EndsAs result (Some (uses usage))
+        (seen S.left S.faults O.told edges.old edges.new) }
 {
-    let script = match read_calls(alloc, usage.node, input) {
-        Ok(script) => script,
-        Err(ending) => return ending,
-    };
-    match use_daemon(alloc, &script.config, &script.texts, usage, outside) {
-        Ok(()) => Ending::Done,
-        Err(ClientFault::Stop(Stop::NoMemory)) => Ending::NoMemory,
-        Err(ClientFault::Stop(Stop::WriteFault)) => Ending::WriteFault,
-        Err(ClientFault::Stop(Stop::LinkFault)) => Ending::LinkFault,
-        Err(ClientFault::NoReply) => Ending::NoReply,
-        Err(ClientFault::Lost) => Ending::SessionLost,
-        Err(ClientFault::Full) => Ending::DaemonFull,
-    }
+    let script = read_calls(alloc, usage.node, &mut edges.input)?;
+    use_daemon(
+        alloc,
+        &script.config,
+        &script.texts,
+        usage,
+        &mut edges.output.outside,
+    )?;
+    Ok(())
 }

@@ -1,13 +1,13 @@
 //! The command `daemon`.
 ghost use Rattle.std.specs.Prelude.{◌≡◌, ◌≤◌, ◌+◌, ◌⊎◌, Some, length};
-ghost use Rattle.hags_cli.specs.Tasks.{Incarnates, EndsAs, serves, counted};
+ghost use Rattle.hags_cli.specs.Tasks.{Incarnates, EndsAs, seen, serves, counted};
 
+use crate::edges::Edges;
 use crate::ending::Ending;
 use crate::settings::read_settings;
 use client_callbacks::{Callbacks, DaemonClient};
 use daemon_run::{Hosts, Objects, Serving, serve};
-use hags_io::{Clock, Link, Outside, Parts, Sink, Source};
-use link_use::Stop;
+use hags_io::{Outside, Source};
 use std::alloc::Global;
 use world_model::Script;
 
@@ -43,40 +43,32 @@ fn incarnation_of<O: Outside>(named: Option<u32>, outside: &mut O) -> u32
 }
 
 /// Reads the settings to their end, and serves the node with these objects for its clients.
-#[tactic(auto, using(crate::proofs::CommandLaws::serves_settings, crate::proofs::CommandLaws::serves_done, crate::proofs::CommandLaws::serves_no_memory, crate::proofs::CommandLaws::serves_part, crate::proofs::CommandLaws::serves_no_more, crate::proofs::TaskLaws::untouched))]
-pub fn serve_node<S: Source, K: Sink, L: Link, M: Clock>(
+#[tactic(auto, using(crate::proofs::CommandLaws::serves_settings, crate::proofs::TaskLaws::untouched))]
+pub fn serve_node<S: Source, O: Outside>(
     alloc: Global,
     service: Service,
-    input: &mut S,
-    outside: &mut Parts<K, L, M>,
+    edges: &mut Edges<S, O>,
     clients: Vec<Box<dyn Callbacks>>,
-) -> Ending
+) -> Result<(), Ending>
     requires { service.node ≤ 32 }
-    ensures { EndsAs result (Some (serves service (length clients.items))) (record {
-      left = S.left input.old;
-      rest = S.left input.new;
-      reads = S.faults input.old;
-      reads_now = S.faults input.new;
-      before = (Parts K L M).told outside.old;
-      now = (Parts K L M).told outside.new;
-    }) }
+    ensures { EndsAs result (Some (serves service (length clients.items)))
+        (seen S.left S.faults O.told edges.old edges.new) }
 {
     let objects = count_of(clients.len());
-    let script = match read_settings(alloc, service.node, Some(objects), input) {
-        Ok(script) => script,
-        Err(ending) => return ending,
-    };
+    let script = read_settings(alloc, service.node, Some(objects), &mut edges.input)?;
     let serving = Serving {
         me: service.node,
-        incarnation: incarnation_of(service.incarnation, outside),
+        incarnation: incarnation_of(service.incarnation, &mut edges.output.outside),
         turns: service.turns,
         remote: service.remote,
     };
     let mut hosts = Objects { left: clients };
-    match serve::<DaemonClient, Objects, Parts<K, L, M>>(alloc, &script, serving, &mut hosts, outside) {
-        Ok(_) => Ending::Done,
-        Err(Stop::NoMemory) => Ending::NoMemory,
-        Err(Stop::WriteFault) => Ending::WriteFault,
-        Err(Stop::LinkFault) => Ending::LinkFault,
-    }
+    let _node = serve::<DaemonClient, Objects, O>(
+        alloc,
+        &script,
+        serving,
+        &mut hosts,
+        &mut edges.output.outside,
+    )?;
+    Ok(())
 }

@@ -1,11 +1,9 @@
-//! What a call meets outside of it.
-use hags_io::Parts;
+//! What a call works over.
+use crate::output::Output;
 
-/// What a call of the program meets outside of it: where it reads, where it says how it failed, and what it works over:
-/// where it writes, over which link its datagrams go, and by which clock.
+/// What a call of the program works over: where it reads, and the outside, which is also where it writes.
 #[derive(Drop)]
-pub struct Edges<S, K, E, L, M> {
+pub struct Edges<S, O> {
     pub input: S,
-    pub err: E,
-    pub outside: Parts<K, L, M>,
+    pub output: Output<O>,
 }

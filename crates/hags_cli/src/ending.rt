@@ -1,10 +1,21 @@
-//! How a call ends.
+//! Why a call was not done.
+ghost use Rattle.std.specs.Prelude.{◌≡◌};
+ghost use Rattle.hags_cli.specs.Endings.{ending_of_input, ending_of_script, ending_of_play, ending_of_stop, ending_of_question, ending_of_client};
+ghost use Rattle.hags_cli.specs.declared.ending.Ending.TheVariants as ending;
+
+use crate::input::InputFault;
+use client_run::ClientFault;
+use link_use::Stop;
+use play_state::PlayFault;
+use rsct_packet::NoMemory;
+use script_reader::ScriptFault;
+use status_client::AskFault;
 use world_model::LineWhy;
 
-/// How a call ended. `BadLine` has the number of the first line that is in no script, and the first reason.
+/// How a call ended that was not done. `BadLine` has the number of the first line that is in no script, and the first
+/// reason.
 #[derive(Clone, Copy, Debug, PartialEq, Eq)]
 pub enum Ending {
-    Done,
     Usage,
     BadLine(u32, LineWhy),
     NoMemory,
@@ -15,4 +26,83 @@ pub enum Ending {
     NoReply,
     SessionLost,
     DaemonFull,
+}
+
+impl From<NoMemory> for Ending {
+    ghost from_gives = { λ _ e. e ≡ ending.NoMemory };
+
+    fn from(_e: NoMemory) -> Ending {
+        Ending::NoMemory
+    }
+}
+
+impl From<InputFault> for Ending {
+    ghost from_gives = { λ f e. e ≡ ending_of_input f };
+
+    fn from(fault: InputFault) -> Ending {
+        match fault {
+            InputFault::ReadFault => Ending::ReadFault,
+            InputFault::NoMemory => Ending::NoMemory,
+        }
+    }
+}
+
+impl From<ScriptFault> for Ending {
+    ghost from_gives = { λ f e. e ≡ ending_of_script f };
+
+    fn from(fault: ScriptFault) -> Ending {
+        match fault {
+            ScriptFault::Line(number, why) => Ending::BadLine(number, why),
+            ScriptFault::NoMemory => Ending::NoMemory,
+        }
+    }
+}
+
+impl From<PlayFault> for Ending {
+    ghost from_gives = { λ f e. e ≡ ending_of_play f };
+
+    fn from(fault: PlayFault) -> Ending {
+        match fault {
+            PlayFault::Kept(_) => Ending::TooMuchKept,
+            PlayFault::WriteFault => Ending::WriteFault,
+            PlayFault::NoMemory => Ending::NoMemory,
+        }
+    }
+}
+
+impl From<Stop> for Ending {
+    ghost from_gives = { λ f e. e ≡ ending_of_stop f };
+
+    fn from(stop: Stop) -> Ending {
+        match stop {
+            Stop::NoMemory => Ending::NoMemory,
+            Stop::WriteFault => Ending::WriteFault,
+            Stop::LinkFault => Ending::LinkFault,
+        }
+    }
+}
+
+impl From<AskFault> for Ending {
+    ghost from_gives = { λ f e. e ≡ ending_of_question f };
+
+    fn from(fault: AskFault) -> Ending {
+        match fault {
+            AskFault::NoMemory => Ending::NoMemory,
+            AskFault::LinkFault => Ending::LinkFault,
+            AskFault::NoReply => Ending::NoReply,
+        }
+    }
+}
+
+impl From<ClientFault> for Ending {
+    ghost from_gives = { λ f e. e ≡ ending_of_client f };
+
+    fn from(fault: ClientFault) -> Ending {
+        match fault {
+            ClientFault::Stop(stop) => Ending::from(stop),
+            ClientFault::NoReply => Ending::NoReply,
+            ClientFault::Lost => Ending::SessionLost,
+            ClientFault::Full => Ending::DaemonFull,
+        }
+    }
 }

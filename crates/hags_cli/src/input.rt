@@ -1,8 +1,7 @@
 //! The whole of an input.
-ghost use Rattle.std.specs.Prelude.{◌≡◌, ◌≤◌, length, IfOk, IfSome};
+ghost use Rattle.std.specs.Prelude.{◌≡◌, ◌≤◌, length, IfOk, IfErr, IfSome};
 ghost use Rattle.std.specs.Io.KnownBytes.{IsAtEnd};
-ghost use Rattle.hags_io.specs.Edges.{Rose};
-ghost use Rattle.hags_cli.specs.Run.{ReadsAs};
+ghost use Rattle.hags_cli.specs.Run.{ReadsAs, InputFails};
 ghost use Rattle.hags_cli.specs.declared.input.InputFault.TheVariants as input_fault;
 
 use hags_io::{Source, Taken};
@@ -32,8 +31,7 @@ pub fn read_input<S: Source>(alloc: Global, input: &mut S) -> Result<Vec<u8>, In
     ensures end { IfOk result (λ front. length front.items ≤ INPUT_LIMIT
         → IsAtEnd (S.left input.new)) }
     ensures later { S.faults input.old ≤ S.faults input.new }
-    ensures fault { result ≡ Err InputFault.ReadFault
-        → Rose (S.faults input.old) (S.faults input.new) }
+    ensures fault { IfErr result (InputFails (S.faults input.old) (S.faults input.new)) }
 {
     let mut front = Vec::new(alloc);
     let mut buf = [0u8; 4096];

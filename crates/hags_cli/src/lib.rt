@@ -7,6 +7,7 @@ mod edges;
 mod ending;
 mod input;
 mod load_command;
+mod output;
 mod run_command;
 mod settings;
 mod status;
@@ -16,5 +17,6 @@ mod tell_command;
 
 pub use edges::Edges;
 pub use ending::Ending;
+pub use output::Output;
 pub use run_command::{MOST_KEPT, run};
 pub use status::hags;

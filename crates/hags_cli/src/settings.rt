@@ -6,15 +6,15 @@ ghost use Rattle.world_model.specs.Settings.{daemon_script};
 ghost use Rattle.hags_cli.specs.Tasks.{SettingsEnd};
 
 use crate::ending::Ending;
-use crate::input::{InputFault, read_input};
+use crate::input::read_input;
 use hags_io::Source;
-use script_reader::{ScriptFault, read_daemon};
+use script_reader::read_daemon;
 use std::alloc::Global;
 use world_model::Script;
 
 /// Reads the settings of a node (1 to 32) to their end: for a daemon of it, with so many objects for its clients, or,
 /// with none, for who asks it. The fault is how the command ends.
-#[tactic(auto, using(crate::proofs::SettingsLaws::settings_are, crate::proofs::SettingsLaws::settings_have, crate::proofs::SettingsLaws::settings_end, crate::proofs::SettingsLaws::has_ports))]
+#[tactic(auto, using(crate::proofs::SettingsLaws::settings_are, crate::proofs::SettingsLaws::settings_have, crate::proofs::SettingsLaws::input_ends, crate::proofs::SettingsLaws::script_ends, crate::proofs::SettingsLaws::has_ports))]
 pub fn read_settings<S: Source>(
     alloc: Global,
     node: u8,
@@ -28,14 +28,7 @@ pub fn read_settings<S: Source>(
     ensures fault { IfErr result (SettingsEnd node objects (S.left input.old)
         (S.faults input.old) (S.faults input.new)) }
 {
-    let front = match read_input(alloc, input) {
-        Ok(front) => front,
-        Err(InputFault::ReadFault) => return Err(Ending::ReadFault),
-        Err(InputFault::NoMemory) => return Err(Ending::NoMemory),
-    };
-    match read_daemon(alloc, front.as_slice(), node, objects) {
-        Ok(script) => Ok(script),
-        Err(ScriptFault::Line(number, why)) => Err(Ending::BadLine(number, why)),
-        Err(ScriptFault::NoMemory) => Err(Ending::NoMemory),
-    }
+    let front = read_input(alloc, input)?;
+    let script = read_daemon(alloc, front.as_slice(), node, objects)?;
+    Ok(script)
 }

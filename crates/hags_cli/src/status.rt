@@ -1,13 +1,13 @@
 //! The call at the top, and its status.
 ghost use Rattle.std.specs.Prelude.{◌≡◌, ◌≢◌, map, string_bytes, length};
-ghost use Rattle.hags_cli.specs.Run.{Says, status_of, said_of, ending_text};
-ghost use Rattle.hags_cli.specs.Tasks.{task_of, SaysLine, Ended};
+ghost use Rattle.hags_cli.specs.Endings.{Says, status_of, said_of, ending_text};
+ghost use Rattle.hags_cli.specs.Tasks.{task_of, seen, SaysLine, Ended};
 
 use crate::edges::Edges;
 use crate::ending::Ending;
 use crate::tasks::obey;
 use client_callbacks::Callbacks;
-use hags_io::{Clock, Link, Parts, Put, Sink, Source};
+use hags_io::{Outside, Put, Sink, Source};
 use std::alloc::Global;
 use transcript::fault_line;
 
@@ -19,7 +19,6 @@ fn status_of(ending: Ending) -> u8
     ensures { result ≡ status_of ending }
 {
     match ending {
-        Ending::Done => 0,
         Ending::Usage => 1,
         Ending::BadLine(_, _) => 2,
         Ending::NoMemory => 3,
@@ -38,7 +37,7 @@ fn text_of(ending: Ending) -> &'static [u8]
     ensures { result.now ≡ said_of (status_of ending) }
 {
     match ending {
-        Ending::Done | Ending::BadLine(_, _) => b"",
+        Ending::BadLine(_, _) => b"",
         Ending::Usage => USAGE,
         Ending::NoMemory => b"hags: no memory\n",
         Ending::ReadFault => b"hags: read fault\n",
@@ -90,35 +89,27 @@ fn say_ending<E: Sink>(alloc: Global, ending: Ending, err: &mut E)
 /// | 9 | `hags: no reply` | `status`: none of its receives brought the answer; nothing was written; `client`: all its turns were done, and some call has no answer; all lines were written |
 /// | 10 | `hags: session lost` | `client`: its last receive brought word of another incarnation of the daemon; all lines up to there were written |
 /// | 11 | `hags: daemon full` | `client`: its last receive brought word that the daemon keeps no more clients; all lines up to there were written |
-#[tactic(auto, using(crate::proofs::TaskLaws::says_line, crate::proofs::TaskLaws::says_said))]
-pub fn hags<S: Source, K: Sink, E: Sink, L: Link, M: Clock>(
+#[tactic(auto, using(crate::proofs::TaskLaws::done, crate::proofs::TaskLaws::failed, crate::proofs::TaskLaws::says_line, crate::proofs::TaskLaws::says_said, crate::proofs::TaskLaws::says_nothing))]
+pub fn hags<S: Source, O: Outside, E: Sink>(
     alloc: Global,
     words: &[String],
-    edges: &mut Edges<S, K, E, L, M>,
+    edges: &mut Edges<S, O>,
+    err: &mut E,
     clients: Vec<Box<dyn Callbacks>>,
 ) -> u8
-    ensures ended { Ended result (task_of (length clients.items)
-        (map string_bytes words.now)) (record {
-          left = S.left edges.old.input;
-          rest = S.left edges.new.input;
-          reads = S.faults edges.old.input;
-          reads_now = S.faults edges.new.input;
-          before = (Parts K L M).told edges.old.outside;
-          now = (Parts K L M).told edges.new.outside;
-        }) }
-    ensures said { result ≢ 2 → Says (E.faults edges.old.err) (E.faults edges.new.err)
-        (E.held edges.old.err) (E.held edges.new.err) (said_of result) }
+    ensures ended { Ended result (task_of (length clients.items) (map string_bytes words.now))
+        (seen S.left S.faults O.told edges.old edges.new) }
+    ensures said { result ≢ 2 → Says (E.faults err.old) (E.faults err.new) (E.held err.old)
+        (E.held err.new) (said_of result) }
     ensures said_line { result ≡ 2 → SaysLine (task_of (length clients.items)
-        (map string_bytes words.now)) (S.left edges.old.input) (E.faults edges.old.err)
-        (E.faults edges.new.err) (E.held edges.old.err) (E.held edges.new.err) }
+        (map string_bytes words.now)) (S.left edges.old.input) (E.faults err.old)
+        (E.faults err.new) (E.held err.old) (E.held err.new) }
 {
-    let ending = obey(
-        alloc,
-        words,
-        &mut edges.input,
-        &mut edges.outside,
-        clients,
-    );
-    say_ending(alloc, ending, &mut edges.err);
-    status_of(ending)
+    match obey(alloc, words, edges, clients) {
+        Ok(()) => 0,
+        Err(ending) => {
+            say_ending(alloc, ending, err);
+            status_of(ending)
+        }
+    }
 }

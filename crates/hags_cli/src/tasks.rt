@@ -1,10 +1,11 @@
 //! What the words of a call ask for, and how it is done.
 ghost use Rattle.std.specs.Prelude.{◌≡◌, IfSome, IfNone, map, string_bytes, length};
 ghost use Rattle.hags_words.specs.Commands.{IsWithin};
-ghost use Rattle.hags_cli.specs.Tasks.{Shows, plays, played_as, list_in, task_asked, task_of, EndsAs};
+ghost use Rattle.hags_cli.specs.Tasks.{Shows, plays, played_as, list_in, task_asked, task_of, EndsAs, seen};
 
 use crate::client_command::use_node;
 use crate::daemon_command::{Service, serve_node};
+use crate::edges::Edges;
 use crate::ending::Ending;
 use crate::load_command::load_steps;
 use crate::run_command::run;
@@ -12,7 +13,7 @@ use crate::status_command::ask_node;
 use crate::tell_command::tell;
 use client_callbacks::Callbacks;
 use client_run::Usage;
-use hags_io::{Clock, Link, Parts, Sink, Source};
+use hags_io::{Outside, Source};
 use hags_words::{Command, VERSION, help_text, read_command};
 use rsct_packet::List;
 use status_client::Asking;
@@ -33,31 +34,24 @@ fn kinds_in(list: &Option<List<u8>>) -> Option<Kinds>
 }
 
 /// Does what the command asks for; no command is usage.
-#[tactic(auto, using(crate::proofs::TaskLaws::run_ends, crate::proofs::TaskLaws::load_ends, crate::proofs::TaskLaws::tell_ends, crate::proofs::TaskLaws::usage_ends, crate::proofs::TaskLaws::untouched))]
-fn perform<S: Source, K: Sink, L: Link, M: Clock>(
+#[tactic(auto, using(crate::proofs::TaskLaws::load_ends, crate::proofs::TaskLaws::tell_ends, crate::proofs::TaskLaws::usage_ends, crate::proofs::TaskLaws::untouched))]
+fn perform<S: Source, O: Outside>(
     alloc: Global,
     command: Option<Command>,
-    input: &mut S,
-    outside: &mut Parts<K, L, M>,
+    edges: &mut Edges<S, O>,
     clients: Vec<Box<dyn Callbacks>>,
-) -> Ending
+) -> Result<(), Ending>
     requires { IfSome command IsWithin }
-    ensures { EndsAs result (task_asked (length clients.items) command) (record {
-      left = S.left input.old;
-      rest = S.left input.new;
-      reads = S.faults input.old;
-      reads_now = S.faults input.new;
-      before = (Parts K L M).told outside.old;
-      now = (Parts K L M).told outside.new;
-    }) }
+    ensures { EndsAs result (task_asked (length clients.items) command)
+        (seen S.left S.faults O.told edges.old edges.new) }
 {
     match command {
-        None => Ending::Usage,
+        None => Err(Ending::Usage),
         Some(Command::Run { kinds }) => match kinds_in(&kinds) {
-            None => Ending::Usage,
-            Some(kinds) => run(alloc, kinds, input, &mut outside.out),
+            None => Err(Ending::Usage),
+            Some(kinds) => run(alloc, kinds, &mut edges.input, &mut edges.output),
         },
-        Some(Command::Load { views }) => load_steps(alloc, views, &mut outside.out),
+        Some(Command::Load { views }) => load_steps(alloc, views, &mut edges.output),
         Some(
             Command::Daemon {
                 node,
@@ -72,41 +66,32 @@ fn perform<S: Source, K: Sink, L: Link, M: Clock>(
                 turns,
                 remote,
             };
-            serve_node(alloc, service, input, outside, clients)
+            serve_node(alloc, service, edges, clients)
         }
         Some(Command::Status { what, node, turns }) => {
             let asking = Asking { what, node, turns };
-            ask_node(alloc, asking, input, outside)
+            ask_node(alloc, asking, edges)
         }
         Some(Command::Client { node, turns }) => {
             let usage = Usage { node, turns };
-            use_node(alloc, usage, input, outside)
+            use_node(alloc, usage, edges)
         }
-        Some(Command::Help { about }) => tell(help_text(about), &mut outside.out),
-        Some(Command::Version) => tell(VERSION, &mut outside.out),
+        Some(Command::Help { about }) => tell(help_text(about), &mut edges.output),
+        Some(Command::Version) => tell(VERSION, &mut edges.output),
     }
 }
 
 /// Does what the words ask for.
 #[tactic(auto, using(crate::proofs::TaskLaws::memory_ends))]
-pub fn obey<S: Source, K: Sink, L: Link, M: Clock>(
+pub fn obey<S: Source, O: Outside>(
     alloc: Global,
     words: &[String],
-    input: &mut S,
-    outside: &mut Parts<K, L, M>,
+    edges: &mut Edges<S, O>,
     clients: Vec<Box<dyn Callbacks>>,
-) -> Ending
-    ensures { EndsAs result (task_of (length clients.items) (map string_bytes words.now)) (record {
-      left = S.left input.old;
-      rest = S.left input.new;
-      reads = S.faults input.old;
-      reads_now = S.faults input.new;
-      before = (Parts K L M).told outside.old;
-      now = (Parts K L M).told outside.new;
-    }) }
+) -> Result<(), Ending>
+    ensures { EndsAs result (task_of (length clients.items) (map string_bytes words.now))
+        (seen S.left S.faults O.told edges.old edges.new) }
 {
-    match read_command(alloc, words) {
-        Ok(command) => perform(alloc, command, input, outside, clients),
-        Err(_) => Ending::NoMemory,
-    }
+    let command = read_command(alloc, words)?;
+    perform(alloc, command, edges, clients)
 }

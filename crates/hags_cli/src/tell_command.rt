@@ -5,13 +5,13 @@ use crate::ending::Ending;
 use hags_io::{Put, Sink};
 
 /// Writes a text.
-pub fn tell<K: Sink>(text: &[u8], out: &mut K) -> Ending
+pub fn tell<K: Sink>(text: &[u8], out: &mut K) -> Result<(), Ending>
     ensures { TellEnds result text.now (K.faults out.old) (K.faults out.new)
         (K.held out.old) (K.held out.new) }
 {
     match out.put(text) {
-        Put::Done => Ending::Done,
-        Put::Failed => Ending::WriteFault,
-        Put::NoMemory => Ending::NoMemory,
+        Put::Done => Ok(()),
+        Put::Failed => Err(Ending::WriteFault),
+        Put::NoMemory => Err(Ending::NoMemory),
     }
 }

@@ -90,7 +90,14 @@ impl Outbox {
         };
         let mut pieces = Vec::new(alloc);
         let number = self.number;
-        if !cut(alloc, &mut pieces, self.me, self.incarnation, number, message)? {
+        if !cut(
+            alloc,
+            &mut pieces,
+            self.me,
+            self.incarnation,
+            number,
+            message,
+        )? {
             return Ok(());
         }
         self.number = next;

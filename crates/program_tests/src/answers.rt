@@ -12,7 +12,7 @@ use rsct_packet::{List, NoMemory, Text};
 use script_reader::read_script;
 use std::alloc::Global;
 use std::test::Fail;
-use transcript::Kinds;
+use transcript::{Kind, Kinds};
 
 /// A client that approves where it is asked, with the number of notices before as the value and `hi` as the message;
 /// it is silent where its votes word is `-`. It keeps the place of each notice, the group's value after it, the message
@@ -219,8 +219,8 @@ fn has_third_log(world: &World<Answering>) -> bool {
 /// The records of what is heard and cast.
 fn heard_and_cast() -> Kinds {
     let mut kinds = Kinds::none();
-    kinds.heard = true;
-    kinds.cast = true;
+    kinds.insert(Kind::Heard);
+    kinds.insert(Kind::Cast);
     kinds
 }
 

@@ -24,9 +24,16 @@ fn called(
 ) -> Result<(u8, MemSink, MemSink), AllocError> {
     let words = words_of(alloc, line)?;
     let input = source(alloc, script, &[])?;
-    let mut edges = silent_edges(alloc, input, sink(alloc, fail)?, sink(alloc, &[])?)?;
-    let status = hags(alloc, words.as_slice(), &mut edges, Vec::new(alloc));
-    Ok((status, edges.out, edges.err))
+    let mut edges = silent_edges(alloc, input, sink(alloc, fail)?)?;
+    let mut err = sink(alloc, &[])?;
+    let status = hags(
+        alloc,
+        words.as_slice(),
+        &mut edges,
+        &mut err,
+        Vec::new(alloc),
+    );
+    Ok((status, edges.output.outside.out, err))
 }
 
 /// Whether the call with these words ends with 0, writes this and says nothing.

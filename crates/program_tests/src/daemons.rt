@@ -1,7 +1,7 @@
 //! The commands `daemon` and `status` over links, clocks, sources and sinks in memory.
 use crate::edges::{clock_at, fails, silent_link, sink, source, words_of};
-use hags_cli::{Edges, hags};
-use hags_io::{MemLink, MemSink};
+use hags_cli::{Edges, Output, hags};
+use hags_io::{History, MemLink, MemSink, Parts};
 use std::alloc::{AllocError, Global};
 use std::collections::VecDeque;
 use std::test::Fail;
@@ -33,13 +33,24 @@ pub fn called(
     let words = words_of(alloc, line)?;
     let mut edges = Edges {
         input: source(alloc, settings, &[])?,
-        out: sink(alloc, &[])?,
-        err: sink(alloc, &[])?,
-        link,
-        clock: clock_at(alloc, moment)?,
+        output: Output {
+            outside: Parts {
+                out: sink(alloc, &[])?,
+                link,
+                clock: clock_at(alloc, moment)?,
+                history: History::new(),
+            },
+        },
     };
-    let status = hags(alloc, words.as_slice(), &mut edges, Vec::new(alloc));
-    Ok((status, edges.out, edges.err))
+    let mut err = sink(alloc, &[])?;
+    let status = hags(
+        alloc,
+        words.as_slice(),
+        &mut edges,
+        &mut err,
+        Vec::new(alloc),
+    );
+    Ok((status, edges.output.outside.out, err))
 }
 
 /// Whether such a call of node 1, alone, ends with this status and writes this.

@@ -1,13 +1,13 @@
 //! Edges in memory, for calls of the program.
 ghost use Rattle.std.specs.Prelude.{◌≡◌};
 
-use hags_cli::Edges;
-use hags_io::{LinkFails, MemClock, MemLink, MemSink, MemSource};
+use hags_cli::{Edges, Output};
+use hags_io::{History, LinkFails, MemClock, MemLink, MemSink, MemSource, Parts};
 use std::alloc::{AllocError, Global};
 use std::collections::VecDeque;
 
 /// Edges that are all in memory.
-pub type MemEdges = Edges<MemSource, MemSink, MemSink, MemLink, MemClock>;
+pub type MemEdges = Edges<MemSource, Parts<MemSink, MemLink, MemClock>>;
 
 /// The words of a line, which is cut at each space.
 pub fn words_of(alloc: Global, line: &str) -> Result<Vec<String>, AllocError> {
@@ -52,18 +52,17 @@ pub fn clock_at(alloc: Global, moment: u64) -> Result<MemClock, AllocError> {
     Ok(MemClock::new(moments))
 }
 
-/// Edges over this source and these sinks, with a link to which nothing comes, and a clock that stands at 0.
-pub fn silent_edges(
-    alloc: Global,
-    input: MemSource,
-    out: MemSink,
-    err: MemSink,
-) -> Result<MemEdges, AllocError> {
+/// Edges over this source and this sink, with a link to which nothing comes, and a clock that stands at 0.
+pub fn silent_edges(alloc: Global, input: MemSource, out: MemSink) -> Result<MemEdges, AllocError> {
     Ok(Edges {
         input,
-        out,
-        err,
-        link: silent_link(alloc, &[], &[])?,
-        clock: clock_at(alloc, 0)?,
+        output: Output {
+            outside: Parts {
+                out,
+                link: silent_link(alloc, &[], &[])?,
+                clock: clock_at(alloc, 0)?,
+                history: History::new(),
+            },
+        },
     })
 }

@@ -3,8 +3,8 @@ ghost use Rattle.std.specs.Prelude.{None};
 
 use crate::edges::{clock_at, sink, source, words_of};
 use client_callbacks::{Ballot, Callbacks, Notice, SteadyClient, Told};
-use hags_cli::{Edges, hags};
-use hags_io::{Got, Link, MemSink, Put};
+use hags_cli::{Edges, Output, hags};
+use hags_io::{Got, History, Link, MemSink, Parts, Put};
 use proposal_core::Vote;
 use rsct_packet::NoMemory;
 use std::alloc::{AllocError, Global};
@@ -86,18 +86,23 @@ fn written(alloc: Global, client: Box<dyn Callbacks>) -> Result<MemSink, AllocEr
     let words = words_of(alloc, "daemon --node=1 --inc=5 --turns=3")?;
     let mut edges = Edges {
         input: source(alloc, JOINS, &[])?,
-        out: sink(alloc, &[])?,
-        err: sink(alloc, &[])?,
-        link: Echo {
-            alloc,
-            waiting: VecDeque::new(alloc),
+        output: Output {
+            outside: Parts {
+                out: sink(alloc, &[])?,
+                link: Echo {
+                    alloc,
+                    waiting: VecDeque::new(alloc),
+                },
+                clock: clock_at(alloc, 0)?,
+                history: History::new(),
+            },
         },
-        clock: clock_at(alloc, 0)?,
     };
     let mut clients = Vec::new(alloc);
     clients.push(client)?;
-    let _status = hags(alloc, words.as_slice(), &mut edges, clients);
-    Ok(edges.out)
+    let mut err = sink(alloc, &[])?;
+    let _status = hags(alloc, words.as_slice(), &mut edges, &mut err, clients);
+    Ok(edges.output.outside.out)
 }
 
 /// Does the text have this line?

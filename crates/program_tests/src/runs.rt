@@ -20,17 +20,25 @@ fn ran(
 ) -> Result<(u8, MemSink), AllocError> {
     let words = words_of(alloc, "run")?;
     let input = source(alloc, script, takes)?;
-    let mut edges = silent_edges(alloc, input, sink(alloc, puts)?, sink(alloc, &[1])?)?;
-    let status = hags(alloc, words.as_slice(), &mut edges, Vec::new(alloc));
-    Ok((status, edges.out))
+    let mut edges = silent_edges(alloc, input, sink(alloc, puts)?)?;
+    let mut err = sink(alloc, &[1])?;
+    let status = hags(
+        alloc,
+        words.as_slice(),
+        &mut edges,
+        &mut err,
+        Vec::new(alloc),
+    );
+    Ok((status, edges.output.outside.out))
 }
 
 /// What a call with these words said on err, with its status.
 fn said(alloc: Global, words: &[String], script: &[u8]) -> Result<(u8, MemSink), AllocError> {
     let input = source(alloc, script, &[])?;
-    let mut edges = silent_edges(alloc, input, sink(alloc, &[])?, sink(alloc, &[])?)?;
-    let status = hags(alloc, words, &mut edges, Vec::new(alloc));
-    Ok((status, edges.err))
+    let mut edges = silent_edges(alloc, input, sink(alloc, &[])?)?;
+    let mut err = sink(alloc, &[])?;
+    let status = hags(alloc, words, &mut edges, &mut err, Vec::new(alloc));
+    Ok((status, err))
 }
 
 /// Whether the script gives this transcript.

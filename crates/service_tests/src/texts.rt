@@ -5,7 +5,7 @@ use rsct_packet::{List, Name, ProtoId, ProviderId, Providers, Text, ViewId};
 use std::alloc::Global;
 use std::process::Abort;
 use std::test::Fail;
-use transcript::{Kinds, fault_line, line_of};
+use transcript::{Kind, Kinds, fault_line, line_of};
 use world_model::LineWhy;
 
 fn view(number: u32) -> ViewId {
@@ -73,8 +73,10 @@ fn refusals_and_notes(rt: HostRuntime) -> Result<(), Fail> {
 #[test]
 fn words_of_kinds(rt: HostRuntime) {
     let mut kinds = Kinds::none();
-    kinds.told = true;
-    kinds.put = true;
+    kinds.insert(Kind::Told);
+    kinds.insert(Kind::Put);
+    assert!(rt; kinds.contains(Kind::Told));
+    assert!(rt; !kinds.contains(Kind::Noted));
     assert!(rt; Kinds::read(b"put,told") == Some(kinds));
     let all = b"up,down,ring,in,base,put,heard,cast,asked,told,noted,refused,show";
     assert!(rt; Kinds::read(all) == Some(Kinds::all()));

@@ -1,2 +1,3 @@
 pub mod WaitLaws
 pub mod AskLaws
+pub mod UnwrittenLaws

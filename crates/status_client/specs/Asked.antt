@@ -1,5 +1,6 @@
 -- What is left of a question: how it went out, and what came.
 use Rattle.std.specs.Prelude.{◌≡◌, ℕ, ◌<◌, ◌≤◌, List, [], ◌∷◌, ◌++◌, length, map, Option, Some, None}
+use Rattle.std.specs.Io.KnownBytes.{Keeps}
 use Rattle.hags_io.specs.declared.link.LinkCall.{LinkCall}
 use Rattle.hags_io.specs.Deeds.{Read, Exchanged}
 use Rattle.hags_io.specs.Telling.{Telling, Did}
@@ -12,6 +13,10 @@ use Rattle.status_client.specs.declared.question.Asking.{Asking}
 use Rattle.status_client.specs.declared.waiting.Waiting.{Waiting}
 use Rattle.status_client.specs.Question.{question_at, question_call}
 use Rattle.status_client.specs.Waiting.{heard, heard_all, answer_by, GoesOn}
+
+-- nothing was written
+abbrev pub IsUnwritten : Telling → Telling → Type 0
+IsUnwritten old new = Keeps old.held new.held
 
 -- ---- receives
 

@@ -3,7 +3,7 @@ ghost use Rattle.std.specs.Prelude.{◌≡◌, ◌≤◌, ◌+◌, IfOk, Err};
 ghost use Rattle.hags_io.specs.Edges.{Rose};
 ghost use Rattle.daemon_model.specs.Settings.{OverLink, OverLinkIf};
 ghost use Rattle.link_use.specs.Receiving.{nothing_received};
-ghost use Rattle.status_client.specs.Asked.{Answered, Unanswered, Failing, Asked};
+ghost use Rattle.status_client.specs.Asked.{IsUnwritten, Answered, Unanswered, Failing, Asked};
 
 use crate::question::{Asking, question_packet};
 use crate::waiting::{AskFault, Waiting};
@@ -13,7 +13,7 @@ use node_state::Config;
 use std::alloc::Global;
 
 /// Asks over a link that is open.
-#[tactic(auto, using(crate::proofs::AskLaws::asked_answered, crate::proofs::AskLaws::asked_unanswered, crate::proofs::AskLaws::asked_failing))]
+#[tactic(auto, using(crate::proofs::AskLaws::asked_answered, crate::proofs::AskLaws::asked_unanswered, crate::proofs::AskLaws::asked_failing, crate::proofs::UnwrittenLaws::read_unwritten, crate::proofs::UnwrittenLaws::sent_unwritten, crate::proofs::UnwrittenLaws::all_sent_unwritten, crate::proofs::UnwrittenLaws::unwritten_on))]
 fn converse<O: Outside>(
     alloc: Global,
     config: &Config,
@@ -29,6 +29,7 @@ fn converse<O: Outside>(
     ensures failing { result ≡ Err AskFault.LinkFault → Asked config.now asking
         (O.told outside.old) (λ question sent. Failing question asking.turns nothing_received
         sent (O.told outside.new)) }
+    ensures unwritten { IsUnwritten (O.told outside.old) (O.told outside.new) }
 {
     let moment = outside.now();
     let question = (moment % 4_294_967_296) as u32;
@@ -53,7 +54,7 @@ fn converse<O: Outside>(
 ///
 /// `NoReply` where none of the receives that it may do brought a reply to this question; `LinkFault` where the link
 /// could not be opened, or 16 receives in a row failed before one; `NoMemory` where memory has run out.
-#[tactic(auto, using(link_use::proofs::OpenLaws::over_link, link_use::proofs::OpenLaws::not_opened, link_use::proofs::OpenLaws::ran, link_use::proofs::OpenLaws::rose_closed, crate::proofs::AskLaws::rose_failing))]
+#[tactic(auto, using(link_use::proofs::OpenLaws::over_link, link_use::proofs::OpenLaws::not_opened, link_use::proofs::OpenLaws::ran, link_use::proofs::OpenLaws::rose_closed, crate::proofs::AskLaws::rose_failing, crate::proofs::UnwrittenLaws::opening_unwritten, crate::proofs::UnwrittenLaws::unwritten_on))]
 pub fn ask<O: Outside>(
     alloc: Global,
     config: &Config,
@@ -73,6 +74,7 @@ pub fn ask<O: Outside>(
         (O.told outside.new))) }
     ensures failed { result ≡ Err AskFault.LinkFault
         → Rose (O.told outside.old).link_faults (O.told outside.new).link_faults }
+    ensures unwritten { IsUnwritten (O.told outside.old) (O.told outside.new) }
 {
     if !open_link(outside, config, 0) {
         return Err(AskFault::LinkFault);

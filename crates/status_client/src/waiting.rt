@@ -2,7 +2,7 @@
 ghost use Rattle.std.specs.Prelude.{◌≡◌, ◌≤◌, ◌<◌, IfOk, OnOk, Err, length};
 ghost use Rattle.std.specs.Option.{option_map};
 ghost use Rattle.hags_io.specs.Fronts.{EndsByReceive};
-ghost use Rattle.status_client.specs.Asked.{Hears, Answered, Unanswered, Failing};
+ghost use Rattle.status_client.specs.Asked.{IsUnwritten, Hears, Answered, Unanswered, Failing};
 ghost use Rattle.status_client.specs.declared.waiting.AskFault.TheVariants as ask_fault;
 
 use crate::question::reply_to;
@@ -36,7 +36,7 @@ pub struct Waiting {
 
 impl Waiting {
     /// One receive: the text of the answer, where it completes it.
-    #[tactic(auto, using(crate::proofs::WaitLaws::hears_none, crate::proofs::WaitLaws::hears_whole))]
+    #[tactic(auto, using(crate::proofs::WaitLaws::hears_none, crate::proofs::WaitLaws::hears_whole, crate::proofs::UnwrittenLaws::receive_unwritten, crate::proofs::UnwrittenLaws::lost_unwritten))]
     fn hear<O: Outside>(
         &mut self,
         alloc: Global,
@@ -48,6 +48,7 @@ impl Waiting {
             (option_map (λ t. t.items) text) (O.told outside.old) (O.told outside.new)) }
         ensures failed { OnOk result (0 < self.new.receiving.failed
             → EndsByReceive (O.told outside.new)) }
+        ensures unwritten { IsUnwritten (O.told outside.old) (O.told outside.new) }
         ensures len { length buf.new ≡ length buf.old }
     {
         let Some(whole) = self.receiving.receive(alloc, buf, outside)? else {
@@ -60,7 +61,7 @@ impl Waiting {
     }
 
     /// So many receives, until one completes the answer, or the sixteenth in a row fails.
-    #[tactic(auto, using(crate::proofs::WaitLaws::waits_none, crate::proofs::WaitLaws::waits_next, crate::proofs::WaitLaws::waits_answered, crate::proofs::WaitLaws::waits_failing, crate::proofs::WaitLaws::waits_all))]
+    #[tactic(auto, using(crate::proofs::WaitLaws::waits_none, crate::proofs::WaitLaws::waits_next, crate::proofs::WaitLaws::waits_answered, crate::proofs::WaitLaws::waits_failing, crate::proofs::WaitLaws::waits_all, crate::proofs::UnwrittenLaws::still_unwritten, crate::proofs::UnwrittenLaws::unwritten_on))]
     pub fn receive<O: Outside>(
         &mut self,
         alloc: Global,
@@ -75,6 +76,7 @@ impl Waiting {
             self.old.receiving (O.told outside.old) (O.told outside.new) }
         ensures failing { result ≡ Err AskFault.LinkFault → Failing self.old.question turns
             self.old.receiving (O.told outside.old) (O.told outside.new) }
+        ensures unwritten { IsUnwritten (O.told outside.old) (O.told outside.new) }
     {
         for _ in 0..turns {
             if let Some(text) = self.hear(alloc, buf, outside)? {

@@ -1,19 +1,23 @@
 -- Kinds are read part by part, and show what their words name.
-use Rattle.std.proofs.Common.{◌≡◌, ℕ, ◌||◌, Bool, true, false, List, [], ◌∷◌, map, filter, flat_map, Option, Some, None, refl, sym, ◌∙◌, ap, if◌then◌else◌}
-use Rattle.std.specs.List.{list_any}
+use Rattle.std.proofs.Common.{◌≡◌, ℕ, ◌*◌, ◌%◌, ◌^◌, ◌==◌, ◌||◌, not, Bool, true, false, cond, List, [], ◌∷◌, filter, flat_map, slice_get, bit_and, bit_or, Option, Some, None, refl, sym, ◌∙◌, ap, if◌then◌else◌}
+use Rattle.std.specs.List.{find, list_any}
+use Rattle.std.specs.Option.{is_some}
 use Rattle.std.specs.Str.{bytes_eq}
 use Rattle.std.proofs.lemmas.Slice.Eq.{bytes_eq-Decides}
+use Rattle.std.proofs.lemmas.Nat.{and_or_self, and_or_apart, pow_apart}
+use denote.Enum.Declared.{tag_of}
 use Rattle.rsct_packet.specs.Lists.{is_empty}
 use Rattle.node_state.specs.declared.happened.Happened.{Happened}
 use Rattle.node_state.specs.declared.happened.Happened.TheVariants as happened
 use Rattle.world_model.specs.Text.{line_of}
-use Rattle.value_words.specs.Words.{◌>>=◌, chosen, split_on}
+use Rattle.value_words.specs.Words.{◌>>=◌, split_on}
 use Rattle.world_model.specs.Play.{kind_of, is_shown, lines_text, kinds_in}
 use Rattle.value_words.proofs.SplitLaws.{some_piece}
 use Rattle.transcript.specs.declared.kinds.Kinds.{Kinds}
 use Rattle.transcript.specs.declared.kinds.Kind.{Kind}
 use Rattle.transcript.specs.declared.kinds.Kind.TheVariants as kind
-use Rattle.transcript.specs.Kinds.{shows, all_kinds, no_kinds, kinds_text, word_of, choice_of, every_kind, kind_word, has_kind, with_kind, with_new, kind_step, kinds_from, kinds_of}
+use Rattle.transcript.specs.contracts.kinds.Kind.{the_type}
+use Rattle.transcript.specs.Kinds.{every_kind, word_of, kind_word, number_of, bit_of, all_kinds, no_kinds, has_kind, with_kind, has_named, shows, kinds_text, with_new, kind_step, kinds_from, kinds_of}
 
 -- ---- reading
 
@@ -52,47 +56,82 @@ pub kinds_last : (k : Kinds) (b : List ℕ) (s all : Option Kinds) → split_on 
 kinds_last k b s all e f h =
     f ∙ (sym (last_step (kind_step k b)) ∙ (sym (kinds_cons k b []) ∙ (ap (λ ws. kinds_from k ws) (sym e) ∙ h)))
 
--- ---- what a word names
+-- ---- a kind, its word and its bit
 
-choice_head : (t : Bool) (c d : Kind) (w : List ℕ) (p : Option Kind) → (t ≡ true → word_of c ≡ w) → (p ≡ Some d → word_of d ≡ w)
-    → ◌≡◌ {A = Option Kind} (elim t [ true ↦ Some c | false ↦ p ]) (Some d) → word_of d ≡ w
-choice_head true c d w p h go e = let same : c ≡ d = cc in ap word_of (sym same) ∙ h refl
-choice_head false c d w p h go e = go e
+-- the number that the code has for a kind is its place
+pub bit_by_tag : (c : Kind) → 1 * 2 ^ tag_of the_type c % 2 ^ 16 ≡ bit_of c
+unfolding bit_of number_of
+bit_by_tag c = elim c as (λ c. 1 * 2 ^ tag_of the_type c % 2 ^ 16 ≡ bit_of c) [ kind.Up ↦ refl | _ ↦ refl ]
 
-chosen_word : (cs : List Kind) (w : List ℕ) (d : Kind) → chosen (map choice_of cs) w ≡ Some d → word_of d ≡ w
-unfolding chosen
-chosen_word [] w d e = absurd cc
-chosen_word (c ∷ cs) w d e = choice_head (bytes_eq (word_of c) w) c d w (chosen (map choice_of cs) w) ((bytes_eq-Decides (word_of c) w).0) (chosen_word cs w d) e
+word_names : (c : Kind) → kind_word (word_of c) ≡ Some c
+unfolding kind_word
+word_names c = elim c as (λ c. kind_word (word_of c) ≡ Some c) [ kind.Up ↦ refl | _ ↦ refl ]
+
+place_names : (c : Kind) → slice_get every_kind (number_of c) ≡ Some c
+unfolding number_of
+place_names c = elim c as (λ c. slice_get every_kind (number_of c) ≡ Some c) [ kind.Up ↦ refl | _ ↦ refl ]
+
+bit_is_set : (c : Kind) → not (bit_of c == 0) ≡ true
+unfolding bit_of number_of
+bit_is_set c = elim c as (λ c. not (bit_of c == 0) ≡ true) [ kind.Up ↦ refl | _ ↦ refl ]
+
+same_by_word : (c d : Kind) → word_of d ≡ word_of c → d ≡ c
+same_by_word c d e = let both : ◌≡◌ {A = Option Kind} (Some d) (Some c) = sym (word_names d) ∙ (ap kind_word e ∙ word_names c) in cc
+
+same_by_place : (c d : Kind) → number_of c ≡ number_of d → c ≡ d
+same_by_place c d e = let both : ◌≡◌ {A = Option Kind} (Some c) (Some d) = sym (place_names c) ∙ (ap (slice_get every_kind) e ∙ place_names d) in cc
+
+bits_apart : (c d : Kind) → bytes_eq (word_of d) (word_of c) ≡ false → bit_and (bit_of c) (bit_of d) ≡ 0
+unfolding bit_of
+bits_apart c d e = pow_apart (number_of c) (number_of d) (λ (n : number_of c ≡ number_of d).
+    let same : bytes_eq (word_of d) (word_of c) ≡ true = (bytes_eq-Decides (word_of d) (word_of c)).1 (ap word_of (sym (same_by_place c d n))) in absurd cc)
+
+head_passes : (t : Bool) (p : Kind → Bool) (c : Kind) (cs : List Kind) (d : Kind) → p c ≡ t → (find p cs ≡ Some d → p d ≡ true) → cond t (Some c) (find p cs) ≡ Some d → p d ≡ true
+head_passes true p c cs d h go e = let same : c ≡ d = cc in ap p (sym same) ∙ h
+head_passes false p c cs d h go e = go e
+
+find_passes : (p : Kind → Bool) (cs : List Kind) (d : Kind) → find p cs ≡ Some d → p d ≡ true
+find_passes p [] d e = absurd cc
+find_passes p (c ∷ cs) d e = head_passes (p c) p c cs d refl (find_passes p cs d) e
 
 kind_has_word : (w : List ℕ) (d : Kind) → kind_word w ≡ Some d → word_of d ≡ w
 unfolding kind_word
-kind_has_word w d e = chosen_word every_kind w d e
+kind_has_word w d e = (bytes_eq-Decides (word_of d) w).0 (find_passes (λ c. bytes_eq (word_of c) w) every_kind d e)
 
 -- ---- what kinds show
 
+-- the kind of a record is that of its word
+pub record_shown : (k : Kinds) (c : Kind) (r : Happened) (shown : Bool) → word_of c ≡ kind_of r → shown ≡ has_kind k c → shown ≡ shows k r
+unfolding shows
+record_shown k c r shown e h = h ∙ ap (has_named k) (sym (word_names c) ∙ ap kind_word e)
+
+has_in : (t : Bool) (k : Kinds) (c d : Kind) → bytes_eq (word_of d) (word_of c) ≡ t → has_kind (with_kind k c) d ≡ (t || has_kind k d)
+unfolding has_kind with_kind
+has_in true k c d e =
+    let same : d ≡ c = same_by_word c d ((bytes_eq-Decides (word_of d) (word_of c)).0 e) in
+    ap (λ b. not (bit_and (bit_or k.bits (bit_of b)) (bit_of d) == 0)) (sym same) ∙ (ap (λ n. not (n == 0)) (and_or_self (bit_of d) k.bits) ∙ bit_is_set d)
+has_in false k c d e = ap (λ n. not (n == 0)) (and_or_apart (bit_of d) k.bits (bit_of c) (bits_apart c d e))
+
+has_kind_of_its_own : (r : Happened) → is_some (kind_word (kind_of r)) ≡ true
+unfolding kind_word kind_of
+has_kind_of_its_own r = elim r as (λ r. is_some (kind_word (kind_of r)) ≡ true) [ happened.Up node inc ↦ refl | _ ↦ refl ]
+
+named_in_more : (k : Kinds) (c : Kind) (r : Happened) (o : Option Kind) → kind_word (kind_of r) ≡ o → is_some o ≡ true → has_named (with_kind k c) o ≡ (bytes_eq (kind_of r) (word_of c) || has_named k o)
+named_in_more k c r None e some = absurd cc
+named_in_more k c r (Some d) e some =
+    has_in (bytes_eq (word_of d) (word_of c)) k c d refl ∙ ap (λ w. bytes_eq w (word_of c) || has_kind k d) (kind_has_word (kind_of r) d e)
+
 with_shows : (k : Kinds) (c : Kind) (r : Happened) → shows (with_kind k c) r ≡ (bytes_eq (kind_of r) (word_of c) || shows k r)
-unfolding shows kind_of
-with_shows k kind.Up r = elim r as (λ r. shows (with_kind k kind.Up) r ≡ (bytes_eq (kind_of r) (word_of kind.Up) || shows k r)) [ happened.Up node inc ↦ refl | _ ↦ refl ]
-with_shows k kind.Down r = elim r as (λ r. shows (with_kind k kind.Down) r ≡ (bytes_eq (kind_of r) (word_of kind.Down) || shows k r)) [ happened.Up node inc ↦ refl | _ ↦ refl ]
-with_shows k kind.Ring r = elim r as (λ r. shows (with_kind k kind.Ring) r ≡ (bytes_eq (kind_of r) (word_of kind.Ring) || shows k r)) [ happened.Up node inc ↦ refl | _ ↦ refl ]
-with_shows k kind.In r = elim r as (λ r. shows (with_kind k kind.In) r ≡ (bytes_eq (kind_of r) (word_of kind.In) || shows k r)) [ happened.Up node inc ↦ refl | _ ↦ refl ]
-with_shows k kind.Base r = elim r as (λ r. shows (with_kind k kind.Base) r ≡ (bytes_eq (kind_of r) (word_of kind.Base) || shows k r)) [ happened.Up node inc ↦ refl | _ ↦ refl ]
-with_shows k kind.Put r = elim r as (λ r. shows (with_kind k kind.Put) r ≡ (bytes_eq (kind_of r) (word_of kind.Put) || shows k r)) [ happened.Up node inc ↦ refl | _ ↦ refl ]
-with_shows k kind.Heard r = elim r as (λ r. shows (with_kind k kind.Heard) r ≡ (bytes_eq (kind_of r) (word_of kind.Heard) || shows k r)) [ happened.Up node inc ↦ refl | _ ↦ refl ]
-with_shows k kind.Cast r = elim r as (λ r. shows (with_kind k kind.Cast) r ≡ (bytes_eq (kind_of r) (word_of kind.Cast) || shows k r)) [ happened.Up node inc ↦ refl | _ ↦ refl ]
-with_shows k kind.Asked r = elim r as (λ r. shows (with_kind k kind.Asked) r ≡ (bytes_eq (kind_of r) (word_of kind.Asked) || shows k r)) [ happened.Up node inc ↦ refl | _ ↦ refl ]
-with_shows k kind.Told r = elim r as (λ r. shows (with_kind k kind.Told) r ≡ (bytes_eq (kind_of r) (word_of kind.Told) || shows k r)) [ happened.Up node inc ↦ refl | _ ↦ refl ]
-with_shows k kind.Noted r = elim r as (λ r. shows (with_kind k kind.Noted) r ≡ (bytes_eq (kind_of r) (word_of kind.Noted) || shows k r)) [ happened.Up node inc ↦ refl | _ ↦ refl ]
-with_shows k kind.Refused r = elim r as (λ r. shows (with_kind k kind.Refused) r ≡ (bytes_eq (kind_of r) (word_of kind.Refused) || shows k r)) [ happened.Up node inc ↦ refl | _ ↦ refl ]
-with_shows k kind.Show r = elim r as (λ r. shows (with_kind k kind.Show) r ≡ (bytes_eq (kind_of r) (word_of kind.Show) || shows k r)) [ happened.Up node inc ↦ refl | _ ↦ refl ]
+unfolding shows
+with_shows k c r = named_in_more k c r (kind_word (kind_of r)) refl (has_kind_of_its_own r)
 
 no_shows : (r : Happened) → shows no_kinds r ≡ false
-unfolding shows no_kinds
+unfolding shows no_kinds has_kind bit_of number_of kind_word kind_of
 no_shows r = elim r as (λ r. shows no_kinds r ≡ false) [ happened.Up node inc ↦ refl | _ ↦ refl ]
 
 -- every record is shown where no kind is named
 pub all_show : (r : Happened) → shows all_kinds r ≡ is_shown [] r
-unfolding shows all_kinds is_shown
+unfolding shows all_kinds has_kind bit_of number_of kind_word kind_of is_shown
 all_show r = elim r as (λ r. shows all_kinds r ≡ true) [ happened.Up node inc ↦ refl | _ ↦ refl ]
 
 new_shows : (t : Bool) (k j : Kinds) (c : Kind) (r : Happened) → ◌≡◌ {A = Option Kinds} (if t then None else Some (with_kind k c)) (Some j) → shows j r ≡ (bytes_eq (kind_of r) (word_of c) || shows k r)
@@ -138,7 +177,7 @@ parts_shown [] r e = absurd cc
 parts_shown (w ∷ ws) r e = refl
 
 no_word : (k : Kinds) → kinds_of [] ≡ Some k → ⊥
-unfolding kinds_of split_on kinds_from kind_step kind_word chosen ◌>>=◌
+unfolding kinds_of split_on kinds_from kind_step kind_word ◌>>=◌
 no_word k e = cc
 
 named_in : (word : List ℕ) (k : Kinds) → kinds_of word ≡ Some k → split_on 44 word ≡ kinds_in word

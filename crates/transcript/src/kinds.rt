@@ -1,13 +1,14 @@
 //! Which kinds of records are shown.
 ghost use Rattle.std.specs.Prelude.{◌≡◌};
-ghost use Rattle.transcript.specs.Kinds.{shows, all_kinds, no_kinds, kind_word, has_kind, with_kind, with_new, kind_step, kinds_of};
+ghost use Rattle.world_model.specs.Play.{kind_of};
+ghost use Rattle.transcript.specs.Kinds.{word_of, kind_word, bit_of, shows, all_kinds, no_kinds, has_kind, with_kind, kind_step, kinds_of};
 
 use node_state::Happened;
 use value_words::{cut_at, is_word};
 
-/// A kind of records.
-#[derive(Clone, Copy)]
-enum Kind {
+/// A kind of records. A new one is a line here, one in `ALL`, one in `word` and one in `of`.
+#[derive(Clone, Copy, Debug, PartialEq, Eq)]
+pub enum Kind {
     Up,
     Down,
     Ring,
@@ -23,70 +24,90 @@ enum Kind {
     Show,
 }
 
-/// The kinds of records that are shown.
-#[derive(Clone, Copy, Debug, PartialEq, Eq)]
-pub struct Kinds {
-    pub up: bool,
-    pub down: bool,
-    pub ring: bool,
-    /// `in`: a node enters a view.
-    pub in_view: bool,
-    pub base: bool,
-    pub put: bool,
-    pub heard: bool,
-    pub cast: bool,
-    pub asked: bool,
-    pub told: bool,
-    pub noted: bool,
-    pub refused: bool,
-    /// `show`: a line of a status.
-    pub shown: bool,
+impl Kind {
+    /// Every kind, in the order of their numbers.
+    const ALL: [Kind; 13] = [
+        Kind::Up,
+        Kind::Down,
+        Kind::Ring,
+        Kind::In,
+        Kind::Base,
+        Kind::Put,
+        Kind::Heard,
+        Kind::Cast,
+        Kind::Asked,
+        Kind::Told,
+        Kind::Noted,
+        Kind::Refused,
+        Kind::Show,
+    ];
+
+    /// The word with which the lines of its records begin.
+    fn word(self) -> &'static [u8]
+        ensures { result.now ≡ word_of self }
+    {
+        match self {
+            Kind::Up => b"up",
+            Kind::Down => b"down",
+            Kind::Ring => b"ring",
+            Kind::In => b"in",
+            Kind::Base => b"base",
+            Kind::Put => b"put",
+            Kind::Heard => b"heard",
+            Kind::Cast => b"cast",
+            Kind::Asked => b"asked",
+            Kind::Told => b"told",
+            Kind::Noted => b"noted",
+            Kind::Refused => b"refused",
+            Kind::Show => b"show",
+        }
+    }
+
+    /// The kind of the record: its word is that with which the record's line begins.
+    #[tactic(auto, unfolding(world_model::specs::Play::kind_of))]
+    fn of(happened: &Happened) -> Kind
+        ensures { word_of result ≡ kind_of happened.now }
+    {
+        match happened {
+            Happened::Up { .. } => Kind::Up,
+            Happened::Down { .. } => Kind::Down,
+            Happened::Ring { .. } => Kind::Ring,
+            Happened::In { .. } => Kind::In,
+            Happened::Base { .. } => Kind::Base,
+            Happened::Put { .. } => Kind::Put,
+            Happened::Heard { .. } => Kind::Heard,
+            Happened::Cast { .. } => Kind::Cast,
+            Happened::Asked { .. } => Kind::Asked,
+            Happened::Told { .. } => Kind::Told,
+            Happened::Noted { .. } => Kind::Noted,
+            Happened::Refused { .. } => Kind::Refused,
+            Happened::Shown { .. } => Kind::Show,
+        }
+    }
+
+    /// The kind that has this word; none where no kind has it.
+    #[tactic(auto, unfolding(crate::specs::Kinds::kind_word))]
+    fn of_word(word: &[u8]) -> Option<Kind>
+        ensures { result ≡ kind_word word.now }
+    {
+        Kind::ALL
+            .iter()
+            .copied()
+            .find(|kind| is_word(kind.word(), word))
+    }
+
+    /// The bit that stands for it in a set.
+    fn bit(self) -> u16
+        ensures { result ≡ bit_of self }
+    {
+        1 << self as u16
+    }
 }
 
-#[tactic(auto, unfolding(crate::specs::Kinds::kind_word, value_words::specs::Words::chosen))]
-fn kind_word(word: &[u8]) -> Option<Kind>
-    ensures { result ≡ kind_word word.now }
-{
-    if is_word(b"up", word) {
-        return Some(Kind::Up);
-    }
-    if is_word(b"down", word) {
-        return Some(Kind::Down);
-    }
-    if is_word(b"ring", word) {
-        return Some(Kind::Ring);
-    }
-    if is_word(b"in", word) {
-        return Some(Kind::In);
-    }
-    if is_word(b"base", word) {
-        return Some(Kind::Base);
-    }
-    if is_word(b"put", word) {
-        return Some(Kind::Put);
-    }
-    if is_word(b"heard", word) {
-        return Some(Kind::Heard);
-    }
-    if is_word(b"cast", word) {
-        return Some(Kind::Cast);
-    }
-    if is_word(b"asked", word) {
-        return Some(Kind::Asked);
-    }
-    if is_word(b"told", word) {
-        return Some(Kind::Told);
-    }
-    if is_word(b"noted", word) {
-        return Some(Kind::Noted);
-    }
-    if is_word(b"refused", word) {
-        return Some(Kind::Refused);
-    }
-    if is_word(b"show", word) {
-        return Some(Kind::Show);
-    }
-    None
+/// A set of kinds: those of which the records are shown.
+#[derive(Clone, Copy, Debug, PartialEq, Eq)]
+pub struct Kinds {
+    bits: u16,
 }
 
 impl Kinds {
@@ -96,19 +117,7 @@ impl Kinds {
         ensures { result ≡ all_kinds }
     {
         Kinds {
-            up: true,
-            down: true,
-            ring: true,
-            in_view: true,
-            base: true,
-            put: true,
-            heard: true,
-            cast: true,
-            asked: true,
-            told: true,
-            noted: true,
-            refused: true,
-            shown: true,
+            bits: (1 << Kind::ALL.len()) - 1,
         }
     }
 
@@ -117,103 +126,44 @@ impl Kinds {
     pub fn none() -> Kinds
         ensures { result ≡ no_kinds }
     {
-        Kinds {
-            up: false,
-            down: false,
-            ring: false,
-            in_view: false,
-            base: false,
-            put: false,
-            heard: false,
-            cast: false,
-            asked: false,
-            told: false,
-            noted: false,
-            refused: false,
-            shown: false,
-        }
+        Kinds { bits: 0 }
+    }
+
+    /// Is it one of these kinds?
+    #[tactic(auto, unfolding(crate::specs::Kinds::has_kind))]
+    pub fn contains(self, kind: Kind) -> bool
+        ensures { result ≡ has_kind self kind }
+    {
+        self.bits & kind.bit() != 0
+    }
+
+    /// The kind is one of these from now on.
+    #[tactic(auto, unfolding(crate::specs::Kinds::with_kind))]
+    pub fn insert(&mut self, kind: Kind)
+        ensures { self.new ≡ with_kind self.old kind }
+    {
+        self.bits |= kind.bit();
     }
 
     /// Is the record of one of these kinds?
-    #[tactic(auto, unfolding(crate::specs::Kinds::shows))]
+    #[tactic(auto, using(crate::proofs::KindLaws::record_shown))]
     pub fn shows(&self, happened: &Happened) -> bool
         ensures { result ≡ shows self.now happened.now }
     {
-        match happened {
-            Happened::Up { .. } => self.up,
-            Happened::Down { .. } => self.down,
-            Happened::Ring { .. } => self.ring,
-            Happened::In { .. } => self.in_view,
-            Happened::Base { .. } => self.base,
-            Happened::Put { .. } => self.put,
-            Happened::Heard { .. } => self.heard,
-            Happened::Cast { .. } => self.cast,
-            Happened::Asked { .. } => self.asked,
-            Happened::Told { .. } => self.told,
-            Happened::Noted { .. } => self.noted,
-            Happened::Refused { .. } => self.refused,
-            Happened::Shown { .. } => self.shown,
-        }
-    }
-
-    fn has_kind(&self, kind: Kind) -> bool
-        ensures { result ≡ has_kind self.now kind }
-    {
-        match kind {
-            Kind::Up => self.up,
-            Kind::Down => self.down,
-            Kind::Ring => self.ring,
-            Kind::In => self.in_view,
-            Kind::Base => self.base,
-            Kind::Put => self.put,
-            Kind::Heard => self.heard,
-            Kind::Cast => self.cast,
-            Kind::Asked => self.asked,
-            Kind::Told => self.told,
-            Kind::Noted => self.noted,
-            Kind::Refused => self.refused,
-            Kind::Show => self.shown,
-        }
-    }
-
-    fn with_kind(mut self, kind: Kind) -> Kinds
-        ensures { result ≡ with_kind self kind }
-    {
-        match kind {
-            Kind::Up => self.up = true,
-            Kind::Down => self.down = true,
-            Kind::Ring => self.ring = true,
-            Kind::In => self.in_view = true,
-            Kind::Base => self.base = true,
-            Kind::Put => self.put = true,
-            Kind::Heard => self.heard = true,
-            Kind::Cast => self.cast = true,
-            Kind::Asked => self.asked = true,
-            Kind::Told => self.told = true,
-            Kind::Noted => self.noted = true,
-            Kind::Refused => self.refused = true,
-            Kind::Show => self.shown = true,
-        }
-        self
-    }
-
-    /// One kind more, which is not among them yet.
-    fn with_new(self, kind: Kind) -> Option<Kinds>
-        ensures { result ≡ with_new self kind }
-    {
-        if self.has_kind(kind) {
-            None
-        } else {
-            Some(self.with_kind(kind))
-        }
+        self.contains(Kind::of(happened))
     }
 
     /// The kind of this word more, which is not among them yet.
     #[tactic(auto, unfolding(crate::specs::Kinds::kind_step, value_words::specs::Answers::bind_opens))]
-    fn with_word(self, word: &[u8]) -> Option<Kinds>
+    fn with_word(mut self, word: &[u8]) -> Option<Kinds>
         ensures { result ≡ kind_step self word.now }
     {
-        self.with_new(kind_word(word)?)
+        let kind = Kind::of_word(word)?;
+        if self.contains(kind) {
+            return None;
+        }
+        self.insert(kind);
+        Some(self)
     }
 
     /// The kinds that the word lists, each by the word with which its lines begin, joined by commas, each once;

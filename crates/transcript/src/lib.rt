@@ -9,6 +9,6 @@ mod notes;
 mod records;
 
 pub use bad_lines::{fault_line, put_fault_line, why_text};
-pub use kinds::Kinds;
+pub use kinds::{Kind, Kinds};
 pub use laws::{all_kinds_show_all, kinds_show_what_they_name};
 pub use records::{line_of, put_line};

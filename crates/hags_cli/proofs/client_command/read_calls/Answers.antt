@@ -4,7 +4,7 @@ use Rattle.script_reader.specs.ClientScript.{client_script}
 use Rattle.hags_cli.proofs.ClientLaws.{calls_have}
 use Rattle.hags_cli.proofs.client_command.read_calls.Goals as goal
 
-pub returns-in-Ok-read_client-clause-read : goal.returns-in-Ok-read_client-clause-read
-returns-in-Ok-read_client-clause-read g c =
-    calls_have (g.S.Source.left c.args.input.now) c.in-Ok.front.items c.args.node _ c.in-Ok.ensures.front
-    (ap (client_script c.args.node) (sym c.as_slice.ensures.value) ∙ c.in-Ok-read_client.ensures.read)
+pub returns-clause-read : goal.returns-clause-read
+returns-clause-read g c =
+    calls_have (g.S.Source.left c.args.input.now) c.in_ok-front.front.items c.args.node _ c.in_ok-front.ensures.front
+    (ap (client_script c.args.node) (sym c.as_slice.ensures.value) ∙ c.in_ok-script.ensures.read)

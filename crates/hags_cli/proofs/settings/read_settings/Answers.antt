@@ -4,7 +4,7 @@ use Rattle.world_model.specs.Settings.{daemon_script}
 use Rattle.hags_cli.proofs.SettingsLaws.{settings_have}
 use Rattle.hags_cli.proofs.settings.read_settings.Goals as goal
 
-pub returns-in-Ok-read_daemon-clause-read : goal.returns-in-Ok-read_daemon-clause-read
-returns-in-Ok-read_daemon-clause-read g c =
-    settings_have (g.S.Source.left c.args.input.now) c.in-Ok.front.items c.args.node c.args.objects _ c.in-Ok.ensures.front
-    (ap (daemon_script c.args.node c.args.objects) (sym c.as_slice.ensures.value) ∙ c.in-Ok-read_daemon.ensures.read)
+pub returns-clause-read : goal.returns-clause-read
+returns-clause-read g c =
+    settings_have (g.S.Source.left c.args.input.now) c.in_ok-front.front.items c.args.node c.args.objects _ c.in_ok-front.ensures.front
+    (ap (daemon_script c.args.node c.args.objects) (sym c.as_slice.ensures.value) ∙ c.in_ok-script.ensures.read)

@@ -1,0 +1,20 @@
+-- A turn broke off, too many receives in a row failed, or all turns were done.
+use Rattle.daemon_run.proofs.ServeLaws.{turns_ended, turns_broken, turns_front, ended_front}
+use Rattle.daemon_run.proofs.running.Running.serve_turns.Goals as goal
+
+pub returns-in_err-turn-clause-ever : goal.returns-in_err-turn-clause-ever
+returns-in_err-turn-clause-ever g c = turns_broken c.args.self.now c.loop.self c.loop.counter c.args.turns _ _ _ c.loop-test.true c.loop.invariant.done c.in_err-turn.ensures.broke
+
+pub returns-then-self-ge-MOST_FAILED-clause-ended :
+    goal.returns-then-self-ge-MOST_FAILED-clause-ended
+returns-then-self-ge-MOST_FAILED-clause-ended g c = λ e.
+    turns_ended c.args.self.now c.loop.self c.turn.new.self c.loop.counter c.args.turns _ _ _ c.loop-test.true c.loop.invariant.done c.in_ok-turn.ensures.done c.if-self-ge-MOST_FAILED.true
+
+pub returns-then-self-ge-MOST_FAILED-clause-ever :
+    goal.returns-then-self-ge-MOST_FAILED-clause-ever
+returns-then-self-ge-MOST_FAILED-clause-ever g c =
+    ended_front c.args.self.now c.turn.new.self c.args.turns _ _
+    (turns_ended c.args.self.now c.loop.self c.turn.new.self c.loop.counter c.args.turns _ _ _ c.loop-test.true c.loop.invariant.done c.in_ok-turn.ensures.done c.if-self-ge-MOST_FAILED.true)
+
+pub returns-clause-ever : goal.returns-clause-ever
+returns-clause-ever g c = turns_front c.args.self.now c.loop.self c.loop.counter c.args.turns _ _ c.loop.invariant.counted c.loop.invariant.done
