@@ -1,5 +1,5 @@
 -- Where each packet has a network, each leaves its node by itself, and the run is one of the direct world.
-use Rattle.std.proofs.Common.{◌≡◌, ◌≢◌, ◌==◌, ◌&&◌, ◌-◌, ◌+◌, ℕ, zero, suc, Bool, true, false, cond, List, [], ◌∷◌, ◌++◌, length, Option, Some, None, refl, sym, ap, ◌∙◌, subst, inl, inr}
+use Rattle.std.proofs.Common.{◌≡◌, ◌≢◌, ◌==◌, ◌&&◌, ◌-◌, ℕ, zero, suc, Bool, true, false, cond, List, [], ◌∷◌, ◌++◌, length, Option, Some, None, refl, sym, ap, ◌∙◌, subst, inl, inr}
 use Rattle.std.specs.Prelude.{find, fold, map, take, nat_lt, nat_le, slice_get}
 use Rattle.std.specs.Option.{option_map}
 use Rattle.std.proofs.lemmas.Bool.{ne_eqb}
@@ -25,7 +25,7 @@ use Rattle.world_laws.proofs.world_runs.Backwards.{reversed, added_since}
 use Rattle.world_laws.specs.world_answers.Answers.{Answered, step_by, delivers_by_if, happens_by, goes_on, answered_after}
 use Rattle.world_laws.proofs.world_answers.Waits.{same_goes}
 use Rattle.relay_model.specs.Leaving.{Bare, Leaving, alone, around_if, leaves_as}
-use Rattle.relay_model.specs.Relays.{Pair, Relayed, is_pair, pair_with, pairs_with, leaves, datagram_in, datagram_between, handled, core_in, leaves_if, sends, settled, given_to, comes_to, arrives_if, relays_by, relays_on, relayed_new, relayed_after}
+use Rattle.relay_model.specs.Relays.{Relayed, is_pair, pair_with, pairs_with, leaves, datagram_in, datagram_between, handled, core_in, leaves_if, sends, settled, given_to, comes_to, arrives_if, relays_by, relays_on, relayed_new, relayed_after}
 use Rattle.relay_laws.specs.Bare.{bare_pair, AllBare, HaveNetworks, RunsWithoutRelays}
 use Rattle.relay_laws.proofs.Holding.{step_holds, happens_holds, all_start, happens_keeps}
 use Rattle.relay_laws.proofs.Delivering.{same_node, same_kth, step_delivers}
