@@ -1,0 +1,11 @@
+pub mod Holding
+pub mod Numbered
+pub mod Delivering
+pub mod Leaving
+pub mod Datagrams
+pub mod Carrying
+pub mod Routes
+pub mod Bare
+pub mod Direct
+pub mod Waiting
+pub mod Playing

@@ -1,0 +1,6 @@
+-- The law is the lemma's.
+use Rattle.relay_laws.proofs.Playing.{every_kept_relayed_play_is_safe}
+use Rattle.relay_laws.proofs.every_kept_relayed_play_is_safe.Goals as goal
+
+pub returns : goal.returns
+returns c = every_kept_relayed_play_is_safe
