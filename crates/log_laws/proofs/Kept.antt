@@ -1,5 +1,5 @@
 -- What logs keep of records: what is there, what was put and heard, and where nodes are.
-use Rattle.std.proofs.Common.{◌≡◌, ◌≢◌, ◌<◌, ◌≤◌, ℕ, ◌⊎◌, ⊎_elim, inl, inr, refl, sym, ap, ◌∙◌, subst, Bool, true, false, List, [], ◌∷◌, Option, Some, None, arith}
+use Rattle.std.proofs.Common.{◌≡◌, ◌≢◌, ◌<◌, ℕ, ◌⊎◌, ⊎_elim, inl, inr, refl, sym, ap, ◌∙◌, subst, true, false, List, [], ◌∷◌, Option, Some, None, arith}
 use Rattle.std.specs.Prelude.{◌==◌, take, if◌then◌else◌}
 use Rattle.std.proofs.lemmas.Bool.{cases_eq, eq-eqb, ne_eqb}
 use Rattle.rsct_packet.specs.declared.ids.Member.{Member}
@@ -14,13 +14,13 @@ use Rattle.proposal_core.specs.Fold.{empty_state}
 use Rattle.node_state.specs.declared.happened.Happened.{Happened}
 use Rattle.node_state.specs.declared.happened.Happened.TheVariants.{Up, Down, Ring, In}
 use Rattle.run_safety.specs.Past.{inc_now, inc_after, view_now, place_after, puts_of, puts_after, base_of, base_after, fold_from, state_at, state_now}
-use Rattle.run_safety.specs.Stays.{Stay, stays, stays_after}
+use Rattle.run_safety.specs.Stays.{stays, stays_after}
 use Rattle.run_safety.specs.SafeHeard.{latest_put, put_after, heard_count}
 use Rattle.run_safety.specs.SafeHeard as safe
 use Rattle.row_laws.specs.hearing.Hearing.{last_heard}
 use Rattle.row_laws.specs.hearing.Hearing as hearing
-use Rattle.run_laws.specs.seen_runs.Seen.{IsTold, WasTold}
-use Rattle.log_laws.specs.Logs.{is_up, up_after, LivesAreLogged, IsLeftOut, Logs, Nothing, Writes, LeavesOut}
+use Rattle.run_laws.specs.seen_runs.Seen.{WasTold}
+use Rattle.log_laws.specs.Logs.{is_up, up_after, IsLeftOut, Logs, Nothing, Writes, LeavesOut}
 
 -- ---- what is there
 

@@ -1,16 +1,15 @@
 -- The law: field by field, what logs have of Seen records is Seen.
-use Rattle.std.proofs.Common.{◌≡◌, ◌<◌, ◌≤◌, ◌+◌, ℕ, ◌⊎◌, inl, inr, refl, sym, ap, ◌∙◌, subst, Bool, true, false, List, [], ◌∷◌, length, Option, Some, None}
+use Rattle.std.proofs.Common.{◌≡◌, ◌<◌, ◌≤◌, ◌+◌, ℕ, inl, inr, refl, sym, ap, ◌∙◌, subst, Bool, true, false, List, ◌∷◌, length, Option, Some, None}
 use Rattle.std.specs.Prelude.{◌&&◌, not, filter, take, IsTrue}
 use Rattle.rsct_packet.specs.declared.ids.Member.{Member}
 use Rattle.rsct_packet.specs.declared.ids.ProtoId.{ProtoId}
 use Rattle.rsct_packet.specs.declared.ids.ProviderId.{ProviderId}
 use Rattle.rsct_packet.specs.declared.ids.ViewId.{ViewId}
-use Rattle.rsct_packet.specs.Ids.{same_view, is_member}
+use Rattle.rsct_packet.specs.Ids.{is_member}
 use Rattle.rsct_packet.specs.Search.{Has}
 use Rattle.proposal_core.specs.declared.entry.Closed.{Closed}
 use Rattle.proposal_core.specs.declared.entry.Entry.{Entry}
 use Rattle.proposal_core.specs.declared.entry.Entry.TheVariants.{Once, Begin, Phase, Approve, Reject, Late}
-use Rattle.proposal_core.specs.declared.entry.Row.{Row}
 use Rattle.proposal_core.specs.declared.entry.RowVote.{RowVote}
 use Rattle.proposal_core.specs.declared.entry.RowVote.TheVariants as row_vote
 use Rattle.proposal_core.specs.declared.group_state.GroupState.{GroupState}
@@ -24,13 +23,13 @@ use Rattle.run_safety.specs.Sight.{inc_in}
 use Rattle.run_safety.specs.SafeLists.{NextPlace, InItsView, Fitting, is_later, Rising, AmongMembers}
 use Rattle.run_safety.specs.SafeHeard.{is_after, InOrder, HeardState}
 use Rattle.run_safety.specs.Stays.{Stay, part, takes_part}
-use Rattle.row_laws.specs.honest_votes.Casts.{IsCast, RowCast, RowsCast, EntryCast}
+use Rattle.row_laws.specs.honest_votes.Casts.{RowCast, RowsCast, EntryCast}
 use Rattle.entry_laws.specs.closing_rows.Rows.{HasRows}
-use Rattle.provider_laws.specs.attending.Places.{IsNext, IsUp}
+use Rattle.provider_laws.specs.attending.Places.{IsNext}
 use Rattle.provider_laws.specs.single_casts.Single.{HeardOpened, CastAfterNotice, NotCastBefore}
-use Rattle.run_laws.specs.seen_runs.Seen.{StartsLater, RisesSeen, StartedSeen, SameSeen, from_of, LeavesTogether, is_from, lives, marked, CutFrom, BaseSeenAt, BaseSeen, SameBases, SameEntry, TallySeen, VotesSeen, AskedInOne, BeginsOnce, OnceSeen, RowsSeen, HeardSeen, SeenAt, Seen}
-use Rattle.run_laws.specs.seen_runs.Rings.{RingSeenAt, RingSeen, RingsSeen}
-use Rattle.log_laws.specs.Logs.{is_up, LivesAreLogged, Logs, Nothing, Writes, LeavesOut, Upright, AllUpright}
+use Rattle.run_laws.specs.seen_runs.Seen.{StartsLater, RisesSeen, StartedSeen, SameSeen, from_of, LeavesTogether, is_from, lives, marked, CutFrom, BaseSeen, SameBases, SameEntry, TallySeen, VotesSeen, AskedInOne, BeginsOnce, OnceSeen, RowsSeen, HeardSeen, SeenAt, Seen}
+use Rattle.run_laws.specs.seen_runs.Rings.{RingSeenAt, RingSeen}
+use Rattle.log_laws.specs.Logs.{LivesAreLogged, Logs, Nothing, Writes, LeavesOut, Upright, AllUpright}
 use Rattle.log_laws.specs.Law.{LogsAreSeen, LoggedRingsAreSeen}
 use Rattle.log_laws.proofs.Kept.{was_recorded, IsWork, work_logged, told_before, same_puts, same_base, same_latest, same_count, same_heard, same_state_at, same_state, same_view_now, same_stays}
 use Rattle.log_laws.proofs.Past.{last_start, entered_started, members_same, entered_once, view_up, in_by_logs, entered_by_logs, OldEntered, old_entered, from_entered, same_from}

@@ -1,6 +1,6 @@
 -- What Seen records say of nodes and of the views that they entered; and where logs have what is put and noted in a view, they have
 -- that its node entered it.
-use Rattle.std.proofs.Common.{◌≡◌, ◌≢◌, ◌<◌, ◌≤◌, ℕ, ◌⊎◌, ⊎_elim, inl, inr, refl, sym, ap, ◌∙◌, subst, Bool, true, false, List, [], ◌∷◌, Option, Some, None, arith}
+use Rattle.std.proofs.Common.{◌≡◌, ◌<◌, ◌≤◌, ℕ, ⊎_elim, inl, inr, refl, sym, ap, ◌∙◌, subst, Bool, true, false, List, [], ◌∷◌, Option, Some, None, arith}
 use Rattle.std.specs.Prelude.{◌==◌, ◌&&◌, if◌then◌else◌}
 use Rattle.std.proofs.lemmas.Bool.{cases_eq, eqb-true, and_parts}
 use Rattle.rsct_packet.specs.declared.ids.Member.{Member}
@@ -13,7 +13,7 @@ use Rattle.node_state.specs.declared.happened.Happened.TheVariants.{Up, Down, Ri
 use Rattle.run_safety.specs.Past.{inc_now, inc_after, view_now, place_after}
 use Rattle.run_safety.specs.Sight.{inc_in}
 use Rattle.run_safety.specs.ViewOrder.{Lt}
-use Rattle.run_safety.specs.SafeLists.{AmongMembers, InItsView}
+use Rattle.run_safety.specs.SafeLists.{AmongMembers}
 use Rattle.run_safety.proofs.Order.{lt_not_same}
 use Rattle.run_safety.proofs.Tests.{any_has}
 use Rattle.run_laws.specs.seen_runs.Seen.{StartsLater, StartedSeen, RisesSeen, SameSeen, from_of, from_after, greater, SeenAt, Seen}
