@@ -5,3 +5,4 @@ pub mod Writing
 pub mod Ups
 pub mod Groups
 pub mod Runs
+pub mod Worked

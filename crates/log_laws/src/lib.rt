@@ -1,6 +1,9 @@
 //! What the logs of daemons show: they have the records of a run without lives in which nothing is done.
 #![tactic(auto)]
 
+ghost use Rattle.std.specs.Prelude.{[]};
+ghost use Rattle.log_laws.specs.Logs.{Logs};
+ghost use Rattle.log_laws.specs.Samples.{starts_twice, starts_twice_logged, enters_with_another};
 ghost use Rattle.log_laws.specs.Law.{LogsAreSeen, LoggedRingsAreSeen, EveryRunIsSeenInLogs};
 
 /// Where records are `Seen`, each node enters views while it is up, and bases come from views in which their group was, those of them
@@ -15,4 +18,11 @@ pub fn logs_are_seen()
 #[tactic(auto, using(crate::proofs::Runs::every_run_is_seen_in_logs))]
 pub fn every_run_is_seen_in_logs()
     ensures { EveryRunIsSeenInLogs }
+{}
+
+/// Of a node that skips an incarnation the logs have nothing of that one. A view of two nodes they cannot leave out.
+#[tactic(auto, using(crate::proofs::Worked::skipped_life, crate::proofs::Worked::company_is_kept))]
+pub fn leaves_out_what_nobody_did()
+    ensures skipped { Logs starts_twice starts_twice_logged }
+    ensures company { Logs enters_with_another [] → ⊥ }
 {}
