@@ -12,7 +12,7 @@ use Rattle.node_state.specs.declared.happened.Happened.TheVariants as happened
 use Rattle.run_safety.specs.Past.{History, records_of, fold_from}
 use Rattle.run_safety.specs.Sight.{inc_in, lines_at, lines_of}
 use Rattle.run_safety.specs.Group.{Reply, Origin, Put, Line, Kept, Noted, Based, kept}
-use Rattle.run_safety.specs.Bases.{Bases, base_state, is_candidate, Wins, side_state}
+use Rattle.run_safety.specs.Bases.{base_state, is_candidate, Wins, side_state}
 use Rattle.run_safety.specs.GroupLaws.{Brought}
 use Rattle.run_safety.specs.Moves.{Opening}
 use Rattle.run_safety.specs.SafeGroups.{SafeLines, SafeGroups}

@@ -14,8 +14,10 @@ use Rattle.node_state.specs.declared.state.Core.{Core}
 use Rattle.node_state.specs.Settings.{is_fixed}
 use Rattle.node_state.specs.HandOn.{Answering}
 use Rattle.node_state.specs.Step.{NodeEvent, own_rings, ring_record, first_view, first_members, started, stepped}
+use Rattle.world_model.specs.declared.event.Event.{Event}
 use Rattle.run_safety.specs.Past.{History, records_of, Within, EachRecord, view_now}
 use Rattle.step_refinement.specs.Tied.{Scene, NodeIs, NodeIsIf}
+use Rattle.step_refinement.specs.Rules.{ended}
 use Rattle.step_refinement.specs.Runs.{IsNote, Reached, Nothing, AllStart, Starts, Stops, Steps, Notes}
 use Rattle.step_refinement.proofs.Changed.{each_set}
 use Rattle.step_refinement.proofs.RunLaw.{reached_rests}
@@ -107,6 +109,29 @@ module _ (c : Config) (n j : ℕ) (rs : List Happened) (old : AllEnterUp rs) whe
   begins =
       subst (λ xs. AllEnterUp xs × (is_up n xs ≡ true) × ((m : ℕ) → m ≢ n → is_up m xs ≡ is_up m rs)) (sym (start_records c n j rs [])) (goes.enter, goes.same n ∙ is_on, λ m ne. goes.same m ∙ if_other n m true (is_up m rs) (λ e. ne (sym e)))
 
+-- a node that takes a step
+module _ (c : Config) (w : Scene) (k : Reached c w) (n : ℕ) (f : Answering) (s : Core) (e : NodeEvent) (v : Event) (up : w.cores n ≡ Some s) (old : Stand w) where
+  step_stands : Stand (ended w n v (stepped f s e))
+  step_stands = record {
+    up = each_set (λ m o. UpIf (rs ++ records_of w.before) m o) w.cores n (Some (stepped f s e)) (goes_on.same n ∙ here) (λ m ne. up_same (records_of w.before) (rs ++ records_of w.before) m (goes_on.same m) (w.cores m) (old.up m));
+    enter = goes_on.enter;
+  }
+    where
+      rs : List Happened
+      rs = reverse (stepped f s e).records
+
+      here : is_up n (records_of w.before) ≡ true
+      here = subst (UpIf (records_of w.before) n) up (old.up n)
+
+      own : NodeIs (reached_rests c w k []).ghost [] n s × (s.config ≡ w.config) × (s.views.inc ≡ w.incs n)
+      own = subst (NodeIsIf w.config (reached_rests c w k []).ghost [] n (w.incs n)) up ((reached_rests c w k []).nodes n)
+
+      mine : (r : Happened) → Has r rs → Mine n r
+      mine r h = step_mine f s e n own.0.stands.me (steps_change c w k n s up f e) r (has_reverse r (stepped f s e).records h)
+
+      goes_on : Goes rs (records_of w.before)
+      goes_on = mine_go n rs (records_of w.before) mine here old.enter
+
 stands : (c : Config) (w : Scene) → Reached c w → is_fixed c.mode ≡ false → Stand w
 stands c _ Nothing free = record { up = λ n. tt; enter = tt }
 stands c _ (AllStart fixed) free = absurd (let z : true ≡ false = sym fixed ∙ free in cc)
@@ -117,28 +142,7 @@ stands c _ (Starts w n e k real nz down) free =
 stands c _ (Stops w n e s k up) free =
     let old : Stand w = stands c w k free in
     record { up = each_set (λ m o. UpIf (happened.Down n ∷ records_of w.before) m o) w.cores n None tt (λ m ne. up_same (records_of w.before) (happened.Down n ∷ records_of w.before) m (if_other n m false (is_up m (records_of w.before)) (λ e. ne (sym e))) (w.cores m) (old.up m)); enter = (tt, old.enter) }
-stands c _ (Steps w n f s e v k up arises) free = record {
-  up = each_set (λ m o. UpIf (rs ++ records_of w.before) m o) w.cores n (Some (stepped f s e)) (goes_on.same n ∙ here) (λ m ne. up_same (records_of w.before) (rs ++ records_of w.before) m (goes_on.same m) (w.cores m) (old.up m));
-  enter = goes_on.enter;
-}
-  where
-    old : Stand w
-    old = stands c w k free
-
-    rs : List Happened
-    rs = reverse (stepped f s e).records
-
-    here : is_up n (records_of w.before) ≡ true
-    here = subst (UpIf (records_of w.before) n) up (old.up n)
-
-    own : NodeIs (reached_rests c w k []).ghost [] n s × (s.config ≡ w.config) × (s.views.inc ≡ w.incs n)
-    own = subst (NodeIsIf w.config (reached_rests c w k []).ghost [] n (w.incs n)) up ((reached_rests c w k []).nodes n)
-
-    mine : (r : Happened) → Has r rs → Mine n r
-    mine r h = step_mine f s e n own.0.stands.me (steps_change c w k n s up f e) r (has_reverse r (stepped f s e).records h)
-
-    goes_on : Goes rs (records_of w.before)
-    goes_on = mine_go n rs (records_of w.before) mine here old.enter
+stands c _ (Steps w n f s e v k up arises) free = step_stands c w k n f s e v up (stands c w k free)
 stands c _ (Notes w e rs k notes) free =
     let old : Stand w = stands c w k free in
     let q : Goes (reverse rs) (records_of w.before) = notes_go (reverse rs) (records_of w.before) (λ r h. notes r (has_reverse r rs h)) old.enter in
