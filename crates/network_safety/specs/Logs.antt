@@ -1,7 +1,7 @@
--- The logs of daemons, and that they are Seen. A network's records have more than these: of each incarnation that a node skips the
--- records of a life in which it does nothing (`idle_records`) - it starts, its rings are set, it enters the view of itself alone, and
--- it is down - and, where a daemon ends, that its node is down. No daemon writes that. A skipped life puts nothing and notes no base, so
--- each field of Seen speaks of what the logs have all the same.
+-- The logs of daemons, and that they are Seen. A network's records have more than these. Of each incarnation that a node skips they have
+-- a life in which it does nothing (`idle_records`), which is just this: that the node is up; in mode rings, the ring of each of its
+-- adapters; that it enters the first view of that incarnation, which is of itself alone; and that it is down. No base is among these,
+-- since it had no list. And where a daemon ends they have that its node is down. No daemon writes any of that.
 use Rattle.std.specs.Prelude.{ℕ, ◌≡◌, Bool, true, false, List, [], ◌∷◌, ◌++◌, codes, flat_map, map, reverse, Option, Some, None}
 use Rattle.node_state.specs.declared.config.Config.{Config}
 use Rattle.node_state.specs.declared.happened.Happened.{Happened}
