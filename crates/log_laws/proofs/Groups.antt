@@ -1,11 +1,10 @@
 -- In every run a base comes from a view in which its group was, since it is that of a side with members or a running protocol.
-use Rattle.std.proofs.Common.{◌≡◌, ℕ, ◌⊎◌, inl, inr, refl, sym, ap, ◌∙◌, subst, Bool, true, false, List, [], ◌∷◌, Option, Some, None}
+use Rattle.std.proofs.Common.{◌≡◌, ℕ, inl, inr, refl, sym, ap, ◌∙◌, subst, true, List, [], ◌∷◌, Option, Some, None}
 use Rattle.std.specs.Prelude.{slice_get}
 use Rattle.rsct_packet.specs.declared.ids.Member.{Member}
 use Rattle.rsct_packet.specs.declared.ids.ViewId.{ViewId}
 use Rattle.rsct_packet.specs.Search.{Has}
 use Rattle.proposal_core.specs.declared.entry.Entry.{Entry}
-use Rattle.proposal_core.specs.declared.group_state.GroupState.{GroupState}
 use Rattle.proposal_core.specs.Fold.{empty_state}
 use Rattle.node_state.specs.declared.happened.Happened.{Happened}
 use Rattle.node_state.specs.declared.happened.Happened.TheVariants as happened
@@ -20,7 +19,7 @@ use Rattle.run_safety.proofs.Lives.{noted_bases_win}
 use Rattle.run_safety.proofs.SightLaws.{kept_line, own_line, line_seen}
 use Rattle.run_laws.proofs.seen_runs.Froms.{in_kept}
 use Rattle.run_laws.proofs.seen_runs.Sights.{LineOf, Enters, Puts, Bases, Hears, Asks, Tells, Else, line_of, recorded}
-use Rattle.log_laws.specs.Logs.{PutThere, BaseThere, HadGroup, BasesComeFromGroups}
+use Rattle.log_laws.specs.Logs.{HadGroup, BasesComeFromGroups}
 
 -- ---- the records of lines
 

@@ -1,5 +1,4 @@
 -- What logs have of every run is Seen.
-use Rattle.std.proofs.Common.{ℕ, List}
 use Rattle.run_safety.specs.Past.{records_of}
 use Rattle.step_refinement.specs.Tied.{opening_of}
 use Rattle.step_refinement.proofs.RunLaw.{reached_runs}

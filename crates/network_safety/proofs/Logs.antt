@@ -1,5 +1,5 @@
 -- The logs of daemons have what a network records but the lives in which nodes do nothing; and so they are Seen.
-use Rattle.std.proofs.Common.{◌≡◌, ◌<◌, ◌≤◌, ◌+◌, ℕ, zero, suc, Bool, List, [], ◌∷◌, ◌++◌, Option, Some, None, true, false, refl, sym, ap, ◌∙◌, subst, inl, inr, arith, append-nil, append_assoc}
+use Rattle.std.proofs.Common.{◌≡◌, ◌<◌, ◌≤◌, ◌+◌, ℕ, zero, suc, Bool, List, [], ◌∷◌, ◌++◌, Option, Some, None, false, refl, sym, ap, ◌∙◌, subst, arith, append-nil, append_assoc}
 use Rattle.std.specs.Prelude.{fold, map, reverse}
 use Rattle.std.proofs.lemmas.List.{reverse-append}
 use Rattle.rsct_packet.specs.Lists.{reverse_onto}
@@ -28,14 +28,13 @@ use Rattle.world_safety.proofs.Runs.{every_run_is_reached}
 use Rattle.world_safety.proofs.SteadyRuns.{history_records}
 use Rattle.world_safety.proofs.Traces.{run_has_the_records}
 use Rattle.log_laws.specs.Logs.{LivesAreLogged, Logs, Nothing, LeavesOut}
-use Rattle.log_laws.specs.Law.{ShowsAll}
 use Rattle.log_laws.proofs.Runs.{every_run_is_seen_in_logs}
 use Rattle.log_laws.proofs.Writing.{IsRing, writes_all, goes_down, life_left_out, no_later}
 use Rattle.daemon_model.specs.Daemon.{Daemon, begun_for}
 use Rattle.daemon_model.specs.Actions.{did}
 use Rattle.daemon_model.specs.Sent.{Exchange}
 use Rattle.network_model.specs.Network.{Act, Begins, Does, Ends, Net, no_net, skipped, noted_since, went_on, starts, ends, idles, begins, does_if, acted}
-use Rattle.network_model.specs.Fits.{IsSpelledSend, NetworkRun, AllMayAct}
+use Rattle.network_model.specs.Fits.{IsSpelledSend, AllMayAct}
 use Rattle.network_model.specs.Executions.{what_of, TimedLife, untimed, Ordered}
 use Rattle.network_laws.proofs.Going.{begun_records}
 use Rattle.network_laws.proofs.Orders.{are_lives}
