@@ -196,7 +196,7 @@ module _ (c : Config) (P Q : Exchange → Type 0) (weaker : (x : Exchange) → P
   act_as net (Does n x) h = up_as net.wire x (net.daemons n) h
   act_as net (Ends n) h = h
 
-  acts_as : (acts : List Act) (net : Net) → AllMayAct P c net acts → AllMayAct Q c net acts
+  pub acts_as : (acts : List Act) (net : Net) → AllMayAct P c net acts → AllMayAct Q c net acts
   acts_as [] net h = tt
   acts_as (a ∷ acts) net h = (act_as net a h.0, acts_as acts (acted c net a) h.1)
 
@@ -207,7 +207,7 @@ each_spelled (Exchanges y ∷ ds) h x (inr i) = each_spelled ds h.1 x i
 each_spelled (Reads moment ∷ ds) h x i = each_spelled ds h x i
 each_spelled (Writes rs ∷ ds) h x i = each_spelled ds h x i
 
-told_spelled : (c : Config) (served : (n : ℕ) → List (Served c n)) (x : Exchange) → WasTold c served x → IsSpelledSend x
+pub told_spelled : (c : Config) (served : (n : ℕ) → List (Served c n)) (x : Exchange) → WasTold c served x → IsSpelledSend x
 told_spelled c served x h = each_spelled h.by.lived.made.front h.by.lived.made.spelled x h.told
 
 -- ---- executions

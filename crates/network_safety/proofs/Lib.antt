@@ -12,3 +12,5 @@ pub mod Lives
 pub mod Law
 pub mod Strangers
 pub mod Rings
+pub mod OwnLogs
+pub mod Logs

@@ -2,3 +2,5 @@ pub mod Safe
 pub mod Served
 pub mod Strangers
 pub mod Rings
+pub mod Logs
+pub mod Opens

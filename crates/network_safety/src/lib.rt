@@ -4,6 +4,11 @@
 ghost use Rattle.network_safety.specs.Safe.{NetworksOfDaemonsAreSafe, ExecutionsAreSafe};
 ghost use Rattle.network_safety.specs.Rings.{SettingsFit, RingsOfDaemonsAgree};
 ghost use Rattle.network_safety.specs.Served.{ServedDaemonsAreSafe};
+ghost use Rattle.std.specs.Prelude.{◌≡◌};
+ghost use Rattle.daemon_model.specs.Daemon.{records_text};
+ghost use Rattle.network_model.specs.Network.{no_net};
+ghost use Rattle.network_model.specs.Samples.{pair, starts_again};
+ghost use Rattle.network_safety.specs.Logs.{logged, NodesLogTheirLives, LogsOfDaemonsAreSeen, LogsOfExecutionsAreSeen, LogsOfServedAreSeen, logged_again_lines};
 ghost use Rattle.network_safety.specs.Strangers.{StrangersChangeNothing, OtherDomainsAreUnused};
 
 /// Let daemons start, each of its node in a greater incarnation than those before and where no other of it is up; let each
@@ -40,4 +45,31 @@ pub fn rings_of_daemons_agree()
 pub fn strangers_change_nothing()
     ensures nothing { StrangersChangeNothing }
     ensures domain { OtherDomainsAreUnused }
+{}
+
+/// What the daemons of a node write into their logs are the records of their lives, one after another.
+#[tactic(auto, using(crate::proofs::OwnLogs::nodes_log_their_lives))]
+pub fn nodes_log_their_lives()
+    ensures { NodesLogTheirLives }
+{}
+
+/// The logs of the daemons of a network, merged in the order of its acts, show by themselves all that the records of a run show: they
+/// are `Seen`, and so are the rings of each network whose addresses differ. They have neither a life of the incarnations that a node
+/// skips, nor that a node goes down.
+#[tactic(auto, using(crate::proofs::Logs::logs_of_daemons_are_seen))]
+pub fn logs_of_daemons_are_seen()
+    ensures { LogsOfDaemonsAreSeen }
+{}
+
+/// So do the logs of daemons of any execution, in each order of its acts that is a network's run; and of daemons that `serve` runs.
+#[tactic(auto, using(crate::proofs::Logs::logs_of_executions_are_seen, crate::proofs::Logs::logs_of_served_are_seen))]
+pub fn logs_of_executions_are_seen<T>()
+    ensures spelled { LogsOfExecutionsAreSeen T }
+    ensures served { LogsOfServedAreSeen T }
+{}
+
+/// Of an incarnation that a node skips, and of its end, nothing is logged.
+#[tactic(auto, unfolding(crate::specs::Opens::logs_open))]
+pub fn logs_no_skipped_life()
+    ensures { records_text (logged pair no_net starts_again) ≡ logged_again_lines }
 {}
