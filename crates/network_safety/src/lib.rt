@@ -62,7 +62,6 @@ pub fn logs_of_daemons_are_seen()
 {}
 
 /// So do the logs of daemons of any execution, in each order of its acts that is a network's run; and of daemons that `serve` runs.
-#[tactic(auto, using(crate::proofs::Logs::logs_of_executions_are_seen, crate::proofs::Logs::logs_of_served_are_seen))]
 pub fn logs_of_executions_are_seen<T>()
     ensures spelled { LogsOfExecutionsAreSeen T }
     ensures served { LogsOfServedAreSeen T }
