@@ -12,14 +12,19 @@ use Rattle.rsct_packet.specs.declared.ids.ProtoId.{ProtoId}
 use Rattle.rsct_packet.specs.declared.ids.ProviderId.{ProviderId}
 use Rattle.rsct_packet.specs.declared.ids.RingId.{RingId}
 use Rattle.rsct_packet.specs.declared.ids.ViewId.{ViewId}
+use Rattle.rsct_packet.specs.Lists.{is_empty}
 use Rattle.rsct_packet.specs.Mask.{is_node}
 use Rattle.rsct_packet.specs.Providers.{are_providers}
 use Rattle.rsct_packet.specs.Text.{name_byte, is_name_of}
+use Rattle.proposal_core.specs.declared.proposal.Proposal.{Proposal}
+use Rattle.proposal_core.specs.declared.proposal.Proposal.TheVariants as proposal
 use Rattle.proposal_core.specs.declared.entry.Entry.{Entry}
+use Rattle.proposal_core.specs.declared.entry.Entry.TheVariants as entry
 use Rattle.proposal_core.specs.declared.entry.Vote.{Vote}
 use Rattle.proposal_core.specs.declared.entry.Vote.TheVariants as vote
 use Rattle.client_callbacks.specs.declared.told.Why.{Why}
 use Rattle.session_state.specs.declared.fault.GsFault.{GsFault}
+use Rattle.value_words.specs.Counted.{first_of, one_of, two_of, three_of, four_of}
 use Rattle.value_words.specs.Escapes.{text_of}
 use Rattle.value_words.specs.Wording.{view_text, provider_text, ring_text, proto_text, joined, nodes_text, members_text, providers_text, escaped, value_text}
 use Rattle.value_words.specs.Words.{◌>>=◌, when_true, push_head, split_on, name_word, client_word, node_word, network_word, provider_word, chosen}
@@ -46,8 +51,8 @@ use Rattle.record_lines.specs.declared.line.Status.{Status}
 use Rattle.record_lines.specs.declared.line.Status.TheVariants as status
 use Rattle.record_lines.specs.declared.line.What.{What}
 use Rattle.record_lines.specs.declared.line.What.TheVariants as what
-use Rattle.record_lines.specs.Fits.{are_named, fits_text, fits_value, fits_value_option, ascend_from, are_nodes, members_ascend, are_members, entry_holds, fits_entry, fits_open, fits_base, why_holds, fits_why, fault_holds, fits_fault, is_client, fits_place, fits_note, is_network, fits_leader, fits_waiting, fits_status, line_fits}
-use Rattle.record_lines.specs.Reading.{group_name, opening_read, closing_read, what_pieces, what_read, open_phase, unless, open_phase_word, open_read, before_dot, after_dot, client_read, place_read, group_note, hosts_note, note_by, note_read, labelled, yes_read, StatusHead, SRing, SView, SGroup, SVote, status_head, said_status, status_read, LineHead, HUp, HDown, HRing, HIn, HBase, HPut, HHeard, HCast, HAsked, HTold, HNoted, HRefused, HShow, line_head, said_line, line_words, loose, line_read}
+use Rattle.record_lines.specs.Fits.{are_named, some_differ, proposal_holds, proposal_typed, text_option_holds, entry_typed, fits_text, fits_value, fits_value_option, ascend_from, are_nodes, members_ascend, are_members, entry_holds, fits_entry, fits_open, fits_base, why_holds, fits_why, fault_holds, fits_fault, is_client, fits_place, fits_note, is_network, fits_leader, fits_waiting, fits_status, line_fits}
+use Rattle.record_lines.specs.Reading.{next, ended, kept_text, named_word, ballot_word, entry_kept, group_name, opening_read, closing_read, what_pieces, what_read, open_phase, unless, open_phase_word, open_read, before_dot, after_dot, client_read, place_read, group_note, hosts_note, note_by, note_read, labelled, yes_read, StatusHead, SRing, SView, SGroup, SVote, status_head, said_status, status_read, LineHead, HUp, HDown, HRing, HIn, HBase, HPut, HHeard, HCast, HAsked, HTold, HNoted, HRefused, HShow, line_head, said_line, line_words, loose, line_read}
 use Rattle.record_lines.specs.Writing.{kind_name, what_name, open_text, ballot_text, base_words, client_text, place_text, note_words, known_text, yes_or_no, status_words, words_of, line_text}
 
 -- ---- small steps
@@ -105,6 +110,31 @@ named_providers ps e = (and_parts (are_providers ps) (list_all is_provider ps) e
 value_is : (bs : List ℕ) → fits_value bs ≡ true → is_value bs ≡ true
 unfolding fits_value
 value_is bs e = (and_parts (fits_text bs) (is_value bs) e).1
+
+text_is : (bs : List ℕ) → fits_value bs ≡ true → fits_text bs ≡ true
+unfolding fits_value
+text_is bs e = (and_parts (fits_text bs) (is_value bs) e).0
+
+kept_is : (bs : List ℕ) (o : Option (List ℕ)) → o ≡ Some bs → fits_text bs ≡ true → kept_text o ≡ Some bs
+unfolding kept_text ◌>>=◌ when_true
+kept_is bs o e f = rw (e, f) refl
+
+text_read : (bs : List ℕ) → fits_value bs ≡ true → kept_text (value_word (value_text bs)) ≡ Some bs
+text_read bs e = kept_is bs (value_word (value_text bs)) (value_read bs (value_is bs e)) (text_is bs e)
+
+bytes_read : (bs : List ℕ) → fits_value bs ≡ true → kept_text (text_of (escaped bs)) ≡ Some bs
+bytes_read bs e = kept_is bs (text_of (escaped bs)) (value_bytes_read bs (value_is bs e)) (text_is bs e)
+
+named_says : (ps : List ProviderId) (w : List ℕ) → list_word provider_word w ≡ Some ps → are_providers ps ≡ true → named_word w ≡ Some ps
+unfolding named_word ◌>>=◌ when_true
+named_says ps w e f = rw (e, f) refl
+
+differing : (ps : List ProviderId) → are_named ps ≡ true → are_providers ps ≡ true
+unfolding are_named
+differing ps e = (and_parts (are_providers ps) (list_all is_provider ps) e).0
+
+named_read : (ps : List ProviderId) → are_named ps ≡ true → named_word (providers_text ps) ≡ Some ps
+named_read ps e = named_says ps (providers_text ps) (providers_read ps (named_providers ps e)) (differing ps e)
 
 members_are : (ms : List Member) → are_members ms ≡ true → list_all is_member ms ≡ true
 unfolding are_members
@@ -237,9 +267,9 @@ u32_filled n e = wide n (grind (arith, nat_tests))
 
 unless_mark : {X : Type 0} (mark : List ℕ) (f : List ℕ → Option X) → unless mark f mark ≡ Some None
 unfolding unless
-unless_mark mark f = by (bytes_eq mark mark) ((bytes_eq-Decides mark mark).1 refl)
+unless_mark {X = X} mark f = by (bytes_eq mark mark) ((bytes_eq-Decides mark mark).1 refl)
   where
-    by : (t : Bool) → t ≡ true → elim t [ true ↦ Some None | false ↦ option_map Some (f mark) ] ≡ Some None
+    by : (t : Bool) → t ≡ true → ◌≡◌ {A = Option (Option X)} (elim t [ true ↦ Some None | false ↦ option_map Some (f mark) ]) (Some None)
     by true e = refl
     by false e = absurd cc
 
@@ -331,68 +361,72 @@ unfolding line_words ◌>>=◌
 headed w ws h l e f = rw (e, f) refl
 
 up_says : (n j : ℕ) (a b : List ℕ) → node_word a ≡ Some n → u32_word b ≡ Some j → said_line HUp (a ∷ b ∷ []) ≡ Some (line.Up n j)
-unfolding said_line ◌>>=◌
+unfolding said_line ◌>>=◌ next ended when_true
 up_says n j a b e f = rw (e, f) refl
 
 down_says : (n : ℕ) (a : List ℕ) → node_word a ≡ Some n → said_line HDown (a ∷ []) ≡ Some (line.Down n)
-unfolding said_line ◌>>=◌
+unfolding said_line ◌>>=◌ next ended when_true
 down_says n a e = rw e refl
 
 ring_says : (n net : ℕ) (r : RingId) (ms : List ℕ) (m : ℕ) (a b c d f : List ℕ) → node_word a ≡ Some n → network_word b ≡ Some net → ring_word c ≡ Some r → list_word node_word d ≡ Some ms → node_word f ≡ Some m
     → said_line HRing (a ∷ b ∷ c ∷ d ∷ f ∷ []) ≡ Some (line.Ring n net r ms m)
-unfolding said_line ◌>>=◌
+unfolding said_line ◌>>=◌ next ended when_true
 ring_says n net r ms m a b c d f e g h i j = rw (e, g, h, i, j) refl
 
 in_says : (n : ℕ) (v : ViewId) (ms : List Member) (a b c : List ℕ) → node_word a ≡ Some n → view_word b ≡ Some v → list_word member_word c ≡ Some ms → said_line HIn (a ∷ b ∷ c ∷ []) ≡ Some (line.In n v ms)
-unfolding said_line ◌>>=◌
+unfolding said_line ◌>>=◌ next ended when_true
 in_says n v ms a b c e f g = rw (e, f, g) refl
 
-base_says : (n : ℕ) (v : ViewId) (g : List ℕ) (x : BaseLine) (a b c d e f h i j : List ℕ) → node_word a ≡ Some n → view_word b ≡ Some v → group_name c ≡ Some g → view_word d ≡ Some x.old → u32_word e ≡ Some x.len → list_word provider_word f ≡ Some x.members
-    → value_word h ≡ Some x.value → list_word provider_word i ≡ Some x.failed → open_read j ≡ Some x.running → said_line HBase (a ∷ b ∷ c ∷ d ∷ e ∷ f ∷ h ∷ i ∷ j ∷ []) ≡ Some (line.Base n v g x)
-unfolding said_line ◌>>=◌
+base_says : (n : ℕ) (v : ViewId) (g : List ℕ) (x : BaseLine) (a b c d e f h i j : List ℕ) → node_word a ≡ Some n → view_word b ≡ Some v → group_name c ≡ Some g → view_word d ≡ Some x.old → u32_word e ≡ Some x.len → named_word f ≡ Some x.members
+    → kept_text (value_word h) ≡ Some x.value → named_word i ≡ Some x.failed → open_read j ≡ Some x.running → said_line HBase (a ∷ b ∷ c ∷ d ∷ e ∷ f ∷ h ∷ i ∷ j ∷ []) ≡ Some (line.Base n v g x)
+unfolding said_line ◌>>=◌ next ended when_true
 base_says n v g x a b c d e f h i j p1 p2 p3 p4 p5 p6 p7 p8 p9 = rw (p1, p2, p3, p4, p5, p6, p7, p8, p9) refl
 
-put_says : (n : ℕ) (v : ViewId) (g : List ℕ) (i : ℕ) (x : Entry) (a b c d : List ℕ) (ws : List (List ℕ)) → node_word a ≡ Some n → view_word b ≡ Some v → group_name c ≡ Some g → u32_word d ≡ Some i → entry_read ws ≡ Some x
+put_says : (n : ℕ) (v : ViewId) (g : List ℕ) (i : ℕ) (x : Entry) (a b c d : List ℕ) (ws : List (List ℕ)) → node_word a ≡ Some n → view_word b ≡ Some v → group_name c ≡ Some g → u32_word d ≡ Some i → entry_kept ws ≡ Some x
     → said_line HPut (a ∷ b ∷ c ∷ d ∷ ws) ≡ Some (line.Put n v g i x)
-unfolding said_line ◌>>=◌
+unfolding said_line ◌>>=◌ next ended when_true
 put_says n v g i x a b c d ws p1 p2 p3 p4 p5 = rw (p1, p2, p3, p4, p5) refl
 
-heard_says : (p : ProviderId) (v : ViewId) (g : List ℕ) (i : ℕ) (w : What) (ms : List ProviderId) (value : List ℕ) (a b c d e f h : List ℕ) → provider_word a ≡ Some p → view_word b ≡ Some v → group_name c ≡ Some g → u32_word d ≡ Some i → what_read e ≡ Some w → list_word provider_word f ≡ Some ms → value_word h ≡ Some value
+heard_says : (p : ProviderId) (v : ViewId) (g : List ℕ) (i : ℕ) (w : What) (ms : List ProviderId) (value : List ℕ) (a b c d e f h : List ℕ) → provider_word a ≡ Some p → view_word b ≡ Some v → group_name c ≡ Some g → u32_word d ≡ Some i → what_read e ≡ Some w → named_word f ≡ Some ms → kept_text (value_word h) ≡ Some value
     → said_line HHeard (a ∷ b ∷ c ∷ d ∷ e ∷ f ∷ h ∷ []) ≡ Some (line.Heard p v g i w ms value)
-unfolding said_line ◌>>=◌
+unfolding said_line ◌>>=◌ next ended when_true
 heard_says p v g i w ms value a b c d e f h p1 p2 p3 p4 p5 p6 p7 = rw (p1, p2, p3, p4, p5, p6, p7) refl
 
-cast_says : (p : ProviderId) (proto : ProtoId) (phase : ℕ) (v : Vote) (value : Option (List ℕ)) (a b c d : List ℕ) → provider_word a ≡ Some p → proto_word b ≡ Some proto → u16_word c ≡ Some phase → ballot_read d ≡ Some (v, value)
+cast_says : (p : ProviderId) (proto : ProtoId) (phase : ℕ) (v : Vote) (value : Option (List ℕ)) (a b c d : List ℕ) → provider_word a ≡ Some p → proto_word b ≡ Some proto → u16_word c ≡ Some phase → ballot_word d ≡ Some (v, value)
     → said_line HCast (a ∷ b ∷ c ∷ d ∷ []) ≡ Some (line.Cast p proto phase v value)
-unfolding said_line ◌>>=◌
+unfolding said_line ◌>>=◌ next ended when_true
 cast_says p proto phase v value a b c d e f g h = rw (e, f, g, h) refl
 
 asked_says : (p : ProviderId) (r : ℕ) (g : List ℕ) (k : Kind) (a b c d : List ℕ) → provider_word a ≡ Some p → u32_word b ≡ Some r → group_name c ≡ Some g → kind_read d ≡ Some k → said_line HAsked (a ∷ b ∷ c ∷ d ∷ []) ≡ Some (line.Asked p r g k)
-unfolding said_line ◌>>=◌
+unfolding said_line ◌>>=◌ next ended when_true
 asked_says p r g k a b c d e f h i = rw (e, f, h, i) refl
 
 told_says : (p : ProviderId) (r : ℕ) (x : Why) (a b : List ℕ) (ws : List (List ℕ)) → provider_word a ≡ Some p → u32_word b ≡ Some r → why_read ws ≡ Some x → said_line HTold (a ∷ b ∷ ws) ≡ Some (line.Told p r x)
-unfolding said_line ◌>>=◌
+unfolding said_line ◌>>=◌ next ended when_true
 told_says p r x a b ws e f g = rw (e, f, g) refl
 
 noted_says : (n : ℕ) (c : List ℕ) (v : ViewId) (place : Option ℕ) (m : Note) (a b : List ℕ) (ws : List (List ℕ)) → client_read a ≡ Some (n, c) → view_word b ≡ Some v → note_read ws ≡ Some (place, m) → said_line HNoted (a ∷ b ∷ ws) ≡ Some (line.Noted n c v place m)
-unfolding said_line ◌>>=◌
+unfolding said_line ◌>>=◌ next ended when_true
 noted_says n c v place m a b ws e f g = rw (e, f, g) refl
 
 refused_says : (n : ℕ) (c : List ℕ) (x : GsFault) (a : List ℕ) (ws : List (List ℕ)) → client_read a ≡ Some (n, c) → fault_read ws ≡ Some x → said_line HRefused (a ∷ ws) ≡ Some (line.Refused n c x)
-unfolding said_line ◌>>=◌
+unfolding said_line ◌>>=◌ next ended when_true
 refused_says n c x a ws e f = rw (e, f) refl
 
 show_says : (n : ℕ) (s : Status) (a : List ℕ) (ws : List (List ℕ)) → node_word a ≡ Some n → status_read ws ≡ Some s → said_line HShow (a ∷ ws) ≡ Some (line.Show n s)
-unfolding said_line ◌>>=◌
+unfolding said_line ◌>>=◌ next ended when_true
 show_says n s a ws e f = rw (e, f) refl
 
 -- ---- ballots and notes
 
-ballot_back : (v : Vote) (value : Option (List ℕ)) → fits_value_option value ≡ true → ballot_read (ballot_text v value) ≡ Some (v, value)
-unfolding fits_value_option ballot_text
-ballot_back v None e = ballot_is v
-ballot_back v (Some bs) e = valued_ballot_is v bs (value_is bs e)
+ballot_says : (v : Vote) (value : Option (List ℕ)) (w : List ℕ) → ballot_read w ≡ Some (v, value) → text_option_holds value ≡ true → ballot_word w ≡ Some (v, value)
+unfolding ballot_word ◌>>=◌ when_true
+ballot_says v value w e f = rw (e, f) refl
+
+ballot_back : (v : Vote) (value : Option (List ℕ)) → fits_value_option value ≡ true → ballot_word (ballot_text v value) ≡ Some (v, value)
+unfolding fits_value_option ballot_text text_option_holds
+ballot_back v None e = ballot_says v None (vote_text v) (ballot_is v) refl
+ballot_back v (Some bs) e = ballot_says v (Some bs) (vote_text v ++ value_text bs) (valued_ballot_is v bs (value_is bs e)) (text_is bs e)
 
 vote_lacks : (v : Vote) → Lacks 32 (vote_text v)
 unfolding vote_text
@@ -409,12 +443,12 @@ hosts_says : (ms : List Member) (w : List ℕ) → list_word member_word w ≡ S
 unfolding hosts_note ◌>>=◌
 hosts_says ms w e = rw e refl
 
-group_says : (g : List ℕ) (ms : List ProviderId) (value a b c : List ℕ) → group_name a ≡ Some g → list_word provider_word b ≡ Some ms → value_word c ≡ Some value → group_note a b c ≡ Some (note.Group g ms value)
+group_says : (g : List ℕ) (ms : List ProviderId) (value a b c : List ℕ) → group_name a ≡ Some g → named_word b ≡ Some ms → kept_text (value_word c) ≡ Some value → group_note a b c ≡ Some (note.Group g ms value)
 unfolding group_note ◌>>=◌
 group_says g ms value a b c e f h = rw (e, f, h) refl
 
 note_says : (place : Option ℕ) (m : Note) (g p ms v : List ℕ) → place_read p ≡ Some place → note_by g ms v ≡ Some m → note_read (g ∷ p ∷ ms ∷ v ∷ []) ≡ Some (place, m)
-unfolding note_read ◌>>=◌
+unfolding note_read ◌>>=◌ first_of one_of two_of three_of four_of when_true
 note_says place m g p ms v e f = rw (e, f) refl
 
 group_if : (t : Bool) (g ms v : List ℕ) → t ≡ false → elim t [ true ↦ hosts_note ms | false ↦ group_note g ms v ] ≡ group_note g ms v
@@ -431,7 +465,7 @@ note_back place (note.Group g ms value) e f =
     let p = parts4 (not (bytes_eq g (codes "HostMembership"))) (is_name_of g) (are_named ms) (fits_value value) f in
     note_says place (note.Group g ms value) g (place_text place) (providers_text ms) (value_text value) (place_back place e)
     (group_if (bytes_eq g (codes "HostMembership")) g (providers_text ms) (value_text value) (no_host (bytes_eq g (codes "HostMembership")) p.0)
-    ∙ group_says g ms value g (providers_text ms) (value_text value) (group_read g p.1) (providers_read ms (named_providers ms p.2)) (value_read value (value_is value p.3)))
+    ∙ group_says g ms value g (providers_text ms) (value_text value) (group_read g p.1) (named_read ms p.2) (text_read value p.3))
 note_back place (note.Hosts ms) e f =
     note_says place (note.Hosts ms) (codes "HostMembership") (place_text place) (members_text ms) (codes "=") (place_back place e) (hosts_says ms (members_text ms) (members_read ms (members_are ms f)))
 
@@ -456,6 +490,10 @@ members_label v = refl
 neighbour_label : (v : List ℕ) → after_equals (codes "neighbour=" ++ v) ≡ Some v
 unfolding after_equals
 neighbour_label v = refl
+
+coord_label : (v : List ℕ) → after_equals (codes "coord=" ++ v) ≡ Some v
+unfolding after_equals
+coord_label v = refl
 
 frozen_label : (v : List ℕ) → after_equals (codes "frozen=" ++ v) ≡ Some v
 unfolding after_equals
@@ -486,21 +524,21 @@ unfolding after_equals
 waiting_label v = refl
 
 ring_status : (net : ℕ) (r : RingId) (ms : List ℕ) (m : ℕ) (a b c d : List ℕ) → network_word a ≡ Some net → ring_word b ≡ Some r → labelled (list_word node_word) c ≡ Some ms → labelled node_word d ≡ Some m → said_status SRing (a ∷ b ∷ c ∷ d ∷ []) ≡ Some (status.Ring net r ms m)
-unfolding said_status ◌>>=◌
+unfolding said_status ◌>>=◌ next ended when_true
 ring_status net r ms m a b c d e f g h = rw (e, f, g, h) refl
 
-view_status : (v : ViewId) (ms : List Member) (t : Bool) (a b c d : List ℕ) → view_word a ≡ Some v → labelled (list_word member_word) c ≡ Some ms → labelled yes_read d ≡ Some t → said_status SView (a ∷ b ∷ c ∷ d ∷ []) ≡ Some (status.View v ms t)
-unfolding said_status ◌>>=◌
-view_status v ms t a b c d e f g = rw (e, f, g) refl
+view_status : (v : ViewId) (ms : List Member) (t : Bool) (a b c d h : List ℕ) → view_word a ≡ Some v → after_equals b ≡ Some h → labelled (list_word member_word) c ≡ Some ms → labelled yes_read d ≡ Some t → said_status SView (a ∷ b ∷ c ∷ d ∷ []) ≡ Some (status.View v ms t)
+unfolding said_status ◌>>=◌ next ended when_true
+view_status v ms t a b c d h e k f g = rw (e, k, f, g) refl
 
-group_status : (g : List ℕ) (leader : Option ℕ) (len : ℕ) (ms : List ProviderId) (value a b c d h : List ℕ) → group_name a ≡ Some g → labelled (unless (codes "?") node_word) b ≡ Some leader → labelled u32_word c ≡ Some len → labelled (list_word provider_word) d ≡ Some ms → labelled text_of h ≡ Some value
+group_status : (g : List ℕ) (leader : Option ℕ) (len : ℕ) (ms : List ProviderId) (value a b c d h : List ℕ) → group_name a ≡ Some g → labelled (unless (codes "?") node_word) b ≡ Some leader → labelled u32_word c ≡ Some len → labelled named_word d ≡ Some ms → labelled (λ w. kept_text (text_of w)) h ≡ Some value
     → said_status SGroup (a ∷ b ∷ c ∷ d ∷ h ∷ []) ≡ Some (status.Group g leader len ms value)
-unfolding said_status ◌>>=◌
+unfolding said_status ◌>>=◌ next ended when_true
 group_status g leader len ms value a b c d h p1 p2 p3 p4 p5 = rw (p1, p2, p3, p4, p5) refl
 
-vote_status : (g : List ℕ) (proto : ProtoId) (phase : ℕ) (k : Kind) (waiting : Option (List ProviderId)) (a b c d h : List ℕ) → group_name a ≡ Some g → proto_word b ≡ Some proto → labelled u16_word c ≡ Some phase → labelled kind_read d ≡ Some k → labelled (unless (codes "?") (list_word provider_word)) h ≡ Some waiting
+vote_status : (g : List ℕ) (proto : ProtoId) (phase : ℕ) (k : Kind) (waiting : Option (List ProviderId)) (a b c d h : List ℕ) → group_name a ≡ Some g → proto_word b ≡ Some proto → labelled u16_word c ≡ Some phase → labelled kind_read d ≡ Some k → labelled (unless (codes "?") named_word) h ≡ Some waiting
     → said_status SVote (a ∷ b ∷ c ∷ d ∷ h ∷ []) ≡ Some (status.Vote g proto phase k waiting)
-unfolding said_status ◌>>=◌
+unfolding said_status ◌>>=◌ next ended when_true
 vote_status g proto phase k waiting a b c d h p1 p2 p3 p4 p5 = rw (p1, p2, p3, p4, p5) refl
 
 status_says : (w : List ℕ) (ws : List (List ℕ)) (h : StatusHead) (s : Status) → status_head w ≡ Some h → said_status h ws ≡ Some s → status_read (w ∷ ws) ≡ Some s
@@ -542,10 +580,10 @@ coord_lacks : (v : ViewId) → is_view v ≡ true → Lacks 32 (decimal v.coord)
 unfolding is_view
 coord_lacks v e = node_lacks 32 v.coord blank.0 (parts3 (is_u32 v.number) (is_node v.coord) (is_u32 v.inc) e).1
 
-waiting_back : (o : Option (List ProviderId)) → fits_waiting o ≡ true → unless (codes "?") (list_word provider_word) (known_text providers_text o) ≡ Some o
+waiting_back : (o : Option (List ProviderId)) → fits_waiting o ≡ true → unless (codes "?") named_word (known_text providers_text o) ≡ Some o
 unfolding fits_waiting known_text
-waiting_back None e = unless_mark (codes "?") (list_word provider_word)
-waiting_back (Some ps) e = unless_some (codes "?") (list_word provider_word) (providers_text ps) ps (unknown ps (named_providers ps e)) (providers_read ps (named_providers ps e))
+waiting_back None e = unless_mark (codes "?") named_word
+waiting_back (Some ps) e = unless_some (codes "?") named_word (providers_text ps) ps (unknown ps (named_providers ps e)) (named_read ps e)
 
 waiting_lacks : (o : Option (List ProviderId)) → fits_waiting o ≡ true → Lacks 32 (known_text providers_text o)
 unfolding fits_waiting known_text
@@ -565,15 +603,15 @@ status_back (status.Ring net r ms m) e =
 status_back (status.View v ms t) e =
     let p = and_parts (is_view v) (are_members ms) e in
     status_says (codes "hagsns") _ SView (status.View v ms t) status_heads.1
-    (view_status v ms t (view_text v) (codes "coord=" ++ decimal v.coord) (codes "members=" ++ members_text ms) (codes "frozen=" ++ yes_or_no t) (view_read v p.0) (label_says (list_word member_word) (codes "members=" ++ members_text ms) (members_text ms) ms (members_label (members_text ms)) (members_read ms (members_are ms p.1))) (label_says yes_read (codes "frozen=" ++ yes_or_no t) (yes_or_no t) t (frozen_label (yes_or_no t)) (yes_back t)))
+    (view_status v ms t (view_text v) (codes "coord=" ++ decimal v.coord) (codes "members=" ++ members_text ms) (codes "frozen=" ++ yes_or_no t) (decimal v.coord) (view_read v p.0) (coord_label (decimal v.coord)) (label_says (list_word member_word) (codes "members=" ++ members_text ms) (members_text ms) ms (members_label (members_text ms)) (members_read ms (members_are ms p.1))) (label_says yes_read (codes "frozen=" ++ yes_or_no t) (yes_or_no t) t (frozen_label (yes_or_no t)) (yes_back t)))
 status_back (status.Group g leader len ms value) e =
     let p = parts5 (is_name_of g) (fits_leader leader) (is_u32 len) (are_named ms) (fits_value value) e in
     status_says (codes "hagsgr") _ SGroup (status.Group g leader len ms value) status_heads.2
-    (group_status g leader len ms value g (codes "leader=" ++ known_text decimal leader) (codes "len=" ++ decimal len) (codes "members=" ++ providers_text ms) (codes "value=" ++ escaped value) (group_read g p.0) (label_says (unless (codes "?") node_word) (codes "leader=" ++ known_text decimal leader) (known_text decimal leader) leader (leader_label (known_text decimal leader)) (leader_back leader p.1)) (label_says u32_word (codes "len=" ++ decimal len) (decimal len) len (len_label (decimal len)) (u32_read len p.2)) (label_says (list_word provider_word) (codes "members=" ++ providers_text ms) (providers_text ms) ms (members_label (providers_text ms)) (providers_read ms (named_providers ms p.3))) (label_says text_of (codes "value=" ++ escaped value) (escaped value) value (value_label (escaped value)) (value_bytes_read value (value_is value p.4))))
+    (group_status g leader len ms value g (codes "leader=" ++ known_text decimal leader) (codes "len=" ++ decimal len) (codes "members=" ++ providers_text ms) (codes "value=" ++ escaped value) (group_read g p.0) (label_says (unless (codes "?") node_word) (codes "leader=" ++ known_text decimal leader) (known_text decimal leader) leader (leader_label (known_text decimal leader)) (leader_back leader p.1)) (label_says u32_word (codes "len=" ++ decimal len) (decimal len) len (len_label (decimal len)) (u32_read len p.2)) (label_says named_word (codes "members=" ++ providers_text ms) (providers_text ms) ms (members_label (providers_text ms)) (named_read ms p.3)) (label_says (λ w. kept_text (text_of w)) (codes "value=" ++ escaped value) (escaped value) value (value_label (escaped value)) (bytes_read value p.4)))
 status_back (status.Vote g proto phase k waiting) e =
     let p = parts4 (is_name_of g) (is_proto proto) (is_u16 phase) (fits_waiting waiting) e in
     status_says (codes "hagsvote") _ SVote (status.Vote g proto phase k waiting) status_heads.3
-    (vote_status g proto phase k waiting g (proto_text proto) (codes "phase=" ++ decimal phase) (codes "kind=" ++ kind_name k) (codes "waiting=" ++ known_text providers_text waiting) (group_read g p.0) (proto_read proto p.1) (label_says u16_word (codes "phase=" ++ decimal phase) (decimal phase) phase (phase_label (decimal phase)) (u16_read phase p.2)) (label_says kind_read (codes "kind=" ++ kind_name k) (kind_name k) k (kind_label (kind_name k)) (kind_back k)) (label_says (unless (codes "?") (list_word provider_word)) (codes "waiting=" ++ known_text providers_text waiting) (known_text providers_text waiting) waiting (waiting_label (known_text providers_text waiting)) (waiting_back waiting p.3)))
+    (vote_status g proto phase k waiting g (proto_text proto) (codes "phase=" ++ decimal phase) (codes "kind=" ++ kind_name k) (codes "waiting=" ++ known_text providers_text waiting) (group_read g p.0) (proto_read proto p.1) (label_says u16_word (codes "phase=" ++ decimal phase) (decimal phase) phase (phase_label (decimal phase)) (u16_read phase p.2)) (label_says kind_read (codes "kind=" ++ kind_name k) (kind_name k) k (kind_label (kind_name k)) (kind_back k)) (label_says (unless (codes "?") named_word) (codes "waiting=" ++ known_text providers_text waiting) (known_text providers_text waiting) waiting (waiting_label (known_text providers_text waiting)) (waiting_back waiting p.3)))
 
 marked_lacks : (w v : List ℕ) → list_all (λ x. not (x == 32)) w ≡ true → Lacks 32 v → Lacks 32 (w ++ v)
 marked_lacks w v e h = lacks_both 32 w v (lacks_by 32 w e) h
@@ -595,9 +633,38 @@ status_lacks (status.Vote g proto phase k waiting) e =
 
 -- ---- each kind
 
-entry_is : (e : Entry) → fits_entry e ≡ true → is_entry e ≡ true
+first_holds : (a b : Bool) → (not a && b) ≡ true → b ≡ true
+first_holds a b e = (and_parts (not a) b e).1
+
+proposal_types : (x : Proposal) → proposal_holds x ≡ true → proposal_typed x ≡ true
+unfolding proposal_holds proposal_typed some_differ
+proposal_types (proposal.Join ps a n) e = first_holds (is_empty ps) (are_providers ps) e
+proposal_types (proposal.Leave p r) e = refl
+proposal_types (proposal.Fail out) e = refl
+proposal_types (proposal.Expel p r out) e = first_holds (is_empty out) (are_providers out) e
+proposal_types (proposal.State p r value) e = e
+proposal_types (proposal.Message p r bytes) e = e
+proposal_types (proposal.Attributes p r a) e = refl
+proposal_types (proposal.Reflect v i value) e = e
+
+entry_types : (x : Entry) → entry_holds x ≡ true → entry_typed x ≡ true
+unfolding entry_holds entry_typed some_differ
+entry_types (entry.Once x) e = proposal_types x e
+entry_types (entry.Begin x) e = proposal_types x e
+entry_types (entry.Phase c) e = e
+entry_types (entry.Approve c) e = e
+entry_types (entry.Reject c) e = refl
+entry_types (entry.Late proto phase ps) e = first_holds (is_empty ps) (are_providers ps) e
+
+entry_says : (x : Entry) (ws : List (List ℕ)) → entry_read ws ≡ Some x → entry_typed x ≡ true → entry_kept ws ≡ Some x
+unfolding entry_kept ◌>>=◌ when_true
+entry_says x ws e f = rw (e, f) refl
+
+entry_kept_back : (x : Entry) → fits_entry x ≡ true → entry_kept (split_on 32 (entry_text x)) ≡ Some x
 unfolding fits_entry
-entry_is e h = (and_parts (is_entry e) (entry_holds e) h).0
+entry_kept_back x e =
+    let p = and_parts (is_entry x) (entry_holds x) e in
+    entry_says x (split_on 32 (entry_text x)) (entry_back x p.0) (entry_types x p.1)
 
 why_is : (w : Why) → fits_why w ≡ true → is_why w ≡ true
 unfolding fits_why
@@ -641,16 +708,16 @@ line_read_loosely (line.Base n v g b) e =
     let q = base_parts b p.3 in
     line_by_words (codes "base") (decimal n ∷ view_text v ∷ g ∷ view_text b.old ∷ decimal b.len ∷ providers_text b.members ∷ value_text b.value ∷ providers_text b.failed ∷ open_text b.running ∷ []) (line.Base n v g b)
     (lacks_by 32 (codes "base") refl, (node_lacks 32 n blank.0 p.0, (view_lacks 32 v blank p.1, (named_lacks g p.2, (view_lacks 32 b.old blank q.0, (u32_lacks 32 b.len blank.0 q.1, (providers_lack b.members (named_providers b.members q.2), (value_lacks 32 b.value (omega arith) (value_is b.value q.3), (providers_lack b.failed (named_providers b.failed q.4), (open_lacks b.running q.5, tt)))))))))) refl
-    (headed (codes "base") _ HBase (line.Base n v g b) heads.4 (base_says n v g b (decimal n) (view_text v) g (view_text b.old) (decimal b.len) (providers_text b.members) (value_text b.value) (providers_text b.failed) (open_text b.running) (node_read n p.0) (view_read v p.1) (group_read g p.2) (view_read b.old q.0) (u32_read b.len q.1) (providers_read b.members (named_providers b.members q.2)) (value_read b.value (value_is b.value q.3)) (providers_read b.failed (named_providers b.failed q.4)) (open_back b.running q.5)))
+    (headed (codes "base") _ HBase (line.Base n v g b) heads.4 (base_says n v g b (decimal n) (view_text v) g (view_text b.old) (decimal b.len) (providers_text b.members) (value_text b.value) (providers_text b.failed) (open_text b.running) (node_read n p.0) (view_read v p.1) (group_read g p.2) (view_read b.old q.0) (u32_read b.len q.1) (named_read b.members q.2) (text_read b.value q.3) (named_read b.failed q.4) (open_back b.running q.5)))
 line_read_loosely (line.Put n v g i x) e =
     let p = parts5 (is_node n) (is_view v) (is_name_of g) (is_u32 i) (fits_entry x) e in
     line_by_words (codes "put") (decimal n ∷ view_text v ∷ g ∷ decimal i ∷ split_on 32 (entry_text x)) (line.Put n v g i x) (lacks_by 32 (codes "put") refl, (node_lacks 32 n blank.0 p.0, (view_lacks 32 v blank p.1, (named_lacks g p.2, (u32_lacks 32 i blank.0 p.3, pieces_lack 32 (entry_text x)))))) refl
-    (headed (codes "put") _ HPut (line.Put n v g i x) heads.5 (put_says n v g i x (decimal n) (view_text v) g (decimal i) (split_on 32 (entry_text x)) (node_read n p.0) (view_read v p.1) (group_read g p.2) (u32_read i p.3) (entry_back x (entry_is x p.4))))
+    (headed (codes "put") _ HPut (line.Put n v g i x) heads.5 (put_says n v g i x (decimal n) (view_text v) g (decimal i) (split_on 32 (entry_text x)) (node_read n p.0) (view_read v p.1) (group_read g p.2) (u32_read i p.3) (entry_kept_back x p.4)))
 line_read_loosely (line.Heard r v g i w ms value) e =
     let p = parts6 (is_provider r) (is_view v) (is_name_of g) (is_u32 i) (are_named ms) (fits_value value) e in
     line_by_words (codes "heard") (provider_text r ∷ view_text v ∷ g ∷ decimal i ∷ what_name w ∷ providers_text ms ∷ value_text value ∷ []) (line.Heard r v g i w ms value)
     (lacks_by 32 (codes "heard") refl, (provider_lacks 32 r blank p.0, (view_lacks 32 v blank p.1, (named_lacks g p.2, (u32_lacks 32 i blank.0 p.3, (what_lacks w, (providers_lack ms (named_providers ms p.4), (value_lacks 32 value (omega arith) (value_is value p.5), tt)))))))) refl
-    (headed (codes "heard") _ HHeard (line.Heard r v g i w ms value) heads.6 (heard_says r v g i w ms value (provider_text r) (view_text v) g (decimal i) (what_name w) (providers_text ms) (value_text value) (provider_read r p.0) (view_read v p.1) (group_read g p.2) (u32_read i p.3) (what_back w) (providers_read ms (named_providers ms p.4)) (value_read value (value_is value p.5))))
+    (headed (codes "heard") _ HHeard (line.Heard r v g i w ms value) heads.6 (heard_says r v g i w ms value (provider_text r) (view_text v) g (decimal i) (what_name w) (providers_text ms) (value_text value) (provider_read r p.0) (view_read v p.1) (group_read g p.2) (u32_read i p.3) (what_back w) (named_read ms p.4) (text_read value p.5)))
 line_read_loosely (line.Cast r proto phase v value) e =
     let p = parts4 (is_provider r) (is_proto proto) (is_u16 phase) (fits_value_option value) e in
     line_by_words (codes "cast") (provider_text r ∷ proto_text proto ∷ decimal phase ∷ ballot_text v value ∷ []) (line.Cast r proto phase v value) (lacks_by 32 (codes "cast") refl, (provider_lacks 32 r blank p.0, (proto_lacks 32 proto blank refl p.1, (u16_lacks 32 phase blank.0 p.2, (ballot_lacks v value p.3, tt))))) refl

@@ -95,6 +95,23 @@ entry_holds (entry.Approve c) = text_option_holds c.value
 entry_holds (entry.Reject c) = true
 entry_holds (entry.Late proto phase ps) = some_differ ps
 
+-- what the type of an entry asks for
+unfoldable pub proposal_typed : Proposal → Bool
+proposal_typed (proposal.Join ps a n) = are_providers ps
+proposal_typed (proposal.Expel p r out) = are_providers out
+proposal_typed (proposal.State p r value) = fits_text value
+proposal_typed (proposal.Message p r bytes) = fits_text bytes
+proposal_typed (proposal.Reflect v i value) = fits_text value
+proposal_typed _ = true
+
+unfoldable pub entry_typed : Entry → Bool
+entry_typed (entry.Once x) = proposal_typed x
+entry_typed (entry.Begin x) = proposal_typed x
+entry_typed (entry.Phase c) = text_option_holds c.value
+entry_typed (entry.Approve c) = text_option_holds c.value
+entry_typed (entry.Reject c) = true
+entry_typed (entry.Late proto phase ps) = are_providers ps
+
 unfoldable pub fits_entry : Entry → Bool
 fits_entry e = is_entry e && entry_holds e
 
@@ -168,5 +185,5 @@ line_fits (line.Show n s) = is_node n && fits_status s
 
 -- opens each word of this file, for a computation
 unfoldable pub fits_opens : Unit {0}
-unfolding are_named fits_text fits_value fits_value_option ascend_from are_nodes members_ascend are_members same_cause failures_differ some_differ proposal_holds text_option_holds entry_holds fits_entry fits_open fits_base why_holds fits_why fault_holds fits_fault is_client fits_place fits_note is_network fits_leader fits_waiting fits_status line_fits
+unfolding are_named fits_text fits_value fits_value_option ascend_from are_nodes members_ascend are_members same_cause failures_differ some_differ proposal_holds text_option_holds entry_holds proposal_typed entry_typed fits_entry fits_open fits_base why_holds fits_why fault_holds fits_fault is_client fits_place fits_note is_network fits_leader fits_waiting fits_status line_fits
 fits_opens = tt

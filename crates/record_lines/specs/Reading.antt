@@ -1,14 +1,24 @@
 -- How a line is read: without care at first, as whoever reads it writes it again and compares.
 use Rattle.std.specs.Prelude.{ℕ, Bool, true, false, ◌==◌, ◌&&◌, List, [], ◌∷◌, Option, Some, None, codes}
+use Rattle.std.specs.Fmt.{digits}
 use Rattle.std.specs.Option.{option_map}
 use Rattle.std.specs.Str.{bytes_eq}
 use Rattle.rsct_packet.specs.declared.ids.ProtoId.{ProtoId}
-use Rattle.value_words.specs.Escapes.{text_of}
+use Rattle.rsct_packet.specs.declared.ids.ProviderId.{ProviderId}
+use Rattle.rsct_packet.specs.Lists.{is_empty}
+use Rattle.rsct_packet.specs.Providers.{are_providers}
+use Rattle.proposal_core.specs.declared.entry.Vote.{Vote}
+use Rattle.proposal_core.specs.declared.entry.Entry.{Entry}
+use Rattle.value_words.specs.Counted.{first_of, one_of, two_of, three_of, four_of}
+use Rattle.value_words.specs.Escapes.{escapes_open, text_of}
+use Rattle.value_words.specs.Wording.{wording_opens}
 use Rattle.value_words.specs.Words.{◌>>=◌, when_true, split_on, name_word, client_word, node_word, network_word, provider_word, chosen}
-use Rattle.entry_words.specs.Words.{after_equals}
+use Rattle.entry_words.specs.Words.{attr_words_open, after_equals}
+use Rattle.entry_words.specs.Wording.{entry_wording_opens}
 use Rattle.word_laws.specs.declared.kind.Kind.{Kind}
-use Rattle.word_laws.specs.Entries.{kind_read, ballot_read, entry_read, why_read, fault_read}
-use Rattle.word_laws.specs.Values.{u32_word, u16_word, two_word, view_word, ring_word, proto_word, member_word, list_word, value_word}
+use Rattle.word_laws.specs.Entries.{entries_read_open, kind_read, ballot_read, entry_read, why_read, fault_read}
+use Rattle.word_laws.specs.Ranges.{ranges_open}
+use Rattle.word_laws.specs.Values.{values_read_open, u32_word, u16_word, two_word, view_word, ring_word, proto_word, member_word, list_word, value_word}
 use Rattle.record_lines.specs.declared.line.Line.{Line}
 use Rattle.record_lines.specs.declared.line.Line.TheVariants as line
 use Rattle.record_lines.specs.declared.line.Note.{Note}
@@ -18,11 +28,51 @@ use Rattle.record_lines.specs.declared.line.Status.{Status}
 use Rattle.record_lines.specs.declared.line.Status.TheVariants as status
 use Rattle.record_lines.specs.declared.line.What.{What}
 use Rattle.record_lines.specs.declared.line.What.TheVariants as what
-use Rattle.record_lines.specs.Fits.{line_fits}
-use Rattle.record_lines.specs.Writing.{line_text}
+use Rattle.record_lines.specs.Fits.{fits_opens, fits_text, text_option_holds, entry_typed, line_fits}
+use Rattle.record_lines.specs.Writing.{writing_opens, line_text}
+
+-- ---- one word after another
+
+-- the words that are left of a line, unless it is at its end
+unfoldable pub pieces_left : List ℕ → Bool → List (List ℕ)
+pieces_left b true = []
+pieces_left b false = split_on 32 b
+
+-- what the next word says, and the words behind it
+unfoldable pub next : {X : Type 0} → (List ℕ → Option X) → List (List ℕ) → Option (X × List (List ℕ))
+next f [] = None
+next f (w ∷ ws) = do
+  x ← f w
+  Some (x, ws)
+
+-- no word stands behind it
+unfoldable pub ended : {X : Type 0} → X → List (List ℕ) → Option X
+ended x ws = when_true (Some x) (is_empty ws)
+
+-- ---- what the types of a line hold: names of 1 to 32 bytes, texts of at most 65,535, at most 64 providers that differ
 
 unfoldable pub group_name : List ℕ → Option (List ℕ)
 group_name w = name_word 32 w
+
+unfoldable pub kept_text : Option (List ℕ) → Option (List ℕ)
+kept_text o = do
+  bytes ← o
+  when_true (Some bytes) (fits_text bytes)
+
+unfoldable pub named_word : List ℕ → Option (List ProviderId)
+named_word w = do
+  ps ← list_word provider_word w
+  when_true (Some ps) (are_providers ps)
+
+unfoldable pub ballot_word : List ℕ → Option (Vote × Option (List ℕ))
+ballot_word w = do
+  x ← ballot_read w
+  when_true (Some x) (text_option_holds x.1)
+
+unfoldable pub entry_kept : List (List ℕ) → Option Entry
+entry_kept ws = do
+  e ← entry_read ws
+  when_true (Some e) (entry_typed e)
 
 -- ---- what was heard, what runs
 
@@ -89,8 +139,8 @@ place_read w = unless (codes "-") u32_word w
 unfoldable pub group_note : List ℕ → List ℕ → List ℕ → Option Note
 group_note g ms v = do
   group ← group_name g
-  members ← list_word provider_word ms
-  value ← value_word v
+  members ← named_word ms
+  value ← kept_text (value_word v)
   Some (note.Group group members value)
 
 unfoldable pub hosts_note : List ℕ → Option Note
@@ -102,11 +152,11 @@ unfoldable pub note_by : List ℕ → List ℕ → List ℕ → Option Note
 note_by g ms v = elim (bytes_eq g (codes "HostMembership")) [ true ↦ hosts_note ms | false ↦ group_note g ms v ]
 
 unfoldable pub note_read : List (List ℕ) → Option (Option ℕ × Note)
-note_read (g ∷ p ∷ ms ∷ v ∷ []) = do
-  place ← place_read p
-  n ← note_by g ms v
+note_read ws = do
+  x ← four_of ws
+  place ← place_read x.1
+  n ← note_by x.0 x.2 x.3
   Some (place, n)
-note_read _ = None
 
 -- ---- statuses
 
@@ -135,33 +185,34 @@ status_head w =
     ∷ [])
     w
 
+-- the words behind the status's first
 unfoldable pub said_status : StatusHead → List (List ℕ) → Option Status
-said_status SRing (a ∷ b ∷ c ∷ d ∷ []) = do
-  network ← network_word a
-  ring ← ring_word b
-  members ← labelled (list_word node_word) c
-  neighbour ← labelled node_word d
-  Some (status.Ring network ring members neighbour)
-said_status SView (a ∷ b ∷ c ∷ d ∷ []) = do
-  view ← view_word a
-  members ← labelled (list_word member_word) c
-  frozen ← labelled yes_read d
-  Some (status.View view members frozen)
-said_status SGroup (a ∷ b ∷ c ∷ d ∷ e ∷ []) = do
-  group ← group_name a
-  leader ← labelled (unless (codes "?") node_word) b
-  len ← labelled u32_word c
-  members ← labelled (list_word provider_word) d
-  value ← labelled text_of e
-  Some (status.Group group leader len members value)
-said_status SVote (a ∷ b ∷ c ∷ d ∷ e ∷ []) = do
-  group ← group_name a
-  proto ← proto_word b
-  phase ← labelled u16_word c
-  k ← labelled kind_read d
-  waiting ← labelled (unless (codes "?") (list_word provider_word)) e
-  Some (status.Vote group proto phase k waiting)
-said_status _ _ = None
+said_status SRing ws = do
+  network ← next network_word ws
+  ring ← next ring_word network.1
+  members ← next (labelled (list_word node_word)) ring.1
+  neighbour ← next (labelled node_word) members.1
+  ended (status.Ring network.0 ring.0 members.0 neighbour.0) neighbour.1
+said_status SView ws = do
+  view ← next view_word ws
+  coord ← next after_equals view.1
+  members ← next (labelled (list_word member_word)) coord.1
+  frozen ← next (labelled yes_read) members.1
+  ended (status.View view.0 members.0 frozen.0) frozen.1
+said_status SGroup ws = do
+  group ← next group_name ws
+  leader ← next (labelled (unless (codes "?") node_word)) group.1
+  len ← next (labelled u32_word) leader.1
+  members ← next (labelled named_word) len.1
+  value ← next (labelled (λ w. kept_text (text_of w))) members.1
+  ended (status.Group group.0 leader.0 len.0 members.0 value.0) value.1
+said_status SVote ws = do
+  group ← next group_name ws
+  proto ← next proto_word group.1
+  phase ← next (labelled u16_word) proto.1
+  k ← next (labelled kind_read) phase.1
+  waiting ← next (labelled (unless (codes "?") named_word)) k.1
+  ended (status.Vote group.0 proto.0 phase.0 k.0 waiting.0) waiting.1
 
 unfoldable pub status_read : List (List ℕ) → Option Status
 status_read [] = None
@@ -207,83 +258,82 @@ line_head w =
 
 -- the words behind the line's first
 unfoldable pub said_line : LineHead → List (List ℕ) → Option Line
-said_line HUp (a ∷ b ∷ []) = do
-  n ← node_word a
-  j ← u32_word b
-  Some (line.Up n j)
-said_line HDown (a ∷ []) = do
-  n ← node_word a
-  Some (line.Down n)
-said_line HRing (a ∷ b ∷ c ∷ d ∷ e ∷ []) = do
-  n ← node_word a
-  network ← network_word b
-  ring ← ring_word c
-  members ← list_word node_word d
-  neighbour ← node_word e
-  Some (line.Ring n network ring members neighbour)
-said_line HIn (a ∷ b ∷ c ∷ []) = do
-  n ← node_word a
-  v ← view_word b
-  ms ← list_word member_word c
-  Some (line.In n v ms)
-said_line HBase (a ∷ b ∷ c ∷ d ∷ e ∷ f ∷ g ∷ h ∷ i ∷ []) = do
-  n ← node_word a
-  v ← view_word b
-  group ← group_name c
-  old ← view_word d
-  len ← u32_word e
-  ms ← list_word provider_word f
-  value ← value_word g
-  failed ← list_word provider_word h
-  run ← open_read i
-  Some (line.Base n v group (record { old = old; len = len; members = ms; value = value; failed = failed; running = run }))
-said_line HPut (a ∷ b ∷ c ∷ d ∷ ws) = do
-  n ← node_word a
-  v ← view_word b
-  group ← group_name c
-  i ← u32_word d
-  e ← entry_read ws
-  Some (line.Put n v group i e)
-said_line HHeard (a ∷ b ∷ c ∷ d ∷ e ∷ f ∷ g ∷ []) = do
-  p ← provider_word a
-  v ← view_word b
-  group ← group_name c
-  i ← u32_word d
-  w ← what_read e
-  ms ← list_word provider_word f
-  value ← value_word g
-  Some (line.Heard p v group i w ms value)
-said_line HCast (a ∷ b ∷ c ∷ d ∷ []) = do
-  p ← provider_word a
-  proto ← proto_word b
-  phase ← u16_word c
-  x ← ballot_read d
-  Some (line.Cast p proto phase x.0 x.1)
-said_line HAsked (a ∷ b ∷ c ∷ d ∷ []) = do
-  p ← provider_word a
-  r ← u32_word b
-  group ← group_name c
-  x ← kind_read d
-  Some (line.Asked p r group x)
-said_line HTold (a ∷ b ∷ ws) = do
-  p ← provider_word a
-  r ← u32_word b
-  x ← why_read ws
-  Some (line.Told p r x)
-said_line HNoted (a ∷ b ∷ ws) = do
-  x ← client_read a
-  v ← view_word b
-  n ← note_read ws
-  Some (line.Noted x.0 x.1 v n.0 n.1)
-said_line HRefused (a ∷ ws) = do
-  x ← client_read a
-  f ← fault_read ws
-  Some (line.Refused x.0 x.1 f)
-said_line HShow (a ∷ ws) = do
-  n ← node_word a
-  s ← status_read ws
-  Some (line.Show n s)
-said_line _ _ = None
+said_line HUp ws = do
+  node ← next node_word ws
+  inc ← next u32_word node.1
+  ended (line.Up node.0 inc.0) inc.1
+said_line HDown ws = do
+  node ← next node_word ws
+  ended (line.Down node.0) node.1
+said_line HRing ws = do
+  node ← next node_word ws
+  network ← next network_word node.1
+  ring ← next ring_word network.1
+  members ← next (list_word node_word) ring.1
+  neighbour ← next node_word members.1
+  ended (line.Ring node.0 network.0 ring.0 members.0 neighbour.0) neighbour.1
+said_line HIn ws = do
+  node ← next node_word ws
+  view ← next view_word node.1
+  members ← next (list_word member_word) view.1
+  ended (line.In node.0 view.0 members.0) members.1
+said_line HBase ws = do
+  node ← next node_word ws
+  view ← next view_word node.1
+  group ← next group_name view.1
+  old ← next view_word group.1
+  len ← next u32_word old.1
+  members ← next named_word len.1
+  value ← next (λ w. kept_text (value_word w)) members.1
+  failed ← next named_word value.1
+  run ← next open_read failed.1
+  ended (line.Base node.0 view.0 group.0 (record { old = old.0; len = len.0; members = members.0; value = value.0; failed = failed.0; running = run.0 })) run.1
+said_line HPut ws = do
+  node ← next node_word ws
+  view ← next view_word node.1
+  group ← next group_name view.1
+  place ← next u32_word group.1
+  e ← entry_kept place.1
+  Some (line.Put node.0 view.0 group.0 place.0 e)
+said_line HHeard ws = do
+  provider ← next provider_word ws
+  view ← next view_word provider.1
+  group ← next group_name view.1
+  place ← next u32_word group.1
+  w ← next what_read place.1
+  members ← next named_word w.1
+  value ← next (λ w. kept_text (value_word w)) members.1
+  ended (line.Heard provider.0 view.0 group.0 place.0 w.0 members.0 value.0) value.1
+said_line HCast ws = do
+  provider ← next provider_word ws
+  proto ← next proto_word provider.1
+  phase ← next u16_word proto.1
+  x ← next ballot_word phase.1
+  ended (line.Cast provider.0 proto.0 phase.0 (x.0).0 (x.0).1) x.1
+said_line HAsked ws = do
+  provider ← next provider_word ws
+  request ← next u32_word provider.1
+  group ← next group_name request.1
+  k ← next kind_read group.1
+  ended (line.Asked provider.0 request.0 group.0 k.0) k.1
+said_line HTold ws = do
+  provider ← next provider_word ws
+  request ← next u32_word provider.1
+  why ← why_read request.1
+  Some (line.Told provider.0 request.0 why)
+said_line HNoted ws = do
+  client ← next client_read ws
+  view ← next view_word client.1
+  n ← note_read view.1
+  Some (line.Noted (client.0).0 (client.0).1 view.0 n.0 n.1)
+said_line HRefused ws = do
+  client ← next client_read ws
+  fault ← fault_read client.1
+  Some (line.Refused (client.0).0 (client.0).1 fault)
+said_line HShow ws = do
+  node ← next node_word ws
+  s ← status_read node.1
+  Some (line.Show node.0 s)
 
 unfoldable pub line_words : List (List ℕ) → Option Line
 line_words [] = None
@@ -301,7 +351,7 @@ line_read b = do
   l ← loose b
   when_true (Some l) (bytes_eq (line_text l) b && line_fits l)
 
--- opens each word of this file, for a computation
+-- opens all that a line is read by, for a computation
 unfoldable pub reading_opens : Unit {0}
-unfolding group_name opening_read closing_read what_pieces what_read open_phase unless open_phase_word open_read before_dot after_dot client_read place_read group_note hosts_note note_by note_read labelled yes_read status_head said_status status_read line_head said_line line_words loose line_read
+unfolding digits escapes_open wording_opens attr_words_open entry_wording_opens entries_read_open ranges_open values_read_open fits_opens writing_opens first_of one_of two_of three_of four_of pieces_left next ended group_name kept_text named_word ballot_word entry_kept opening_read closing_read what_pieces what_read open_phase unless open_phase_word open_read before_dot after_dot client_read place_read group_note hosts_note note_by note_read labelled yes_read status_head said_status status_read line_head said_line line_words loose line_read
 reading_opens = tt

@@ -71,24 +71,24 @@ yes_or_no false = codes "no"
 
 unfoldable pub status_words : Status → List (List ℕ)
 status_words (status.Ring network ring members neighbour) =
-    codes "hats" ∷ decimal network ∷ ring_text ring ∷ codes "members=" ++ nodes_text members ∷ codes "neighbour=" ++ decimal neighbour ∷ []
+    codes "hats" ∷ decimal network ∷ ring_text ring ∷ (codes "members=" ++ nodes_text members) ∷ (codes "neighbour=" ++ decimal neighbour) ∷ []
 status_words (status.View view members frozen) =
-    codes "hagsns" ∷ view_text view ∷ codes "coord=" ++ decimal view.coord ∷ codes "members=" ++ members_text members ∷ codes "frozen=" ++ yes_or_no frozen ∷ []
+    codes "hagsns" ∷ view_text view ∷ (codes "coord=" ++ decimal view.coord) ∷ (codes "members=" ++ members_text members) ∷ (codes "frozen=" ++ yes_or_no frozen) ∷ []
 status_words (status.Group group leader len members value) =
     codes "hagsgr"
     ∷ group
-    ∷ codes "leader=" ++ known_text decimal leader
-    ∷ codes "len=" ++ decimal len
-    ∷ codes "members=" ++ providers_text members
-    ∷ codes "value=" ++ escaped value
+    ∷ (codes "leader=" ++ known_text decimal leader)
+    ∷ (codes "len=" ++ decimal len)
+    ∷ (codes "members=" ++ providers_text members)
+    ∷ (codes "value=" ++ escaped value)
     ∷ []
 status_words (status.Vote group proto phase k waiting) =
     codes "hagsvote"
     ∷ group
     ∷ proto_text proto
-    ∷ codes "phase=" ++ decimal phase
-    ∷ codes "kind=" ++ kind_name k
-    ∷ codes "waiting=" ++ known_text providers_text waiting
+    ∷ (codes "phase=" ++ decimal phase)
+    ∷ (codes "kind=" ++ kind_name k)
+    ∷ (codes "waiting=" ++ known_text providers_text waiting)
     ∷ []
 
 unfoldable pub words_of : Line → List (List ℕ)

@@ -4,6 +4,8 @@
 
 mod laws;
 mod line;
+mod worked;
 
 pub use laws::{lines_are_read_back, what_is_read_is_spelled_so};
 pub use line::{BaseLine, Line, Note, OpenPhase, Status, What};
+pub use worked::{long_lines, no_lines, short_lines};
