@@ -1,10 +1,12 @@
 -- Words in parts.
-use Rattle.std.proofs.Common.{◌≡◌, ℕ, true, false, List, [], ◌∷◌, ◌++◌, Option, Some, None, refl, sym, ◌∙◌, ap, append_assoc}
+use Rattle.std.proofs.Common.{◌≡◌, ℕ, Bool, true, false, List, [], ◌∷◌, ◌++◌, Option, Some, None, refl, sym, ◌∙◌, ap, append_assoc}
 use Rattle.std.specs.Option.{option_map}
 use Rattle.rsct_packet.specs.Lists.{is_empty}
 use Rattle.value_words.specs.Words.{◌>>=◌, when_true, each_read}
+use Rattle.value_words.proofs.SplitLaws.{some_piece}
 use Rattle.value_words.specs.Counted.{first_of, one_of, two_of, three_of}
 use Rattle.word_laws.specs.Values.{both_of, view_of, ring_of}
+use Rattle.record_lines.specs.Reading.{pieces_left}
 
 pub one_is_not_two : (ps : List (List ℕ)) (a : List ℕ) → ps ≡ a ∷ [] → two_of ps ≡ None
 unfolding two_of one_of first_of ◌>>=◌ when_true
@@ -89,3 +91,9 @@ each_fails f xs w ps ws e h = rw (e, h) refl
 pub each_done : {X : Type 0} (f : List ℕ → Option X) (xs : List X) (x : X) (w : List ℕ) (ps : List (List ℕ)) → ps ≡ w ∷ [] → f w ≡ Some x → read_onto xs (each_read f ps) ≡ Some (xs ++ x ∷ [])
 unfolding each_read ◌>>=◌ read_onto
 each_done f xs x w ps e h = rw (e, h) refl
+
+-- nothing is left of a line at its end alone
+pub end_is : (b : List ℕ) (t : Bool) → is_empty (pieces_left b t) ≡ t
+unfolding pieces_left
+end_is b true = refl
+end_is b false = some_piece 32 b

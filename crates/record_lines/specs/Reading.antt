@@ -9,6 +9,8 @@ use Rattle.rsct_packet.specs.Lists.{is_empty}
 use Rattle.rsct_packet.specs.Providers.{are_providers}
 use Rattle.proposal_core.specs.declared.entry.Vote.{Vote}
 use Rattle.proposal_core.specs.declared.entry.Entry.{Entry}
+use Rattle.client_callbacks.specs.declared.told.Why.{Why}
+use Rattle.session_state.specs.declared.fault.GsFault.{GsFault}
 use Rattle.value_words.specs.Counted.{first_of, one_of, two_of, three_of, four_of}
 use Rattle.value_words.specs.Escapes.{escapes_open, text_of}
 use Rattle.value_words.specs.Wording.{wording_opens}
@@ -16,7 +18,7 @@ use Rattle.value_words.specs.Words.{◌>>=◌, when_true, split_on, name_word, c
 use Rattle.entry_words.specs.Words.{attr_words_open, after_equals}
 use Rattle.entry_words.specs.Wording.{entry_wording_opens}
 use Rattle.word_laws.specs.declared.kind.Kind.{Kind}
-use Rattle.word_laws.specs.Entries.{entries_read_open, kind_read, ballot_read, entry_read, why_read, fault_read}
+use Rattle.word_laws.specs.Entries.{entries_read_open, kind_read, ballot_read, entry_read, why_head, said_why, why_read, fault_head, said_fault, fault_read}
 use Rattle.word_laws.specs.Ranges.{ranges_open}
 use Rattle.word_laws.specs.Values.{values_read_open, u32_word, u16_word, two_word, view_word, ring_word, proto_word, member_word, list_word, value_word}
 use Rattle.record_lines.specs.declared.line.Line.{Line}
@@ -73,6 +75,18 @@ unfoldable pub entry_kept : List (List ℕ) → Option Entry
 entry_kept ws = do
   e ← entry_read ws
   when_true (Some e) (entry_typed e)
+
+-- ---- why something is refused, where a word behind the first says more
+
+unfoldable pub valued_why : List ℕ → List ℕ → Option Why
+valued_why head w = do
+  h ← why_head head
+  said_why h w
+
+unfoldable pub valued_fault : List ℕ → List ℕ → Option GsFault
+valued_fault head w = do
+  h ← fault_head head
+  said_fault h w
 
 -- ---- what was heard, what runs
 
@@ -353,5 +367,5 @@ line_read b = do
 
 -- opens all that a line is read by, for a computation
 unfoldable pub reading_opens : Unit {0}
-unfolding digits escapes_open wording_opens attr_words_open entry_wording_opens entries_read_open ranges_open values_read_open fits_opens writing_opens first_of one_of two_of three_of four_of pieces_left next ended group_name kept_text named_word ballot_word entry_kept opening_read closing_read what_pieces what_read open_phase unless open_phase_word open_read before_dot after_dot client_read place_read group_note hosts_note note_by note_read labelled yes_read status_head said_status status_read line_head said_line line_words loose line_read
+unfolding digits escapes_open wording_opens attr_words_open entry_wording_opens entries_read_open ranges_open values_read_open fits_opens writing_opens first_of one_of two_of three_of four_of pieces_left next ended group_name kept_text named_word ballot_word entry_kept valued_why valued_fault opening_read closing_read what_pieces what_read open_phase unless open_phase_word open_read before_dot after_dot client_read place_read group_note hosts_note note_by note_read labelled yes_read status_head said_status status_read line_head said_line line_words loose line_read
 reading_opens = tt

@@ -2,8 +2,17 @@
 //! it is the one text of something that a record can show.
 #![tactic(auto)]
 
+mod from_word;
+mod ids;
+mod items;
+mod kinds;
+mod labels;
 mod laws;
 mod line;
+mod owned;
+mod pieces;
+mod refusals;
+mod values;
 mod worked;
 
 pub use laws::{lines_are_read_back, what_is_read_is_spelled_so};
