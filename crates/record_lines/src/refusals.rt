@@ -78,7 +78,11 @@ pub fn why_words(words: &mut Pieces<'_>) -> Option<Why>
     let head = words.take()?;
     match words.take() {
         None => plain_why(head),
-        Some(word) => if words.is_empty() { valued_why(head, word) } else { None },
+        Some(word) => if words.is_empty() {
+            valued_why(head, word)
+        } else {
+            None
+        },
     }
 }
 
@@ -189,6 +193,10 @@ pub fn fault_words(words: &mut Pieces<'_>) -> Option<GsFault>
     let head = words.take()?;
     match words.take() {
         None => plain_fault(head),
-        Some(word) => if words.is_empty() { valued_fault(head, word) } else { None },
+        Some(word) => if words.is_empty() {
+            valued_fault(head, word)
+        } else {
+            None
+        },
     }
 }
