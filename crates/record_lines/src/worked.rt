@@ -17,9 +17,11 @@ pub fn short_lines()
     ensures ring { line_read (codes "ring 1 4 1.0.7 1,2 2")
         ≡ Some (line.Ring 1 4 (record { leader = 1; inc = 0; number = 7 }) (1 ∷ 2 ∷ []) 2) }
     ensures asked { line_read (codes "asked 1.1.7.1 1 db join")
-        ≡ Some (line.Asked (record { node = 1; inc = 1; instance = 7; join = 1 }) 1 (codes "db") kind.Join) }
+        ≡ Some (line.Asked (record { node = 1; inc = 1; instance = 7; join = 1 }) 1
+        (codes "db") kind.Join) }
     ensures told { line_read (codes "told 1.1.7.1 2 GROUPS_FULL 64")
-        ≡ Some (line.Told (record { node = 1; inc = 1; instance = 7; join = 1 }) 2 (why.GroupsFull 64)) }
+        ≡ Some (line.Told (record { node = 1; inc = 1; instance = 7; join = 1 }) 2
+        (why.GroupsFull 64)) }
     ensures refused { line_read (codes "refused 1.c65 SESSIONS_FULL 64")
         ≡ Some (line.Refused 1 (codes "c65") (fault.SessionsFull 64)) }
     ensures shown { line_read (codes "show 1 hagsgr db leader=? len=3 members=- value=%20")
