@@ -1,6 +1,5 @@
 -- Words in parts.
-use Rattle.std.proofs.Common.{◌≡◌, ℕ, Bool, true, false, List, [], ◌∷◌, ◌++◌, Option, Some, None, refl, sym, ◌∙◌, ap, append_assoc}
-use Rattle.std.specs.Option.{option_map}
+use Rattle.std.proofs.Common.{◌≡◌, ℕ, Bool, true, false, List, [], ◌∷◌, ◌++◌, Option, Some, None, refl, sym, ap, append_assoc}
 use Rattle.rsct_packet.specs.Lists.{is_empty}
 use Rattle.value_words.specs.Words.{◌>>=◌, when_true, each_read}
 use Rattle.value_words.proofs.SplitLaws.{some_piece}

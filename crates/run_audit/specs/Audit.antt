@@ -1,5 +1,5 @@
 -- The judgement of a transcript's bytes.
-use Rattle.std.specs.Prelude.{ℕ, true, false, ◌+◌, List, [], ◌∷◌, Option, Some, None, length}
+use Rattle.std.specs.Prelude.{ℕ, true, false, ◌+◌, List, [], ◌∷◌, Some, None, length}
 use Rattle.std.specs.Fmt.{digits}
 use Rattle.rsct_packet.specs.Lists.{is_empty}
 use Rattle.proposal_core.specs.Fold.{fold_opens}
