@@ -140,9 +140,9 @@ lacks_by c (x ∷ xs) e =
 name_byte_lacks : (b : ℕ) → name_byte b ≡ true → (b == 32) ≡ false
 name_byte_lacks b e = grind (arith, nat_tests)
 
-name_lacks : (g : List ℕ) → list_all name_byte g ≡ true → Lacks 32 g
-name_lacks [] e = tt
-name_lacks (b ∷ g) e = let p = and_parts (name_byte b) (list_all name_byte g) e in (name_byte_lacks b p.0, name_lacks g p.1)
+pub name_bytes_lack : (g : List ℕ) → list_all name_byte g ≡ true → Lacks 32 g
+name_bytes_lack [] e = tt
+name_bytes_lack (b ∷ g) e = let p = and_parts (name_byte b) (list_all name_byte g) e in (name_byte_lacks b p.0, name_bytes_lack g p.1)
 
 name_parts : (a b c : Bool) → (a && b && c) ≡ true → c ≡ true
 name_parts true true true e = refl
@@ -151,7 +151,7 @@ name_parts true false c e = absurd cc
 name_parts false b c e = absurd cc
 
 pub named_lacks : (g : List ℕ) → is_name_of g ≡ true → Lacks 32 g
-named_lacks g e = name_lacks g (name_parts (nat_le 1 (length g)) (nat_le (length g) 32) (list_all name_byte g) e)
+named_lacks g e = name_bytes_lack g (name_parts (nat_le 1 (length g)) (nat_le (length g) 32) (list_all name_byte g) e)
 
 phases_attr : (x : Phases) → AreAttrs (phases_words (codes "phases") x)
 unfolding phases_words is_source_len before_equals

@@ -52,7 +52,7 @@ asker_lacks : (p : ProviderId) (r : ℕ) → is_provider p ≡ true → is_u32 r
 asker_lacks p r e f =
     subst (Lacks 32) (sym (asker_is p r)) (lacks_mark 47 32 (provider_text p) (decimal r) refl (provider_lacks 32 p blank e) (u32_lacks 32 r blank.0 f))
 
-colon : IsApart 58
+pub colon : IsApart 58
 colon = (inr (omega arith), grind (arith, nat_tests))
 
 -- the word of a cause, behind its mark

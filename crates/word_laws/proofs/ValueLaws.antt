@@ -490,3 +490,16 @@ value_option_lacks (Some bs) e = value_lacks 32 bs (omega arith) e
 
 pub value_bytes_read : (bs : List ℕ) → is_value bs ≡ true → text_of (escaped bs) ≡ Some bs
 value_bytes_read bs e = escaped_read bs (value_parts bs e)
+
+pub ring_lacks : (c : ℕ) (r : RingId) → IsApart c → is_ring r ≡ true → Lacks c (ring_text r)
+ring_lacks c r h e =
+    let p = ring_parts r e in
+    subst (Lacks c) (sym (ring_is r)) (lacks_mark 46 c (decimal r.leader) (decimal r.inc ++ 46 ∷ decimal r.number) h.1 (node_lacks c r.leader h.0 p.0) (lacks_mark 46 c (decimal r.inc) (decimal r.number) h.1 (u32_lacks c r.inc h.0 p.1) (u32_lacks c r.number h.0 p.2)))
+
+pub members_lack : (ms : List Member) → list_all is_member ms ≡ true → Lacks 32 (members_text ms)
+unfolding members_text
+members_lack ms e = joined_lacks member_text 32 ms refl refl (unmarked is_member member_text 32 (λ m h. member_lacks 32 m blank h) ms e)
+
+pub nodes_lack : (ns : List ℕ) → list_all is_node ns ≡ true → Lacks 32 (nodes_text ns)
+unfolding nodes_text
+nodes_lack ns e = joined_lacks decimal 32 ns refl refl (unmarked is_node decimal 32 (λ n h. node_lacks 32 n blank.0 h) ns e)

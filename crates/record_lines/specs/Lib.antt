@@ -1,0 +1,3 @@
+pub mod Writing
+pub mod Fits
+pub mod Reading
