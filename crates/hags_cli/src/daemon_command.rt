@@ -6,7 +6,7 @@ use crate::edges::Edges;
 use crate::ending::Ending;
 use crate::settings::read_settings;
 use client_callbacks::{Callbacks, DaemonClient};
-use daemon_run::{Objects, Serving, serve};
+use daemon_run::{Hosts, Objects, Serving, serve};
 use hags_io::{Outside, Source};
 use std::alloc::Global;
 use world_model::Script;
@@ -42,8 +42,32 @@ fn incarnation_of<O: Outside>(named: Option<u32>, outside: &mut O) -> u32
     }
 }
 
-/// Reads the settings to their end, and serves the node with these objects for its clients.
+/// Reads the settings to their end, and serves the node with what `hosts` gives for its clients, of so many objects.
 #[tactic(auto, using(crate::proofs::CommandLaws::serves_settings, crate::proofs::TaskLaws::untouched))]
+fn serve_with<C: Callbacks, H: Hosts<C>, S: Source, O: Outside>(
+    alloc: Global,
+    service: Service,
+    edges: &mut Edges<S, O>,
+    objects: usize,
+    hosts: &mut H,
+) -> Result<(), Ending>
+    requires { service.node ≤ 32 }
+    ensures { EndsAs result (Some (serves service objects))
+        (seen S.left S.faults O.told edges.old edges.new) }
+{
+    let count = count_of(objects);
+    let script = read_settings(alloc, service.node, Some(count), &mut edges.input)?;
+    let serving = Serving {
+        me: service.node,
+        incarnation: incarnation_of(service.incarnation, &mut edges.output.outside),
+        turns: service.turns,
+        remote: service.remote,
+    };
+    let _node = serve::<C, H, O>(alloc, &script, serving, hosts, &mut edges.output.outside)?;
+    Ok(())
+}
+
+/// Reads the settings to their end, and serves the node with these objects for its clients.
 pub fn serve_node<S: Source, O: Outside>(
     alloc: Global,
     service: Service,
@@ -54,21 +78,7 @@ pub fn serve_node<S: Source, O: Outside>(
     ensures { EndsAs result (Some (serves service (length clients.items)))
         (seen S.left S.faults O.told edges.old edges.new) }
 {
-    let objects = count_of(clients.len());
-    let script = read_settings(alloc, service.node, Some(objects), &mut edges.input)?;
-    let serving = Serving {
-        me: service.node,
-        incarnation: incarnation_of(service.incarnation, &mut edges.output.outside),
-        turns: service.turns,
-        remote: service.remote,
-    };
+    let objects = clients.len();
     let mut hosts = Objects { left: clients };
-    let _node = serve::<DaemonClient, Objects, O>(
-        alloc,
-        &script,
-        serving,
-        &mut hosts,
-        &mut edges.output.outside,
-    )?;
-    Ok(())
+    serve_with::<DaemonClient, Objects, S, O>(alloc, service, edges, objects, &mut hosts)
 }
