@@ -65,7 +65,7 @@ came m k c chunks true t are is e =
     from_zero : (a bytes : List ℕ) → pieces_to 0 bytes ++ a ≡ a
     from_zero a bytes = pieces_none a bytes
 
-received_is_the_map : ReceivedIsTheMap
+pub received_is_the_map : ReceivedIsTheMap
 received_is_the_map m k [] t are e = absurd cc
 received_is_the_map m k (c ∷ chunks) t are e = came m k c chunks (in_turn 0 (c ∷ chunks) && (length (c ∷ chunks) == c.count)) t are refl e
 
@@ -87,7 +87,7 @@ kept_message m chunks phase (Some bytes) t are carries =
     subst (λ (o : Option Chunk). AreChunksOf m (kept_if chunks (phase - 1) o)) (sym read)
     (kept_cond m chunks c ((c.number == phase - 1) && (nat_lt (phase - 1) c.count && counts_after chunks c)) are (record { count = refl; bytes = refl }))
 
-kept_are_chunks : KeptAreChunks
+pub kept_are_chunks : KeptAreChunks
 kept_are_chunks m chunks x t are carries = kept_message m chunks x.phase x.message t are carries
 
 -- ---- what is sent
@@ -101,7 +101,7 @@ sharing_is_chunk m phase = by_test (nat_lt (phase - 1) (chunk_count m)) refl
 
 -- ---- a whole map goes on
 
-with_chunk_map : (n : NoticeView) (c : Copied) (b : Bool) → is_own n.provider c.running ≡ b → ((with_chunk n c).map ≡ c.map) × ((with_chunk n c).running ≡ c.running)
+pub with_chunk_map : (n : NoticeView) (c : Copied) (b : Bool) → is_own n.provider c.running ≡ b → ((with_chunk n c).map ≡ c.map) × ((with_chunk n c).running ≡ c.running)
 unfolding with_chunk
 with_chunk_map n c true is = rw is (refl, refl)
 with_chunk_map n c false is = rw is (refl, refl)
@@ -122,7 +122,7 @@ unfolding with_members
 members_map n c true m is whole = rw is refl
 members_map n c false m is whole = rw is whole
 
-whole_goes_on : WholeGoesOn
+pub whole_goes_on : WholeGoesOn
 unfolding copy_after with_place with_effect
 whole_goes_on n c s m runs after_is whole own =
     let kept = with_chunk_map n c (is_own n.provider c.running) refl in

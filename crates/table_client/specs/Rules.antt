@@ -70,9 +70,13 @@ sharing k (Some map) =
 abbrev pub vote_for : NoticeView → Copied → Filled
 vote_for n c = if others_join n.provider n.after.running then sharing (phase_in n.after.running - 1) c.map else filling vote.Approve None
 
+-- where a vote is asked for
+abbrev pub filled_from : NoticeView → Copied → Option Filled
+filled_from n c = if n.votes then Some (vote_for n c) else None
+
 -- where a vote is asked for it approves; and it hands on its map to others that join
 unfoldable pub filled_for : NoticeView → List Copied → Option Filled
-filled_for n copies = if n.votes then Some (vote_for n (copy_before n copies)) else None
+filled_for n copies = filled_from n (copy_before n copies)
 
 -- ---- the chunks of its own join
 
@@ -153,9 +157,12 @@ provider_lt a b =
     then (if a.inc == b.inc then (if a.instance == b.instance then nat_lt a.join b.join else nat_lt a.instance b.instance) else nat_lt a.inc b.inc)
     else nat_lt a.node b.node
 
+abbrev pub comes_after : ProviderId → Copied → Bool
+comes_after p c = provider_lt p c.provider
+
 -- in ascending order of providers
 abbrev pub with_copy : Copied → List Copied → List Copied
-with_copy c copies = insert_before (λ (x : Copied). provider_lt c.provider x.provider) c (drop_where (is_copy c.provider) copies)
+with_copy c copies = insert_before (comes_after c.provider) c (drop_where (is_copy c.provider) copies)
 
 unfoldable pub noticed : NoticeView → List Copied → List Copied
 noticed n copies = with_copy (copy_after n (copy_before n copies)) copies
@@ -181,6 +188,11 @@ abbrev pub FilledBy : List Copied → List Handed → Type 0
 FilledBy copies [] = Unit {0}
 FilledBy copies (Notified n filled ∷ hs) = (filled ≡ filled_for n copies) × FilledBy (noticed n copies) hs
 FilledBy copies (Informed t ∷ hs) = FilledBy (informed t copies) hs
+
+-- the copies of a client are what its rules make of what it was handed, and so is each ballot in that
+pub record ByRules (cs : List Copied) (hs : List Handed) : Type 0 where
+  pub copies : cs ≡ copies_after hs
+  pub ballots : FilledBy [] hs
 
 -- opens each word of this file, for a computation
 unfoldable pub rules_open : Unit {0}

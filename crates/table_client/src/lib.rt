@@ -1,7 +1,15 @@
-//! An agreed table of a group: the rules by which a client keeps a copy of it, and laws on the map of a group's list. The
-//! client itself is not there yet.
+//! An agreed table of a group: the client that keeps a copy of it for each of its providers, the rules by which it does,
+//! and laws on the map of a group's list.
 #![tactic(auto)]
 
+mod callbacks;
+mod chunks;
+mod client;
+mod copies;
+mod following;
 mod laws;
+mod sharing;
 
-pub use laws::{maps_hold, rules_keep_the_map};
+pub use client::TableClient;
+pub use copies::TableCopy;
+pub use laws::{copies_are_apart, copies_follow, maps_hold, rules_keep_the_map};
