@@ -1,6 +1,6 @@
 //! Command lines through the whole program, over sources and sinks in memory. A line here is cut into words at each space,
 //! so two spaces in a row, or one at the end, make an empty word.
-use crate::edges::{silent_edges, sink, source, words_of};
+use crate::edges::{silent_edges, sink, sink_of, source, words_of};
 use hags_cli::hags;
 use hags_io::MemSink;
 use std::alloc::{AllocError, Global};
@@ -33,7 +33,7 @@ fn called(
         &mut err,
         Vec::new(alloc),
     );
-    Ok((status, edges.output.outside.out, err))
+    Ok((status, sink_of(edges), err))
 }
 
 /// Whether the call with these words ends with 0, writes this and says nothing.

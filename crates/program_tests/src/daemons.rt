@@ -1,5 +1,5 @@
 //! The commands `daemon` and `status` over links, clocks, sources and sinks in memory.
-use crate::edges::{clock_at, fails, silent_link, sink, source, words_of};
+use crate::edges::{clock_at, fails, silent_link, sink, sink_of, source, words_of};
 use hags_cli::{Edges, Output, hags};
 use hags_io::{History, MemLink, MemSink, Parts};
 use std::alloc::{AllocError, Global};
@@ -50,7 +50,7 @@ pub fn called(
         &mut err,
         Vec::new(alloc),
     );
-    Ok((status, edges.output.outside.out, err))
+    Ok((status, sink_of(edges), err))
 }
 
 /// Whether such a call of node 1, alone, ends with this status and writes this.

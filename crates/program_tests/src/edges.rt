@@ -66,3 +66,11 @@ pub fn silent_edges(alloc: Global, input: MemSource, out: MemSink) -> Result<Mem
         },
     })
 }
+
+/// The sink of these edges.
+pub fn sink_of<L: Drop>(edges: Edges<MemSource, Parts<MemSink, L, MemClock>>) -> MemSink {
+    let Edges { output, .. } = edges;
+    let Output { outside } = output;
+    let Parts { out, .. } = outside;
+    out
+}

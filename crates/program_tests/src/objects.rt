@@ -1,7 +1,7 @@
 //! A daemon of the program with one object for its clients: the object's ballot is what counts.
 ghost use Rattle.std.specs.Prelude.{None};
 
-use crate::edges::{clock_at, sink, source, words_of};
+use crate::edges::{clock_at, sink, sink_of, source, words_of};
 use client_callbacks::{Ballot, Callbacks, Notice, SteadyClient, Told};
 use hags_cli::{Edges, Output, hags};
 use hags_io::{Got, History, Link, MemSink, Parts, Put};
@@ -102,7 +102,7 @@ fn written(alloc: Global, client: Box<dyn Callbacks>) -> Result<MemSink, AllocEr
     clients.push(client)?;
     let mut err = sink(alloc, &[])?;
     let _status = hags(alloc, words.as_slice(), &mut edges, &mut err, clients);
-    Ok(edges.output.outside.out)
+    Ok(sink_of(edges))
 }
 
 /// Does the text have this line?

@@ -1,5 +1,5 @@
 //! Runs of the whole program over sources and sinks in memory, with their statuses and faults.
-use crate::edges::{silent_edges, sink, source, words_of};
+use crate::edges::{silent_edges, sink, sink_of, source, words_of};
 use hags_cli::hags;
 use hags_io::MemSink;
 use std::alloc::{AllocError, Global};
@@ -29,7 +29,7 @@ fn ran(
         &mut err,
         Vec::new(alloc),
     );
-    Ok((status, edges.output.outside.out))
+    Ok((status, sink_of(edges)))
 }
 
 /// What a call with these words said on err, with its status.
