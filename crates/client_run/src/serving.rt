@@ -61,9 +61,9 @@ fn converse<O: Outside>(
     ensures full { result ≡ Err ClientFault.Full → Keyed config.now usage.node
         (O.told outside.old) (λ client start. Ended IsFull lines.now client usage.turns start
         (O.told outside.new)) }
-    ensures failing { result ≡ Err (ClientFault.Stop Stop.LinkFault) → Keyed config.now usage.node
-        (O.told outside.old) (λ client start. Failing lines.now client usage.turns start
-        (O.told outside.new)) }
+    ensures failing { result ≡ Err (ClientFault.Stop Stop.LinkFault)
+        → Keyed config.now usage.node (O.told outside.old)
+        (λ client start. Failing lines.now client usage.turns start (O.told outside.new)) }
     ensures ever { Keyed config.now usage.node (O.told outside.old)
         (λ client start. Front lines.now client usage.turns start (O.told outside.new)) }
     ensures written { result ≡ Err (ClientFault.Stop Stop.WriteFault)

@@ -115,7 +115,8 @@ impl<'a> Pieces<'a> {
     /// The words, where there are just four.
     #[tactic(auto, unfolding(value_words::specs::Counted::four_of, value_words::specs::Answers::bind_opens))]
     pub fn four(&mut self) -> Option<(&'a [u8], &'a [u8], &'a [u8], &'a [u8])>
-        ensures { option_map (λ x. (x.0.now, x.1.now, x.2.now, x.3.now)) result ≡ four_of self.old }
+        ensures { option_map (λ x. (x.0.now, x.1.now, x.2.now, x.3.now)) result
+            ≡ four_of self.old }
     {
         let a = self.first()?;
         let b = self.first()?;
@@ -167,7 +168,8 @@ impl<'a> Pieces<'a> {
     /// What stands behind the next word's first `=`, read.
     #[tactic(auto, unfolding(crate::specs::Reading::next, crate::specs::Reading::labelled, value_words::specs::Answers::bind_opens))]
     pub fn labelled<T: FromWord>(&mut self) -> Result<T, WordFault>
-        ensures found { IfOk result (λ x. next (labelled T.reads) self.old ≡ Some (x, self.new)) }
+        ensures found { IfOk result (λ x. next (labelled T.reads) self.old
+            ≡ Some (x, self.new)) }
         ensures refused { IfErr result (λ e. FailsWord e (next (labelled T.reads) self.old)) }
     {
         let value = self.value()?;

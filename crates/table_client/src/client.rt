@@ -118,7 +118,8 @@ impl TableClient {
     /// Takes out the copy of the notice's provider, made new where there is none.
     #[tactic(auto, using(rsct_packet::proofs::SearchLaws::removed_where, rsct_packet::proofs::SearchLaws::removed_nowhere, rsct_packet::proofs::SearchLaws::missing_at_place))]
     fn take(&mut self, notice: &Notice<'_>) -> Result<Kept, NoMemory>
-        ensures taken { IfOk result (λ kept. kept ≡ copy_before (notice_of notice.now) self.old) }
+        ensures taken { IfOk result (λ kept. kept
+            ≡ copy_before (notice_of notice.now) self.old) }
         ensures left { OnOk result (self.new
             ≡ drop_where (is_copy notice.now.provider) self.old) }
     {

@@ -126,7 +126,8 @@ pub(crate) fn fill(
 ) -> Result<(), NoMemory>
     ensures filled { ballot.old ≡ new_ballot notice.now.votes ballot.old.level
         → OnOk result (ballot.new.filled ≡ filled_from (notice_of notice.now) kept.now) }
-    ensures same { (ballot.new.votes ≡ ballot.old.votes) × (ballot.new.level ≡ ballot.old.level) }
+    ensures same { (ballot.new.votes ≡ ballot.old.votes)
+        × (ballot.new.level ≡ ballot.old.level) }
 {
     if notice.votes {
         let answer = vote_for(alloc, kept, notice)?;
