@@ -1,14 +1,46 @@
 -- Attributes are read word by word.
-use Rattle.std.proofs.Common.{◌≡◌, ℕ, ◌==◌, ◌||◌, ◌++◌, Bool, true, false, List, [], ◌∷◌, Option, Some, None, refl, sym, ◌∙◌, ap, if◌then◌else◌}
+use Rattle.std.proofs.Common.{◌≡◌, ℕ, ◌+◌, ◌<◌, ◌≤◌, ◌==◌, ◌||◌, ◌++◌, Bool, true, false, List, [], ◌∷◌, length, take, get_or, flat_map, append_assoc, append-nil, Option, Some, None, refl, sym, ◌∙◌, ap, if◌then◌else◌}
 use Rattle.std.specs.List.{list_any}
+use Rattle.std.proofs.lemmas.List.{take_more, take_all}
+use Rattle.std.proofs.lemmas.List.Concat.{flat_map-append}
+use denote.Enum.Declared.{tag_of}
+use Rattle.entry_words.specs.contracts.attrs.AttrKey.{the_type}
+use Rattle.entry_words.specs.declared.attrs.AttrKey.TheVariants as key
+use Rattle.entry_words.specs.Wording.{attr_text, attrs_text}
 use Rattle.group_attr.specs.declared.attrs.Attrs.{Attrs}
 use Rattle.value_words.specs.Words.{◌>>=◌}
-use Rattle.entry_words.specs.Words.{AttrKey, key_number, key_word, attr_set, before_equals, after_equals, attrs_from}
+use Rattle.entry_words.specs.Words.{every_key, key_number, key_word, attr_row, before_equals, after_equals, attrs_from}
+use Rattle.entry_words.specs.declared.attrs.AttrKey.{AttrKey}
 use Rattle.entry_words.specs.declared.attrs.AttrsRead.{AttrsRead}
 use Rattle.value_words.specs.declared.faults.WordFault.{WordFault}
 use Rattle.value_words.specs.declared.faults.WordFault.TheVariants as word_fault
 use Rattle.value_words.specs.Answers.{FailsWord}
 use Rattle.entry_words.specs.Attrs.{new_key, attr_step}
+
+-- the number that the code has for an attribute is its place
+pub number_by_tag : (k : AttrKey) → tag_of the_type k ≡ key_number k
+unfolding key_number attr_row
+number_by_tag k = elim k as (λ k. tag_of the_type k ≡ key_number k) [ key.Phases ↦ refl | _ ↦ refl ]
+
+-- ---- written, one after another
+
+pub none_written : (a : Attrs) (t : List ℕ) → t ≡ t ++ flat_map (attr_text a) []
+none_written a t = sym (append-nil t)
+
+pub one_written : (a : Attrs) (i : ℕ) (d : AttrKey) (ks : List AttrKey) (t all : List ℕ) → i < length ks → all ≡ (t ++ flat_map (attr_text a) (take i ks)) ++ attr_text a (get_or ks i d)
+    → all ≡ t ++ flat_map (attr_text a) (take (i + 1) ks)
+one_written a i d ks t all h e =
+    let more : flat_map (attr_text a) (take (i + 1) ks) ≡ flat_map (attr_text a) (take i ks) ++ attr_text a (get_or ks i d) =
+    ap (flat_map (attr_text a)) (take_more ks i d h)
+    ∙ (flat_map-append (attr_text a) (take i ks) (get_or ks i d ∷ []) ∙ ap (λ z. flat_map (attr_text a) (take i ks) ++ z) (append-nil (attr_text a (get_or ks i d))))
+    in
+    e ∙ (append_assoc t (flat_map (attr_text a) (take i ks)) (attr_text a (get_or ks i d)) ∙ ap (λ z. t ++ z) (sym more))
+
+pub all_written : (a : Attrs) (i : ℕ) (ks : List AttrKey) (t all : List ℕ) → length ks ≤ i → ks ≡ every_key → all ≡ t ++ flat_map (attr_text a) (take i ks) → all ≡ t ++ attrs_text a
+unfolding attrs_text
+all_written a i ks t all h is e = e ∙ ap (λ z. t ++ flat_map (attr_text a) z) (take_all i ks h ∙ is)
+
+-- ---- read, one after another
 
 -- the same numbers, in whatever order
 abbrev pub SameSeen : List ℕ → List ℕ → Type 0
@@ -33,7 +65,7 @@ same_word : (s t : List ℕ) (a : Attrs) (ws : List (List ℕ)) (v : Option (Lis
         | None ↦ None
         | Some v ↦ elim (list_any (λ n. n == key_number k) s) [
           | true ↦ None
-          | false ↦ elim (attr_set a k v) [ None ↦ None | Some b ↦ attrs_from (key_number k ∷ s) b ws ]
+          | false ↦ elim ((attr_row k).set a v) [ None ↦ None | Some b ↦ attrs_from (key_number k ∷ s) b ws ]
         ]
       ]
     ]) (elim k [
@@ -42,14 +74,14 @@ same_word : (s t : List ℕ) (a : Attrs) (ws : List (List ℕ)) (v : Option (Lis
         | None ↦ None
         | Some v ↦ elim (list_any (λ n. n == key_number k) t) [
           | true ↦ None
-          | false ↦ elim (attr_set a k v) [ None ↦ None | Some b ↦ attrs_from (key_number k ∷ t) b ws ]
+          | false ↦ elim ((attr_row k).set a v) [ None ↦ None | Some b ↦ attrs_from (key_number k ∷ t) b ws ]
         ]
       ]
     ])
 same_word s t a ws v None h go = refl
 same_word s t a ws None (Some k) h go = refl
 same_word s t a ws (Some v) (Some k) h go =
-    same_test (list_any (λ n. n == key_number k) s) (list_any (λ n. n == key_number k) t) _ _ (h (key_number k)) (same_set s t (key_number k) ws (attr_set a k v) (go (key_number k)))
+    same_test (list_any (λ n. n == key_number k) s) (list_any (λ n. n == key_number k) t) _ _ (h (key_number k)) (same_set s t (key_number k) ws ((attr_row k).set a v) (go (key_number k)))
 
 more_same : (s t : List ℕ) (j : ℕ) → SameSeen s t → SameSeen (j ∷ s) (j ∷ t)
 more_same s t j h k = rw (h k) refl
@@ -86,13 +118,13 @@ step_set r k ws (Some b) = attrs_same (k ∷ r.seen) (r.seen ++ k ∷ []) b ws (
 step_at : (r : AttrsRead) (ws : List (List ℕ)) (k : AttrKey) (v : Option (List ℕ)) (t : Bool)
     → ◌≡◌ {A = Option Attrs} (elim v [
       | None ↦ None
-      | Some v ↦ elim t [ true ↦ None | false ↦ elim (attr_set r.attrs k v) [ None ↦ None | Some b ↦ attrs_from (key_number k ∷ r.seen) b ws ] ]
-    ]) (attrs_after ((if t then None else Some k) >>= λ k. v >>= λ v. attr_set r.attrs k v >>= λ b. Some (record { attrs = b; seen = r.seen ++ key_number k ∷ [] })) ws)
+      | Some v ↦ elim t [ true ↦ None | false ↦ elim ((attr_row k).set r.attrs v) [ None ↦ None | Some b ↦ attrs_from (key_number k ∷ r.seen) b ws ] ]
+    ]) (attrs_after ((if t then None else Some k) >>= λ k. v >>= λ v. (attr_row k).set r.attrs v >>= λ b. Some (record { attrs = b; seen = r.seen ++ key_number k ∷ [] })) ws)
 unfolding ◌>>=◌
 step_at r ws k None true = refl
 step_at r ws k None false = refl
 step_at r ws k (Some v) true = refl
-step_at r ws k (Some v) false = step_set r (key_number k) ws (attr_set r.attrs k v)
+step_at r ws k (Some v) false = step_set r (key_number k) ws ((attr_row k).set r.attrs v)
 
 step_word : (r : AttrsRead) (ws : List (List ℕ)) (v : Option (List ℕ)) (k : Option AttrKey)
     → ◌≡◌ {A = Option Attrs} (elim k [
@@ -101,10 +133,10 @@ step_word : (r : AttrsRead) (ws : List (List ℕ)) (v : Option (List ℕ)) (k : 
         | None ↦ None
         | Some v ↦ elim (list_any (λ n. n == key_number k) r.seen) [
           | true ↦ None
-          | false ↦ elim (attr_set r.attrs k v) [ None ↦ None | Some b ↦ attrs_from (key_number k ∷ r.seen) b ws ]
+          | false ↦ elim ((attr_row k).set r.attrs v) [ None ↦ None | Some b ↦ attrs_from (key_number k ∷ r.seen) b ws ]
         ]
       ]
-    ]) (attrs_after ((k >>= λ k. if list_any (λ n. n == key_number k) r.seen then None else Some k) >>= λ k. v >>= λ v. attr_set r.attrs k v >>= λ b. Some (record { attrs = b; seen = r.seen ++ key_number k ∷ [] })) ws)
+    ]) (attrs_after ((k >>= λ k. if list_any (λ n. n == key_number k) r.seen then None else Some k) >>= λ k. v >>= λ v. (attr_row k).set r.attrs v >>= λ b. Some (record { attrs = b; seen = r.seen ++ key_number k ∷ [] })) ws)
 unfolding ◌>>=◌
 step_word r ws v None = refl
 step_word r ws v (Some k) = step_at r ws k v (list_any (λ n. n == key_number k) r.seen)

@@ -2,19 +2,9 @@
 use Rattle.std.specs.Prelude.{ℕ, ◌==◌, ◌++◌, List, [], ◌∷◌, Option, Some, None, if◌then◌else◌}
 use Rattle.std.specs.List.{list_any}
 use Rattle.value_words.specs.Words.{◌>>=◌}
-use Rattle.entry_words.specs.Words.{AttrKey, PhasesKey, BatchKey, DefaultKey, LimitKey, SourceKey, SourcePhasesKey, SourceLimitKey, key_number, key_word, attr_set, before_equals, after_equals}
-use Rattle.entry_words.specs.declared.attrs.AttrKey.{AttrKey as Key}
-use Rattle.entry_words.specs.declared.attrs.AttrKey.TheVariants as key
+use Rattle.entry_words.specs.Words.{attr_row, key_number, key_word, before_equals, after_equals}
+use Rattle.entry_words.specs.declared.attrs.AttrKey.{AttrKey}
 use Rattle.entry_words.specs.declared.attrs.AttrsRead.{AttrsRead}
-
-abbrev pub key_seen : Key → AttrKey
-key_seen key.Phases = PhasesKey
-key_seen key.Batch = BatchKey
-key_seen key.Default = DefaultKey
-key_seen key.Limit = LimitKey
-key_seen key.Source = SourceKey
-key_seen key.SourcePhases = SourcePhasesKey
-key_seen key.SourceLimit = SourceLimitKey
 
 -- what the word sets, where it is not set yet
 unfoldable pub new_key : List ℕ → List ℕ → Option AttrKey
@@ -27,5 +17,5 @@ unfoldable pub attr_step : AttrsRead → List ℕ → Option AttrsRead
 attr_step r w = do
   k ← new_key r.seen w
   v ← after_equals w
-  b ← attr_set r.attrs k v
+  b ← (attr_row k).set r.attrs v
   Some (record { attrs = b; seen = r.seen ++ key_number k ∷ [] })

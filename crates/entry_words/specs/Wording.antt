@@ -1,12 +1,8 @@
 -- How attributes, proposals, entries and faults are written.
-use Rattle.std.specs.Prelude.{ℕ, ◌==◌, ◌++◌, List, [], Option, Some, None, codes, decimal, if◌then◌else◌}
+use Rattle.std.specs.Prelude.{ℕ, ◌++◌, List, [], flat_map, Option, Some, None, codes, decimal}
 use Rattle.rsct_packet.specs.declared.ids.ProviderId.{ProviderId}
 use Rattle.rsct_packet.specs.declared.ids.ProtoId.{ProtoId}
 use Rattle.group_attr.specs.declared.attrs.Attrs.{Attrs}
-use Rattle.group_attr.specs.declared.attrs.Phases.{Phases}
-use Rattle.group_attr.specs.declared.attrs.Phases.TheVariants.{One, Many}
-use Rattle.group_attr.specs.declared.attrs.Batch.{Batch}
-use Rattle.group_attr.specs.declared.attrs.Batch.TheVariants.{Neither, Joins, Failures, Both}
 use Rattle.group_attr.specs.declared.attrs.DefaultVote.{DefaultVote}
 use Rattle.group_attr.specs.declared.attrs.DefaultVote.TheVariants as default_vote
 use Rattle.group_attr.specs.declared.attrs.AttrFault.{AttrFault}
@@ -31,6 +27,8 @@ use Rattle.session_state.specs.declared.fault.GsFault.{GsFault}
 use Rattle.session_state.specs.declared.fault.GsFault.TheVariants as fault
 use Rattle.client_callbacks.specs.declared.told.Why.{Why}
 use Rattle.client_callbacks.specs.declared.told.Why.TheVariants as why
+use Rattle.entry_words.specs.declared.attrs.AttrKey.{AttrKey}
+use Rattle.entry_words.specs.Words.{phases_value, batch_value, default_value, limit_value, every_key, attr_row}
 use Rattle.value_words.specs.Wording.{word, view_text, provider_text, proto_text, joined, providers_text, value_text}
 
 -- the word of a proposal's kind
@@ -48,40 +46,17 @@ unfoldable pub value_option_text : Option (List ℕ) → List ℕ
 value_option_text None = codes "-"
 value_option_text (Some bytes) = value_text bytes
 
--- the attributes that are not those of the empty state, each behind a space
+-- an attribute with this value behind a space; nothing without one
+abbrev pub attr_value_text : AttrKey → Option (List ℕ) → List ℕ
+attr_value_text k None = []
+attr_value_text k (Some v) = codes " " ++ (attr_row k).word ++ codes "=" ++ v
 
-unfoldable pub phases_text : Phases → List ℕ
-phases_text One = []
-phases_text Many = codes " phases=n"
-
-unfoldable pub batch_text : Batch → List ℕ
-batch_text Neither = []
-batch_text Joins = codes " batch=joins"
-batch_text Failures = codes " batch=failures"
-batch_text Both = codes " batch=both"
-
-unfoldable pub default_text : DefaultVote → List ℕ
-default_text default_vote.Approve = []
-default_text default_vote.Reject = codes " default=reject"
-
-unfoldable pub limit_text : ℕ → List ℕ
-limit_text n = if n == 0 then [] else codes " limit=" ++ decimal n
-
-unfoldable pub source_text : Option (List ℕ) → List ℕ
-source_text None = []
-source_text (Some g) = codes " source=" ++ g
-
-unfoldable pub source_phases_text : Phases → List ℕ
-source_phases_text One = []
-source_phases_text Many = codes " sphases=n"
-
-unfoldable pub source_limit_text : ℕ → List ℕ
-source_limit_text n = if n == 0 then [] else codes " slimit=" ++ decimal n
+-- an attribute, where it is not that of the empty state
+unfoldable pub attr_text : Attrs → AttrKey → List ℕ
+attr_text a k = attr_value_text k ((attr_row k).value a)
 
 unfoldable pub attrs_text : Attrs → List ℕ
-attrs_text a =
-    phases_text a.phases ++ batch_text a.batch ++ default_text a.default_vote ++ limit_text a.limit ++ source_text a.source
-    ++ source_phases_text a.source_phases ++ source_limit_text a.source_limit
+attrs_text a = flat_map (attr_text a) every_key
 
 unfoldable pub source_len_text : Option ℕ → List ℕ
 source_len_text None = []
@@ -192,7 +167,7 @@ fault_text (fault.SessionsFull n) = codes "SESSIONS_FULL " ++ decimal n
 fault_text fault.Spent = codes "SPENT"
 fault_text fault.NoMemory = codes "NO_MEMORY"
 
--- opens each word of this file, for a computation
+-- opens each word of this file and what those of attributes rest on, for a computation
 unfoldable pub entry_wording_opens : Unit {0}
-unfolding kind_text value_option_text phases_text batch_text default_text limit_text source_text source_phases_text source_limit_text attrs_text source_len_text cause_text failure_text asker_text proposal_text vote_text default_letter row_vote_text row_text phase_text closed_text entry_text what_text running_text why_text field_text attr_fault_text fault_text
+unfolding kind_text value_option_text phases_value batch_value default_value limit_value attr_row attr_text attrs_text source_len_text cause_text failure_text asker_text proposal_text vote_text default_letter row_vote_text row_text phase_text closed_text entry_text what_text running_text why_text field_text attr_fault_text fault_text
 entry_wording_opens = tt

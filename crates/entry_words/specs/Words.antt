@@ -1,6 +1,8 @@
 -- How the attributes of a group are read.
-use Rattle.std.specs.Prelude.{ℕ, true, false, ◌==◌, ◌-◌, List, [], ◌∷◌, Option, Some, None, codes}
-use Rattle.std.specs.List.{list_any}
+use Rattle.std.specs.Prelude.{ℕ, true, false, ◌==◌, List, [], ◌∷◌, Option, Some, None, codes, decimal, find, if◌then◌else◌}
+use Rattle.std.specs.List.{list_any, position_or_len}
+use Rattle.std.specs.Option.{option_map}
+use Rattle.std.specs.Str.{bytes_eq}
 use Rattle.group_attr.specs.declared.attrs.Attrs.{Attrs}
 use Rattle.group_attr.specs.declared.attrs.Phases.{Phases}
 use Rattle.group_attr.specs.declared.attrs.Phases.TheVariants as phases
@@ -9,7 +11,9 @@ use Rattle.group_attr.specs.declared.attrs.Batch.TheVariants as batch
 use Rattle.group_attr.specs.declared.attrs.DefaultVote.{DefaultVote}
 use Rattle.group_attr.specs.declared.attrs.DefaultVote.TheVariants as default_vote
 use Rattle.group_attr.specs.Attrs.{empty_attrs}
-use Rattle.value_words.specs.Words.{◌>>=◌, number_word, name_word, chosen}
+use Rattle.value_words.specs.Words.{number_word, name_word, chosen}
+use Rattle.entry_words.specs.declared.attrs.AttrKey.{AttrKey}
+use Rattle.entry_words.specs.declared.attrs.AttrKey.TheVariants as key
 
 unfoldable pub phases_word : List ℕ → Option Phases
 phases_word w = chosen (record { word = codes "1"; means = phases.One } ∷ record { word = codes "n"; means = phases.Many } ∷ []) w
@@ -21,60 +25,50 @@ batch_word w =
 unfoldable pub default_word : List ℕ → Option DefaultVote
 default_word w = chosen (record { word = codes "approve"; means = default_vote.Approve } ∷ record { word = codes "reject"; means = default_vote.Reject } ∷ []) w
 
--- an attribute that a word sets
-pub data AttrKey : Type 0 where
-  PhasesKey : AttrKey
-  BatchKey : AttrKey
-  DefaultKey : AttrKey
-  LimitKey : AttrKey
-  SourceKey : AttrKey
-  SourcePhasesKey : AttrKey
-  SourceLimitKey : AttrKey
+-- ---- the attributes, a row each
 
+abbrev pub every_key : List AttrKey
+every_key = key.Phases ∷ key.Batch ∷ key.Default ∷ key.Limit ∷ key.Source ∷ key.SourcePhases ∷ key.SourceLimit ∷ []
+
+-- the words of values; none for those of the empty state
+unfoldable pub phases_value : Phases → Option (List ℕ)
+phases_value phases.One = None
+phases_value phases.Many = Some (codes "n")
+
+unfoldable pub batch_value : Batch → Option (List ℕ)
+batch_value batch.Neither = None
+batch_value batch.Joins = Some (codes "joins")
+batch_value batch.Failures = Some (codes "failures")
+batch_value batch.Both = Some (codes "both")
+
+unfoldable pub default_value : DefaultVote → Option (List ℕ)
+default_value default_vote.Approve = None
+default_value default_vote.Reject = Some (codes "reject")
+
+unfoldable pub limit_value : ℕ → Option (List ℕ)
+limit_value n = if n == 0 then None else Some (decimal n)
+
+-- an attribute: the word before the `=`, what the word behind it sets, and that word of attributes
+pub record AttrRow : Type 0 where
+  pub word : List ℕ
+  pub set : Attrs → List ℕ → Option Attrs
+  pub value : Attrs → Option (List ℕ)
+
+unfoldable pub attr_row : AttrKey → AttrRow
+attr_row key.Phases = record { word = codes "phases"; set = λ a w. option_map (λ x. record a { phases = x }) (phases_word w); value = λ a. phases_value a.phases }
+attr_row key.Batch = record { word = codes "batch"; set = λ a w. option_map (λ x. record a { batch = x }) (batch_word w); value = λ a. batch_value a.batch }
+attr_row key.Default = record { word = codes "default"; set = λ a w. option_map (λ x. record a { default_vote = x }) (default_word w); value = λ a. default_value a.default_vote }
+attr_row key.Limit = record { word = codes "limit"; set = λ a w. option_map (λ x. record a { limit = x }) (number_word 0 65535 w); value = λ a. limit_value a.limit }
+attr_row key.Source = record { word = codes "source"; set = λ a w. option_map (λ x. record a { source = Some x }) (name_word 32 w); value = λ a. a.source }
+attr_row key.SourcePhases = record { word = codes "sphases"; set = λ a w. option_map (λ x. record a { source_phases = x }) (phases_word w); value = λ a. phases_value a.source_phases }
+attr_row key.SourceLimit = record { word = codes "slimit"; set = λ a w. option_map (λ x. record a { source_limit = x }) (number_word 0 65535 w); value = λ a. limit_value a.source_limit }
+
+-- the place of an attribute among them all
 unfoldable pub key_number : AttrKey → ℕ
-key_number PhasesKey = 0
-key_number BatchKey = 1
-key_number DefaultKey = 2
-key_number LimitKey = 3
-key_number SourceKey = 4
-key_number SourcePhasesKey = 5
-key_number SourceLimitKey = 6
+key_number k = position_or_len (λ j. bytes_eq (attr_row j).word (attr_row k).word) every_key
 
 unfoldable pub key_word : List ℕ → Option AttrKey
-key_word w =
-    chosen
-    (record { word = codes "phases"; means = PhasesKey }
-    ∷ record { word = codes "batch"; means = BatchKey }
-    ∷ record { word = codes "default"; means = DefaultKey }
-    ∷ record { word = codes "limit"; means = LimitKey }
-    ∷ record { word = codes "source"; means = SourceKey }
-    ∷ record { word = codes "sphases"; means = SourcePhasesKey }
-    ∷ record { word = codes "slimit"; means = SourceLimitKey }
-    ∷ [])
-    w
-
-unfoldable pub attr_set : Attrs → AttrKey → List ℕ → Option Attrs
-attr_set a PhasesKey w = do
-  x ← phases_word w
-  Some (record a { phases = x })
-attr_set a BatchKey w = do
-  x ← batch_word w
-  Some (record a { batch = x })
-attr_set a DefaultKey w = do
-  x ← default_word w
-  Some (record a { default_vote = x })
-attr_set a LimitKey w = do
-  x ← number_word 0 65535 w
-  Some (record a { limit = x })
-attr_set a SourceKey w = do
-  x ← name_word 32 w
-  Some (record a { source = Some x })
-attr_set a SourcePhasesKey w = do
-  x ← phases_word w
-  Some (record a { source_phases = x })
-attr_set a SourceLimitKey w = do
-  x ← number_word 0 65535 w
-  Some (record a { source_limit = x })
+key_word w = find (λ k. bytes_eq (attr_row k).word w) every_key
 
 -- the bytes before the first `=`, and those after it
 unfoldable pub before_equals : List ℕ → List ℕ
@@ -95,7 +89,7 @@ attrs_from seen a (w ∷ ws) =
         | None ↦ None
         | Some v ↦ elim (list_any (λ n. n == key_number k) seen) [
           | true ↦ None
-          | false ↦ elim (attr_set a k v) [ None ↦ None | Some b ↦ attrs_from (key_number k ∷ seen) b ws ]
+          | false ↦ elim ((attr_row k).set a v) [ None ↦ None | Some b ↦ attrs_from (key_number k ∷ seen) b ws ]
         ]
       ]
     ]
@@ -105,5 +99,5 @@ attr_words ws = attrs_from [] empty_attrs ws
 
 -- opens each word of this file, for a computation
 unfoldable pub attr_words_open : Unit {0}
-unfolding phases_word batch_word default_word key_number key_word attr_set before_equals after_equals attrs_from attr_words
+unfolding phases_word batch_word default_word phases_value batch_value default_value limit_value attr_row key_number key_word before_equals after_equals attrs_from attr_words
 attr_words_open = tt

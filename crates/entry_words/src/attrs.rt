@@ -1,114 +1,58 @@
 //! The attributes of a group: written, and read word by word.
-ghost use Rattle.std.specs.Prelude.{◌≡◌, ◌==◌, ◌++◌, IfErr, OnOk, Some};
+ghost use Rattle.std.specs.Prelude.{◌≡◌, ◌==◌, ◌++◌, IfErr, OnOk, codes};
 ghost use Rattle.std.specs.Option.{option_map};
 ghost use Rattle.std.specs.List.{list_any};
-ghost use Rattle.entry_words.specs.Words.{key_number, key_word, attr_set, before_equals, after_equals, attr_words};
+ghost use Rattle.entry_words.specs.Words.{phases_value, batch_value, default_value, limit_value, attr_row, key_number, key_word, before_equals, after_equals, attr_words};
 ghost use Rattle.value_words.specs.Answers.{FailsWord, GivesWord};
-ghost use Rattle.entry_words.specs.Attrs.{key_seen, new_key, attr_step};
-ghost use Rattle.entry_words.specs.Wording.{phases_text, batch_text, default_text, limit_text, source_text, source_phases_text, source_limit_text, attrs_text};
+ghost use Rattle.entry_words.specs.Attrs.{new_key, attr_step};
+ghost use Rattle.entry_words.specs.Wording.{attr_value_text, attr_text, attrs_text};
 
 use crate::choices::{batch_word, default_word, phases_word};
 use group_attr::{Attrs, Batch, DefaultVote, Phases};
-use rsct_packet::{List, Name, NoMemory};
+use rsct_packet::{List, NoMemory};
 use std::alloc::Global;
 use value_words::{
     WordFault, Words, is_word, place_of, put_number, put_text, short_word, source_word,
 };
 
-#[tactic(auto, unfolding(crate::specs::Wording::phases_text))]
-fn phases_text(phases: Phases) -> &'static [u8]
-    ensures { result.now ≡ phases_text phases }
+/// The word of the value, none where it is that of the empty state; and likewise below.
+#[tactic(auto, unfolding(crate::specs::Words::phases_value))]
+fn phases_value(phases: Phases) -> Option<&'static [u8]>
+    ensures { option_map (λ x. x.now) result ≡ phases_value phases }
 {
     match phases {
-        Phases::One => b"",
-        Phases::Many => b" phases=n",
+        Phases::One => None,
+        Phases::Many => Some(b"n"),
     }
 }
 
-#[tactic(auto, unfolding(crate::specs::Wording::batch_text))]
-fn batch_text(batch: Batch) -> &'static [u8]
-    ensures { result.now ≡ batch_text batch }
+#[tactic(auto, unfolding(crate::specs::Words::batch_value))]
+fn batch_value(batch: Batch) -> Option<&'static [u8]>
+    ensures { option_map (λ x. x.now) result ≡ batch_value batch }
 {
     match batch {
-        Batch::Neither => b"",
-        Batch::Joins => b" batch=joins",
-        Batch::Failures => b" batch=failures",
-        Batch::Both => b" batch=both",
+        Batch::Neither => None,
+        Batch::Joins => Some(b"joins"),
+        Batch::Failures => Some(b"failures"),
+        Batch::Both => Some(b"both"),
     }
 }
 
-#[tactic(auto, unfolding(crate::specs::Wording::default_text))]
-fn default_text(vote: DefaultVote) -> &'static [u8]
-    ensures { result.now ≡ default_text vote }
+#[tactic(auto, unfolding(crate::specs::Words::default_value))]
+fn default_value(vote: DefaultVote) -> Option<&'static [u8]>
+    ensures { option_map (λ x. x.now) result ≡ default_value vote }
 {
     match vote {
-        DefaultVote::Approve => b"",
-        DefaultVote::Reject => b" default=reject",
+        DefaultVote::Approve => None,
+        DefaultVote::Reject => Some(b"reject"),
     }
 }
 
-#[tactic(auto, unfolding(crate::specs::Wording::limit_text))]
-fn put_limit(out: &mut Vec<u8>, limit: u16) -> Result<(), NoMemory>
-    ensures { OnOk result (out.new.items ≡ out.old.items ++ limit_text limit) }
-{
-    if limit == 0 {
-        return Ok(());
-    }
-    put_text(out, b" limit=")?;
-    put_number(out, u32::from(limit))
-}
-
-#[tactic(auto, unfolding(crate::specs::Wording::source_text))]
-fn put_source(out: &mut Vec<u8>, source: &Option<Name>) -> Result<(), NoMemory>
-    ensures { OnOk result (out.new.items ≡ out.old.items ++ source_text source.now) }
-{
-    match source {
-        None => Ok(()),
-        Some(group) => {
-            put_text(out, b" source=")?;
-            put_text(out, group.bytes())
-        }
-    }
-}
-
-#[tactic(auto, unfolding(crate::specs::Wording::source_phases_text))]
-fn source_phases_text(phases: Phases) -> &'static [u8]
-    ensures { result.now ≡ source_phases_text phases }
-{
-    match phases {
-        Phases::One => b"",
-        Phases::Many => b" sphases=n",
-    }
-}
-
-#[tactic(auto, unfolding(crate::specs::Wording::source_limit_text))]
-fn put_source_limit(out: &mut Vec<u8>, limit: u16) -> Result<(), NoMemory>
-    ensures { OnOk result (out.new.items ≡ out.old.items ++ source_limit_text limit) }
-{
-    if limit == 0 {
-        return Ok(());
-    }
-    put_text(out, b" slimit=")?;
-    put_number(out, u32::from(limit))
-}
-
-/// The attributes that are not those of the empty state, each behind a space.
-#[tactic(auto, unfolding(crate::specs::Wording::attrs_text))]
-pub fn put_attrs(out: &mut Vec<u8>, attrs: &Attrs) -> Result<(), NoMemory>
-    ensures { OnOk result (out.new.items ≡ out.old.items ++ attrs_text attrs.now) }
-{
-    put_text(out, phases_text(attrs.phases))?;
-    put_text(out, batch_text(attrs.batch))?;
-    put_text(out, default_text(attrs.default_vote))?;
-    put_limit(out, attrs.limit)?;
-    put_source(out, &attrs.source)?;
-    put_text(out, source_phases_text(attrs.source_phases))?;
-    put_source_limit(out, attrs.source_limit)
-}
-
-/// An attribute that a word sets.
+/// An attribute that a word sets. A new one is a line here, one in `ALL`, one in `word`, one in `set` and one in
+/// `put`.
+// Public, though no code outside this file has it: a law of `word_laws` goes through its rows.
 #[derive(Clone, Copy)]
-enum AttrKey {
+pub enum AttrKey {
     Phases,
     Batch,
     Default,
@@ -118,47 +62,141 @@ enum AttrKey {
     SourceLimit,
 }
 
-#[tactic(auto, unfolding(crate::specs::Words::key_number))]
-fn key_number(key: AttrKey) -> u8
-    ensures { result ≡ key_number (key_seen key) }
-{
-    match key {
-        AttrKey::Phases => 0,
-        AttrKey::Batch => 1,
-        AttrKey::Default => 2,
-        AttrKey::Limit => 3,
-        AttrKey::Source => 4,
-        AttrKey::SourcePhases => 5,
-        AttrKey::SourceLimit => 6,
+impl AttrKey {
+    /// Every attribute, in the order in which they are written.
+    const ALL: [AttrKey; 7] = [
+        AttrKey::Phases,
+        AttrKey::Batch,
+        AttrKey::Default,
+        AttrKey::Limit,
+        AttrKey::Source,
+        AttrKey::SourcePhases,
+        AttrKey::SourceLimit,
+    ];
+
+    /// The word before the `=`.
+    #[tactic(auto, unfolding(crate::specs::Words::attr_row))]
+    fn word(self) -> &'static [u8]
+        ensures { result.now ≡ (attr_row self).word }
+    {
+        match self {
+            AttrKey::Phases => b"phases",
+            AttrKey::Batch => b"batch",
+            AttrKey::Default => b"default",
+            AttrKey::Limit => b"limit",
+            AttrKey::Source => b"source",
+            AttrKey::SourcePhases => b"sphases",
+            AttrKey::SourceLimit => b"slimit",
+        }
+    }
+
+    /// The attribute of this word; none where no attribute has it.
+    #[tactic(auto, unfolding(crate::specs::Words::key_word))]
+    fn of_word(word: &[u8]) -> Option<AttrKey>
+        ensures { result ≡ key_word word.now }
+    {
+        AttrKey::ALL
+            .iter()
+            .copied()
+            .find(|key| is_word(key.word(), word))
+    }
+
+    /// Its place among them all.
+    fn number(self) -> u8
+        ensures { result ≡ key_number self }
+    {
+        self as u8
+    }
+
+    /// Sets the attribute as the word says.
+    #[tactic(auto, unfolding(crate::specs::Words::attr_row))]
+    fn set(self, alloc: Global, attrs: &mut Attrs, word: &[u8]) -> Result<(), WordFault>
+        ensures set { OnOk result ((attr_row self).set attrs.old word.now ≡ Some attrs.new) }
+        ensures refused { IfErr result (λ e. FailsWord e ((attr_row self).set attrs.old word.now)) }
+    {
+        match self {
+            AttrKey::Phases => attrs.phases = phases_word(word).ok_or(WordFault::BadWord)?,
+            AttrKey::Batch => attrs.batch = batch_word(word).ok_or(WordFault::BadWord)?,
+            AttrKey::Default => {
+                attrs.default_vote = default_word(word).ok_or(WordFault::BadWord)?;
+            }
+            AttrKey::Limit => {
+                attrs.limit = short_word(0, u16::MAX, word).ok_or(WordFault::BadWord)?;
+            }
+            AttrKey::Source => attrs.source = Some(source_word(alloc, word)?),
+            AttrKey::SourcePhases => {
+                attrs.source_phases = phases_word(word).ok_or(WordFault::BadWord)?;
+            }
+            AttrKey::SourceLimit => {
+                attrs.source_limit = short_word(0, u16::MAX, word).ok_or(WordFault::BadWord)?;
+            }
+        }
+        Ok(())
+    }
+
+    /// A space, its word and `=`.
+    fn put_word(self, out: &mut Vec<u8>) -> Result<(), NoMemory>
+        ensures { OnOk result (out.new.items ≡ out.old.items
+            ++ (codes " " ++ (attr_row self).word ++ codes "=")) }
+    {
+        put_text(out, b" ")?;
+        put_text(out, self.word())?;
+        put_text(out, b"=")
+    }
+
+    /// The attribute with this value; nothing without one.
+    fn put_value(self, out: &mut Vec<u8>, value: Option<&[u8]>) -> Result<(), NoMemory>
+        ensures { OnOk result (out.new.items ≡ out.old.items
+            ++ attr_value_text self (option_map (λ x. x.now) value.entry)) }
+    {
+        match value {
+            None => Ok(()),
+            Some(value) => {
+                self.put_word(out)?;
+                put_text(out, value)
+            }
+        }
+    }
+
+    /// The attribute with this limit; nothing where it is 0.
+    #[tactic(auto, unfolding(crate::specs::Words::limit_value))]
+    fn put_limit(self, out: &mut Vec<u8>, limit: u16) -> Result<(), NoMemory>
+        ensures { OnOk result (out.new.items ≡ out.old.items
+            ++ attr_value_text self (limit_value limit)) }
+    {
+        if limit == 0 {
+            return Ok(());
+        }
+        self.put_word(out)?;
+        put_number(out, u32::from(limit))
+    }
+
+    /// The attribute behind a space, where it is not that of the empty state.
+    #[tactic(auto, unfolding(crate::specs::Wording::attr_text, crate::specs::Words::attr_row))]
+    fn put(self, out: &mut Vec<u8>, attrs: &Attrs) -> Result<(), NoMemory>
+        ensures { OnOk result (out.new.items ≡ out.old.items ++ attr_text attrs.now self) }
+    {
+        match self {
+            AttrKey::Phases => self.put_value(out, phases_value(attrs.phases)),
+            AttrKey::Batch => self.put_value(out, batch_value(attrs.batch)),
+            AttrKey::Default => self.put_value(out, default_value(attrs.default_vote)),
+            AttrKey::Limit => self.put_limit(out, attrs.limit),
+            AttrKey::Source => self.put_value(out, attrs.source.as_ref().map(|name| name.bytes())),
+            AttrKey::SourcePhases => self.put_value(out, phases_value(attrs.source_phases)),
+            AttrKey::SourceLimit => self.put_limit(out, attrs.source_limit),
+        }
     }
 }
 
-#[tactic(auto, unfolding(crate::specs::Words::key_word, value_words::specs::Words::chosen))]
-fn key_word(word: &[u8]) -> Option<AttrKey>
-    ensures { option_map key_seen result ≡ key_word word.now }
+/// The attributes that are not those of the empty state, each behind a space.
+#[tactic(auto, unfolding(crate::specs::Wording::attrs_text), using(crate::proofs::AttrLaws::none_written, crate::proofs::AttrLaws::all_written))]
+pub fn put_attrs(out: &mut Vec<u8>, attrs: &Attrs) -> Result<(), NoMemory>
+    ensures { OnOk result (out.new.items ≡ out.old.items ++ attrs_text attrs.now) }
 {
-    if is_word(b"phases", word) {
-        return Some(AttrKey::Phases);
+    for key in AttrKey::ALL.iter() {
+        key.put(out, attrs)?;
     }
-    if is_word(b"batch", word) {
-        return Some(AttrKey::Batch);
-    }
-    if is_word(b"default", word) {
-        return Some(AttrKey::Default);
-    }
-    if is_word(b"limit", word) {
-        return Some(AttrKey::Limit);
-    }
-    if is_word(b"source", word) {
-        return Some(AttrKey::Source);
-    }
-    if is_word(b"sphases", word) {
-        return Some(AttrKey::SourcePhases);
-    }
-    if is_word(b"slimit", word) {
-        return Some(AttrKey::SourceLimit);
-    }
-    None
+    Ok(())
 }
 
 /// What stands before the first `=`.
@@ -181,26 +219,6 @@ fn after_equals(word: &[u8]) -> Option<&[u8]>
     Some(&word[i + 1..])
 }
 
-/// Sets the attribute as the word says.
-#[tactic(auto, unfolding(crate::specs::Words::attr_set, value_words::specs::Answers::bind_opens))]
-fn set_attr(alloc: Global, attrs: &mut Attrs, key: AttrKey, word: &[u8]) -> Result<(), WordFault>
-    ensures set { OnOk result (attr_set attrs.old (key_seen key) word.now ≡ Some attrs.new) }
-    ensures refused { IfErr result (λ e. FailsWord e (attr_set attrs.old (key_seen key) word.now)) }
-{
-    match key {
-        AttrKey::Phases => attrs.phases = phases_word(word).ok_or(WordFault::BadWord)?,
-        AttrKey::Batch => attrs.batch = batch_word(word).ok_or(WordFault::BadWord)?,
-        AttrKey::Default => attrs.default_vote = default_word(word).ok_or(WordFault::BadWord)?,
-        AttrKey::Limit => attrs.limit = short_word(0, u16::MAX, word).ok_or(WordFault::BadWord)?,
-        AttrKey::Source => attrs.source = Some(source_word(alloc, word)?),
-        AttrKey::SourcePhases => attrs.source_phases = phases_word(word).ok_or(WordFault::BadWord)?,
-        AttrKey::SourceLimit => {
-            attrs.source_limit = short_word(0, u16::MAX, word).ok_or(WordFault::BadWord)?;
-        }
-    }
-    Ok(())
-}
-
 /// The attributes that words set, and the numbers of those that are given.
 #[derive(Drop)]
 pub struct AttrsRead {
@@ -215,17 +233,17 @@ fn has_number(seen: &[u8], number: u8) -> bool
 }
 
 fn is_seen(seen: &[u8], key: AttrKey) -> bool
-    ensures { result ≡ list_any (λ n. n == key_number (key_seen key)) seen.now }
+    ensures { result ≡ list_any (λ n. n == key_number key) seen.now }
 {
-    has_number(seen, key_number(key))
+    has_number(seen, key.number())
 }
 
 /// What the word sets, where it is not set yet.
 #[tactic(auto, unfolding(crate::specs::Attrs::new_key, value_words::specs::Answers::bind_opens))]
 fn new_key(seen: &[u8], word: &[u8]) -> Option<AttrKey>
-    ensures { option_map key_seen result ≡ new_key seen.now word.now }
+    ensures { result ≡ new_key seen.now word.now }
 {
-    let key = key_word(before_equals(word))?;
+    let key = AttrKey::of_word(before_equals(word))?;
     if is_seen(seen, key) { None } else { Some(key) }
 }
 
@@ -237,8 +255,8 @@ fn take_word(alloc: Global, read: &mut AttrsRead, word: &[u8]) -> Result<(), Wor
 {
     let key = new_key(read.seen.as_slice(), word).ok_or(WordFault::BadWord)?;
     let value = after_equals(word).ok_or(WordFault::BadWord)?;
-    set_attr(alloc, &mut read.attrs, key, value)?;
-    read.seen.push(key_number(key))?;
+    key.set(alloc, &mut read.attrs, value)?;
+    read.seen.push(key.number())?;
     Ok(())
 }
 

@@ -1,18 +1,14 @@
 -- The words of what is written: those between its spaces.
-use Rattle.std.specs.Prelude.{ℕ, ◌==◌, ◌++◌, List, [], ◌∷◌, Option, Some, None, codes, decimal, if◌then◌else◌}
+use Rattle.std.specs.Prelude.{ℕ, ◌++◌, List, [], ◌∷◌, flat_map, Option, Some, None, codes, decimal}
 use Rattle.group_attr.specs.declared.attrs.Attrs.{Attrs}
-use Rattle.group_attr.specs.declared.attrs.Phases.{Phases}
-use Rattle.group_attr.specs.declared.attrs.Phases.TheVariants.{One, Many}
-use Rattle.group_attr.specs.declared.attrs.Batch.{Batch}
-use Rattle.group_attr.specs.declared.attrs.Batch.TheVariants.{Neither, Joins, Failures, Both}
-use Rattle.group_attr.specs.declared.attrs.DefaultVote.{DefaultVote}
-use Rattle.group_attr.specs.declared.attrs.DefaultVote.TheVariants as default_vote
 use Rattle.proposal_core.specs.declared.proposal.Proposal.{Proposal}
 use Rattle.proposal_core.specs.declared.proposal.Proposal.TheVariants as proposal
 use Rattle.proposal_core.specs.declared.entry.Closed.{Closed}
 use Rattle.proposal_core.specs.declared.entry.Entry.{Entry}
 use Rattle.proposal_core.specs.declared.entry.Entry.TheVariants as entry
 use Rattle.value_words.specs.Wording.{proto_text, joined, providers_text, value_text}
+use Rattle.entry_words.specs.declared.attrs.AttrKey.{AttrKey}
+use Rattle.entry_words.specs.Words.{every_key, attr_row}
 use Rattle.entry_words.specs.Wording.{kind_text, value_option_text, failure_text, asker_text, row_text}
 
 -- words, each behind a space
@@ -20,37 +16,17 @@ unfoldable pub behind : List (List ℕ) → List ℕ
 behind [] = []
 behind (w ∷ ws) = 32 ∷ w ++ behind ws
 
-unfoldable pub phases_words : List ℕ → Phases → List (List ℕ)
-phases_words key One = []
-phases_words key Many = (key ++ codes "=n") ∷ []
+-- the word of an attribute with this value; none without one
+abbrev pub attr_value_words : AttrKey → Option (List ℕ) → List (List ℕ)
+attr_value_words k None = []
+attr_value_words k (Some v) = ((attr_row k).word ++ 61 ∷ v) ∷ []
 
-unfoldable pub batch_words : Batch → List (List ℕ)
-batch_words Neither = []
-batch_words Joins = codes "batch=joins" ∷ []
-batch_words Failures = codes "batch=failures" ∷ []
-batch_words Both = codes "batch=both" ∷ []
+-- that of an attribute, where it is not that of the empty state
+unfoldable pub attr_spelled : Attrs → AttrKey → List (List ℕ)
+attr_spelled a k = attr_value_words k ((attr_row k).value a)
 
-unfoldable pub default_words : DefaultVote → List (List ℕ)
-default_words default_vote.Approve = []
-default_words default_vote.Reject = codes "default=reject" ∷ []
-
-unfoldable pub limit_words : List ℕ → ℕ → List (List ℕ)
-limit_words key n = if n == 0 then [] else (key ++ 61 ∷ decimal n) ∷ []
-
-unfoldable pub source_words : Option (List ℕ) → List (List ℕ)
-source_words None = []
-source_words (Some g) = (codes "source=" ++ g) ∷ []
-
--- those of the attributes that are not those of the empty state
 unfoldable pub attrs_words : Attrs → List (List ℕ)
-attrs_words a =
-    phases_words (codes "phases") a.phases
-    ++ (batch_words a.batch
-    ++ (default_words a.default_vote
-    ++ (limit_words (codes "limit") a.limit
-    ++ (source_words a.source
-    ++ (phases_words (codes "sphases") a.source_phases
-    ++ limit_words (codes "slimit") a.source_limit)))))
+attrs_words a = flat_map (attr_spelled a) every_key
 
 unfoldable pub source_len_words : Option ℕ → List (List ℕ)
 source_len_words None = []

@@ -3,4 +3,4 @@ use Rattle.std.specs.List.{list_any}
 use Rattle.entry_words.proofs.attrs.is_seen.Goals as goal
 
 pub returns : goal.returns
-returns c = c.has_number.ensures ∙ ap (λ k. list_any (λ n. n == k) c.args.seen.now) c.key_number.ensures
+returns c = c.has_number.ensures ∙ ap (λ k. list_any (λ n. n == k) c.args.seen.now) c.number.ensures
