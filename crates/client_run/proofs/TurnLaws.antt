@@ -13,11 +13,14 @@ use Rattle.hags_io.proofs.FrontLaws.{went_nothing, went_on, went_as, none_went, 
 use Rattle.daemon_model.specs.Daemon.{joined_by, network_of}
 use Rattle.link_use.specs.declared.receiving.Receiving.{Receiving}
 use Rattle.link_use.specs.Receiving.{IsReceive, Receives, ReceivesFront}
+use Rattle.link_use.specs.declared.stop.Stop.{Stop}
+use Rattle.link_use.specs.declared.stop.Stop.TheVariants as stop
+use Rattle.link_use.specs.Stops.{StopsBy}
 use Rattle.remote_session.specs.declared.far.DownSeen.{DownSeen}
 use Rattle.remote_session.specs.Client.{FarState, may_call, far_called, far_seen, far_taken}
 use Rattle.client_run.specs.declared.client.Client.{Client}
 use Rattle.client_run.specs.Turns.{made_with, call_made, up_piece, up_call, up_sent, written_of, after_seen, text_in, heard_in, seen_in, joined, text_by, heard_by, seen_by, begun, turned, turn_deeds, turn_seen}
-use Rattle.client_run.specs.Running.{IsCall, Stays, Hears, Ends, ReceivesAs, ReceiveEnds, ReceiveFront, TurnsAs, TurnEnds, TurnFront}
+use Rattle.client_run.specs.Running.{IsCall, Stays, EndsTurn, Hears, Ends, ReceivesAs, ReceiveEnds, ReceiveFront, TurnsAs, TurnEnds, TurnFront}
 
 -- ---- texts
 
@@ -172,6 +175,15 @@ pub front_none : (r : Client) (t u : Telling) → ReceivesFront t u → ReceiveF
 front_none r t u h = record { got = h.got; receive = h.receive; front = went_front_more t u (Exchanged h.got ∷ []) (written (text_by h.got r)) h.front }
 
 -- ---- a turn
+
+-- what stops a step ends its turn
+pub step_ends : (t : Telling) (e : Stop) → StopsBy t e → EndsTurn t e
+step_ends t stop.NoMemory h = h
+step_ends t stop.WriteFault h = h
+step_ends t stop.LinkFault h = h
+step_ends t stop.NoReply h = h
+step_ends t stop.SessionLost h = absurd h
+step_ends t stop.DaemonFull h = absurd h
 
 -- how it stands before its receive
 stands : (lines : List (List ℕ)) (r q p : Client) → q ≡ call_made lines r → p ≡ up_sent q → p ≡ begun lines r

@@ -9,10 +9,10 @@ use Rattle.remote_session.specs.declared.far.DownSeen.TheVariants as seen
 use Rattle.remote_session.specs.Messages.{max_line}
 use Rattle.daemon_model.specs.Lives.{most_failed}
 use Rattle.link_use.specs.Receiving.{IsReceive}
+use Rattle.link_use.specs.declared.stop.Stop.{Stop}
+use Rattle.link_use.specs.declared.stop.Stop.TheVariants as stop
 use Rattle.link_use.specs.Stops.{StopsBy}
 use Rattle.client_run.specs.declared.client.Client.{Client}
-use Rattle.client_run.specs.declared.client.ClientFault.{ClientFault}
-use Rattle.client_run.specs.declared.client.ClientFault.TheVariants as fault
 use Rattle.client_run.specs.Turns.{text_in, heard_in, seen_in, text_by, heard_by, seen_by, turned, turn_deeds, turn_seen, turned_all, all_deeds}
 
 -- a line that can be a call
@@ -34,11 +34,13 @@ IsFull seen.Full = Unit {0}
 IsFull _ = ⊥
 
 -- how a turn ends a client: a step over the outside stopped, or the session is over
-abbrev pub EndsTurn : Telling → ClientFault → Type 0
-EndsTurn t (fault.Stop stop) = StopsBy t stop
-EndsTurn t fault.NoReply = ⊥
-EndsTurn t fault.Lost = Unit {0}
-EndsTurn t fault.Full = Unit {0}
+abbrev pub EndsTurn : Telling → Stop → Type 0
+EndsTurn t stop.NoMemory = StopsBy t stop.NoMemory
+EndsTurn t stop.WriteFault = StopsBy t stop.WriteFault
+EndsTurn t stop.LinkFault = StopsBy t stop.LinkFault
+EndsTurn t stop.NoReply = ⊥
+EndsTurn t stop.SessionLost = Unit {0}
+EndsTurn t stop.DaemonFull = Unit {0}
 
 -- ---- a message
 

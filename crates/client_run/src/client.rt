@@ -7,8 +7,6 @@ ghost use Rattle.link_use.specs.Stops.{StopsBy};
 ghost use Rattle.rsct_packet.specs.Format.{EachFits};
 ghost use Rattle.client_run.specs.Turns.{call_made, up_piece, up_call, up_sent, told_text, told_with, text_in};
 ghost use Rattle.client_run.specs.Running.{IsCall, IsLost, IsFull, EndsTurn, Hears, Ends, ReceivesAs, ReceiveEnds, ReceiveFront, TurnsAs, TurnEnds, TurnFront, Answered, Unanswered, Ended, Failing, Front};
-ghost use Rattle.client_run.specs.declared.client.ClientFault.TheVariants as fault;
-ghost use Rattle.link_use.specs.declared.stop.Stop.TheVariants as stop;
 
 use crate::text::{put_answer, put_events};
 use hags_io::{Outside, Put};
@@ -17,32 +15,6 @@ use piece_link::{PieceHead, put_piece};
 use remote_session::{DownSeen, Far};
 use rsct_packet::{List, NoMemory, risen};
 use std::alloc::Global;
-
-/// Why a client ends before its turns are done and its calls are answered: its work over the outside stopped, a call had
-/// no answer after the last turn, the daemon was started anew, or it keeps no more keys.
-#[derive(Clone, Copy, Debug, PartialEq, Eq)]
-pub enum ClientFault {
-    Stop(Stop),
-    NoReply,
-    Lost,
-    Full,
-}
-
-impl From<NoMemory> for ClientFault {
-    ghost from_gives = { λ _ e. e ≡ fault.Stop stop.NoMemory };
-
-    fn from(_e: NoMemory) -> ClientFault {
-        ClientFault::Stop(Stop::NoMemory)
-    }
-}
-
-impl From<Stop> for ClientFault {
-    ghost from_gives = { λ s e. e ≡ fault.Stop s };
-
-    fn from(stop: Stop) -> ClientFault {
-        ClientFault::Stop(stop)
-    }
-}
 
 /// A client that runs: the node of its daemon (1 to 32) and the network (1 to 4) by which it reaches that; its end of
 /// the session; what it receives; the number of the next message that it sends; how many calls it made, how many of them
@@ -159,18 +131,18 @@ impl Client {
     }
 
     /// A whole message, which may be a Down.
-    #[tactic(auto, using(crate::proofs::TurnLaws::hears_as, crate::proofs::TurnLaws::ends_as, crate::proofs::TurnLaws::front_as, hags_io::proofs::FrontLaws::went_nothing, hags_io::proofs::FrontLaws::none_went))]
+    #[tactic(auto, using(crate::proofs::TurnLaws::hears_as, crate::proofs::TurnLaws::ends_as, crate::proofs::TurnLaws::front_as, crate::proofs::TurnLaws::step_ends, hags_io::proofs::FrontLaws::went_nothing, hags_io::proofs::FrontLaws::none_went))]
     fn hear<O: Outside>(
         &mut self,
         alloc: Global,
         message: &[u8],
         outside: &mut O,
-    ) -> Result<(), ClientFault>
+    ) -> Result<(), Stop>
         ensures done { OnOk result (Hears self.old self.new message.now
             (O.told outside.old) (O.told outside.new)) }
-        ensures lost { result ≡ Err ClientFault.Lost → Ends IsLost self.old message.now
+        ensures lost { result ≡ Err Stop.SessionLost → Ends IsLost self.old message.now
             (O.told outside.old) (O.told outside.new) }
-        ensures full { result ≡ Err ClientFault.Full → Ends IsFull self.old message.now
+        ensures full { result ≡ Err Stop.DaemonFull → Ends IsFull self.old message.now
             (O.told outside.old) (O.told outside.new) }
         ensures front { OnErr result (WentFront (O.told outside.old) (O.told outside.new)
             (written (text_in self.old (Some message.now)))) }
@@ -181,8 +153,8 @@ impl Client {
             DownSeen::NoMessage => {}
             DownSeen::Nothing => self.tell(alloc, None, outside)?,
             DownSeen::Answer(taken) => self.tell(alloc, Some(taken), outside)?,
-            DownSeen::Lost(_, _) => return Err(ClientFault::Lost),
-            DownSeen::Full => return Err(ClientFault::Full),
+            DownSeen::Lost(_, _) => return Err(Stop::SessionLost),
+            DownSeen::Full => return Err(Stop::DaemonFull),
         }
         Ok(())
     }
@@ -194,13 +166,13 @@ impl Client {
         alloc: Global,
         buf: &mut [u8],
         outside: &mut O,
-    ) -> Result<(), ClientFault>
+    ) -> Result<(), Stop>
         requires { 65536 ≤ length buf.old }
         ensures done { OnOk result (ReceivesAs self.old self.new (O.told outside.old)
             (O.told outside.new)) }
-        ensures lost { result ≡ Err ClientFault.Lost → ReceiveEnds IsLost self.old
+        ensures lost { result ≡ Err Stop.SessionLost → ReceiveEnds IsLost self.old
             (O.told outside.old) (O.told outside.new) }
-        ensures full { result ≡ Err ClientFault.Full → ReceiveEnds IsFull self.old
+        ensures full { result ≡ Err Stop.DaemonFull → ReceiveEnds IsFull self.old
             (O.told outside.old) (O.told outside.new) }
         ensures broke { OnErr result (ReceiveFront self.old (O.told outside.old)
             (O.told outside.new)) }
@@ -223,14 +195,14 @@ impl Client {
         lines: &List<List<u8>>,
         buf: &mut [u8],
         outside: &mut O,
-    ) -> Result<(), ClientFault>
+    ) -> Result<(), Stop>
         requires calls { EachFits IsCall lines.now }
         requires room { 65536 ≤ length buf.old }
         ensures done { OnOk result (TurnsAs lines.now self.old self.new (O.told outside.old)
             (O.told outside.new)) }
-        ensures lost { result ≡ Err ClientFault.Lost → TurnEnds IsLost lines.now self.old
+        ensures lost { result ≡ Err Stop.SessionLost → TurnEnds IsLost lines.now self.old
             (O.told outside.old) (O.told outside.new) }
-        ensures full { result ≡ Err ClientFault.Full → TurnEnds IsFull lines.now self.old
+        ensures full { result ≡ Err Stop.DaemonFull → TurnEnds IsFull lines.now self.old
             (O.told outside.old) (O.told outside.new) }
         ensures broke { OnErr result (TurnFront lines.now self.old (O.told outside.old)
             (O.told outside.new)) }
@@ -253,34 +225,34 @@ impl Client {
         lines: &List<List<u8>>,
         buf: &mut [u8],
         outside: &mut O,
-    ) -> Result<(), ClientFault>
+    ) -> Result<(), Stop>
         requires calls { EachFits IsCall lines.now }
         requires room { 65536 ≤ length buf.old }
         ensures answered { OnOk result (Answered lines.now self.old turns (O.told outside.old)
             (O.told outside.new)) }
-        ensures unanswered { result ≡ Err ClientFault.NoReply → Unanswered lines.now self.old
+        ensures unanswered { result ≡ Err Stop.NoReply → Unanswered lines.now self.old
             turns (O.told outside.old) (O.told outside.new) }
-        ensures lost { result ≡ Err ClientFault.Lost → Ended IsLost lines.now self.old turns
+        ensures lost { result ≡ Err Stop.SessionLost → Ended IsLost lines.now self.old turns
             (O.told outside.old) (O.told outside.new) }
-        ensures full { result ≡ Err ClientFault.Full → Ended IsFull lines.now self.old turns
+        ensures full { result ≡ Err Stop.DaemonFull → Ended IsFull lines.now self.old turns
             (O.told outside.old) (O.told outside.new) }
-        ensures failing { result ≡ Err (ClientFault.Stop Stop.LinkFault) → Failing lines.now
+        ensures failing { result ≡ Err Stop.LinkFault → Failing lines.now
             self.old turns (O.told outside.old) (O.told outside.new) }
         ensures ever { Front lines.now self.old turns (O.told outside.old)
             (O.told outside.new) }
-        ensures written { result ≡ Err (ClientFault.Stop Stop.WriteFault)
+        ensures written { result ≡ Err Stop.WriteFault
             → EndsByWrite (O.told outside.new) }
-        ensures failed { result ≡ Err (ClientFault.Stop Stop.LinkFault)
+        ensures failed { result ≡ Err Stop.LinkFault
             → EndsByReceive (O.told outside.new) }
     {
         for _ in 0..turns {
             self.turn(alloc, lines, buf, outside)?;
             if self.receiving.failed >= MOST_FAILED {
-                return Err(ClientFault::Stop(Stop::LinkFault));
+                return Err(Stop::LinkFault);
             }
         }
         if (self.answered as usize) < lines.len() {
-            return Err(ClientFault::NoReply);
+            return Err(Stop::NoReply);
         }
         Ok(())
     }

@@ -5,7 +5,6 @@ mod client;
 mod serving;
 mod text;
 
-pub use client::ClientFault;
 pub use serving::{Usage, use_daemon};
 
 #[cfg(test)]

@@ -7,7 +7,7 @@ ghost use Rattle.daemon_model.specs.Settings.{OverLink, OverLinkIf};
 ghost use Rattle.client_run.specs.Running.{IsCall, IsLost, IsFull, Answered, Unanswered, Ended, Failing, Front};
 ghost use Rattle.client_run.specs.Using.{first_client, Keyed};
 
-use crate::client::{Client, ClientFault};
+use crate::client::Client;
 use hags_io::Outside;
 use link_use::{Receiving, Stop, buffer, open_link};
 use node_sending::shared_network;
@@ -48,27 +48,27 @@ fn converse<O: Outside>(
     lines: &List<List<u8>>,
     usage: Usage,
     outside: &mut O,
-) -> Result<(), ClientFault>
+) -> Result<(), Stop>
     requires { EachFits IsCall lines.now }
     ensures answered { OnOk result (Keyed config.now usage.node (O.told outside.old)
         (λ client start. Answered lines.now client usage.turns start (O.told outside.new))) }
-    ensures unanswered { result ≡ Err ClientFault.NoReply → Keyed config.now usage.node
+    ensures unanswered { result ≡ Err Stop.NoReply → Keyed config.now usage.node
         (O.told outside.old) (λ client start. Unanswered lines.now client usage.turns start
         (O.told outside.new)) }
-    ensures lost { result ≡ Err ClientFault.Lost → Keyed config.now usage.node
+    ensures lost { result ≡ Err Stop.SessionLost → Keyed config.now usage.node
         (O.told outside.old) (λ client start. Ended IsLost lines.now client usage.turns start
         (O.told outside.new)) }
-    ensures full { result ≡ Err ClientFault.Full → Keyed config.now usage.node
+    ensures full { result ≡ Err Stop.DaemonFull → Keyed config.now usage.node
         (O.told outside.old) (λ client start. Ended IsFull lines.now client usage.turns start
         (O.told outside.new)) }
-    ensures failing { result ≡ Err (ClientFault.Stop Stop.LinkFault)
-        → Keyed config.now usage.node (O.told outside.old)
+    ensures failing { result ≡ Err Stop.LinkFault → Keyed config.now usage.node
+        (O.told outside.old)
         (λ client start. Failing lines.now client usage.turns start (O.told outside.new)) }
     ensures ever { Keyed config.now usage.node (O.told outside.old)
         (λ client start. Front lines.now client usage.turns start (O.told outside.new)) }
-    ensures written { result ≡ Err (ClientFault.Stop Stop.WriteFault)
+    ensures written { result ≡ Err Stop.WriteFault
         → EndsByWrite (O.told outside.new) }
-    ensures failed { result ≡ Err (ClientFault.Stop Stop.LinkFault)
+    ensures failed { result ≡ Err Stop.LinkFault
         → EndsByReceive (O.told outside.new) }
 {
     let moment = outside.now();
@@ -83,9 +83,9 @@ fn converse<O: Outside>(
 /// are its key. In each turn it makes the next call where the last one has its answer, sends its Up, and receives once.
 /// An answer is written as `did K taken` or `did K refused`, before the events that come with it, each a line.
 ///
-/// `NoReply` where a call has no answer after the last turn; `Lost` where a Down of another incarnation of the daemon
-/// came, and `Full` where one said that the daemon keeps no more keys: each ends it; and it stops by `LinkFault` where the
-/// link could not be opened, or 16 receives in a row failed, by `WriteFault` where a write failed, and by `NoMemory` where
+/// `NoReply` where a call has no answer after the last turn; `SessionLost` where a Down of another incarnation of the
+/// daemon came, and `DaemonFull` where one said that the daemon keeps no more keys: each ends it; `LinkFault` where the
+/// link could not be opened, or 16 receives in a row failed; `WriteFault` where a write failed; and `NoMemory` where
 /// memory has run out.
 #[tactic(auto, using(link_use::proofs::OpenLaws::over_link, link_use::proofs::OpenLaws::not_opened, link_use::proofs::OpenLaws::ran, link_use::proofs::OpenLaws::rose_closed, crate::proofs::UseLaws::rose_writing, crate::proofs::UseLaws::rose_receiving))]
 pub fn use_daemon<O: Outside>(
@@ -94,34 +94,34 @@ pub fn use_daemon<O: Outside>(
     lines: &List<List<u8>>,
     usage: Usage,
     outside: &mut O,
-) -> Result<(), ClientFault>
+) -> Result<(), Stop>
     requires ports { config.now.port + 32 ≤ 65535 }
     requires calls { EachFits IsCall lines.now }
     ensures answered { OnOk result (OverLink config.now 0 (O.told outside.old) (λ opened.
         Keyed config.now usage.node opened (λ client start. Answered lines.now client usage.turns
         start (O.told outside.new)))) }
-    ensures unanswered { result ≡ Err ClientFault.NoReply → OverLink config.now 0
+    ensures unanswered { result ≡ Err Stop.NoReply → OverLink config.now 0
         (O.told outside.old) (λ opened. Keyed config.now usage.node opened (λ client start.
         Unanswered lines.now client usage.turns start (O.told outside.new))) }
-    ensures lost { result ≡ Err ClientFault.Lost → OverLink config.now 0
+    ensures lost { result ≡ Err Stop.SessionLost → OverLink config.now 0
         (O.told outside.old) (λ opened. Keyed config.now usage.node opened (λ client start.
         Ended IsLost lines.now client usage.turns start (O.told outside.new))) }
-    ensures full { result ≡ Err ClientFault.Full → OverLink config.now 0
+    ensures full { result ≡ Err Stop.DaemonFull → OverLink config.now 0
         (O.told outside.old) (λ opened. Keyed config.now usage.node opened (λ client start.
         Ended IsFull lines.now client usage.turns start (O.told outside.new))) }
-    ensures failing { result ≡ Err (ClientFault.Stop Stop.LinkFault) → OverLinkIf config.now 0
+    ensures failing { result ≡ Err Stop.LinkFault → OverLinkIf config.now 0
         (O.told outside.old) (O.told outside.new) (λ opened. Keyed config.now usage.node opened
         (λ client start. Failing lines.now client usage.turns start (O.told outside.new))) }
     ensures ever { OverLinkIf config.now 0 (O.told outside.old) (O.told outside.new) (λ opened.
         Keyed config.now usage.node opened (λ client start. Front lines.now client usage.turns
         start (O.told outside.new))) }
-    ensures fault { result ≡ Err (ClientFault.Stop Stop.WriteFault)
+    ensures fault { result ≡ Err Stop.WriteFault
         → Rose (O.told outside.old).write_faults (O.told outside.new).write_faults }
-    ensures failed { result ≡ Err (ClientFault.Stop Stop.LinkFault)
+    ensures failed { result ≡ Err Stop.LinkFault
         → Rose (O.told outside.old).link_faults (O.told outside.new).link_faults }
 {
     if !open_link(outside, config, 0) {
-        return Err(ClientFault::Stop(Stop::LinkFault));
+        return Err(Stop::LinkFault);
     }
     converse(alloc, config, lines, usage, outside)
 }

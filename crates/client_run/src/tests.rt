@@ -4,8 +4,9 @@ ghost use Rattle.hags_io.specs.LinkMemory.{AreWithin};
 ghost use Rattle.rsct_packet.specs.Format.{EachFits};
 ghost use Rattle.client_run.specs.Running.{IsCall};
 
-use crate::{ClientFault, Usage, use_daemon};
+use crate::{Usage, use_daemon};
 use hags_io::{History, LinkFails, MemClock, MemLink, MemSink, Parts};
+use link_use::Stop;
 use node_state::{Config, Mode};
 use rsct_packet::{List, Mask, NoMemory};
 use std::alloc::Global;
@@ -97,7 +98,7 @@ fn ends(
     pieces: &[&[u8]],
     turns: u32,
     want: &[u8],
-) -> Result<(Result<(), ClientFault>, bool), NoMemory> {
+) -> Result<(Result<(), Stop>, bool), NoMemory> {
     let mut outside = Parts {
         out: MemSink::new(alloc, Vec::new(alloc)),
         link: link_of(alloc, pieces)?,
@@ -113,7 +114,7 @@ fn ends(
 #[test]
 fn no_reply_over_an_empty_link(rt: HostRuntime) {
     let (ended, same) = ends(rt.alloc(), &[], 3, b"").expect(&rt, "memory");
-    assert!(rt; ended == Err(ClientFault::NoReply));
+    assert!(rt; ended == Err(Stop::NoReply));
     assert!(rt; same);
 }
 
@@ -129,7 +130,7 @@ fn an_answer_and_an_event_are_written(rt: HostRuntime) {
 fn another_incarnation_ends_it(rt: HostRuntime) {
     let pieces = [TAKEN.as_slice(), LOST.as_slice()];
     let (ended, same) = ends(rt.alloc(), &pieces, 9, b"did 1 taken\nheard\n").expect(&rt, "memory");
-    assert!(rt; ended == Err(ClientFault::Lost));
+    assert!(rt; ended == Err(Stop::SessionLost));
     assert!(rt; same);
 }
 
@@ -137,6 +138,6 @@ fn another_incarnation_ends_it(rt: HostRuntime) {
 fn a_full_daemon_ends_it(rt: HostRuntime) {
     let pieces = [FULL.as_slice()];
     let (ended, same) = ends(rt.alloc(), &pieces, 9, b"").expect(&rt, "memory");
-    assert!(rt; ended == Err(ClientFault::Full));
+    assert!(rt; ended == Err(Stop::DaemonFull));
     assert!(rt; same);
 }

@@ -2,7 +2,7 @@
 ghost use Rattle.std.specs.Prelude.{◌≡◌, ◌≤◌, ◌+◌, IfOk, IfErr, OnErr, Err};
 ghost use Rattle.hags_io.specs.Edges.{Rose};
 ghost use Rattle.hags_io.specs.Fronts.{EndsByWrite, EndsByReceive};
-ghost use Rattle.link_use.specs.Stops.{StopsBy};
+ghost use Rattle.link_use.specs.Stops.{StopsBy, StopsDaemon};
 ghost use Rattle.node_state.specs.Step.{at_work};
 ghost use Rattle.daemon_model.specs.Daemon.{sessions_if};
 ghost use Rattle.daemon_model.specs.Settings.{OverLink, OverLinkIf};
@@ -94,7 +94,7 @@ fn begin<C: Callbacks, H: Hosts<C>, O: Outside>(
 }
 
 /// The whole life of a daemon whose link is open.
-#[tactic(auto, using(crate::proofs::EndLaws::serves_begun, crate::proofs::EndLaws::serves_all, crate::proofs::EndLaws::hands_over, crate::proofs::EndLaws::serves_to, crate::proofs::EndLaws::serves_front))]
+#[tactic(auto, using(crate::proofs::EndLaws::serves_begun, crate::proofs::EndLaws::serves_all, crate::proofs::EndLaws::hands_over, crate::proofs::EndLaws::serves_to, crate::proofs::EndLaws::serves_front, link_use::proofs::StopLaws::stops_daemon))]
 fn live<C: Callbacks, H: Hosts<C>, O: Outside>(
     alloc: Global,
     script: &Script,
@@ -116,6 +116,7 @@ fn live<C: Callbacks, H: Hosts<C>, O: Outside>(
         serving.turns (O.told outside.old) (O.told outside.new) }
     ensures written { result ≡ Err Stop.WriteFault → EndsByWrite (O.told outside.new) }
     ensures failed { result ≡ Err Stop.LinkFault → EndsByReceive (O.told outside.new) }
+    ensures stops { IfErr result StopsDaemon }
 {
     let moment = outside.now();
     let mut running = begin::<C, H, O>(alloc, script, serving, moment, hosts, outside)?;
@@ -133,8 +134,9 @@ fn live<C: Callbacks, H: Hosts<C>, O: Outside>(
 /// packet.
 ///
 /// `LinkFault` where the link could not be opened, or 16 receives in a row failed; `WriteFault` where a write failed; and
-/// `NoMemory` where memory has run out. However it ends, what was done is a front of the doings of a life
-/// (`crates/daemon_model`), in their order; after all turns, or at `LinkFault`, all of them (`ever`, `served`, `link`).
+/// `NoMemory` where memory has run out; it ends by no other `Stop` (`stops`). However it ends, what was done is a front of
+/// the doings of a life (`crates/daemon_model`), in their order; after all turns, or at `LinkFault`, all of them (`ever`,
+/// `served`, `link`).
 ///
 /// After all turns each client of the node's sessions stands for its own list (`hands`): that of the k-th line whose
 /// word is `boxed` for the list for which the k-th object of `hosts` stood, whatever the others stood for, and any other for
@@ -178,6 +180,7 @@ pub fn serve<C: Callbacks, H: Hosts<C>, O: Outside>(
         → Rose (O.told outside.old).write_faults (O.told outside.new).write_faults }
     ensures link_fault { result ≡ Err Stop.LinkFault
         → Rose (O.told outside.old).link_faults (O.told outside.new).link_faults }
+    ensures stops { IfErr result StopsDaemon }
 {
     let port = script.config.port + u16::from(serving.me);
     if !open_link(outside, &script.config, port) {

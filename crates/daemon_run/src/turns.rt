@@ -1,7 +1,7 @@
 //! The turns of a daemon.
 ghost use Rattle.std.specs.Prelude.{◌≡◌, ◌≤◌, ◌<◌, OnOk, OnErr, IfErr, Err, length};
 ghost use Rattle.hags_io.specs.Fronts.{EndsByWrite, EndsByReceive};
-ghost use Rattle.link_use.specs.Stops.{StopsBy};
+ghost use Rattle.link_use.specs.Stops.{StopsBy, StopsDaemon};
 ghost use Rattle.daemon_run.specs.Audience.{Attend};
 ghost use Rattle.daemon_run.specs.Doing.{IsSame, TicksAs, TickBreaks, HearsAs, HearBreaks, TurnsAs, TurnBreaks};
 ghost use Rattle.daemon_run.specs.Serving.{TurnsDone, TurnsEnded, TurnsFront};
@@ -103,7 +103,7 @@ impl<C: Callbacks> Running<C> {
     }
 
     /// So many turns; fewer where 16 receives fail in a row.
-    #[tactic(auto, using(crate::proofs::ServeLaws::turns_none, crate::proofs::ServeLaws::turns_unbegun, crate::proofs::ServeLaws::turns_next, crate::proofs::ServeLaws::turns_all))]
+    #[tactic(auto, using(crate::proofs::ServeLaws::turns_none, crate::proofs::ServeLaws::turns_unbegun, crate::proofs::ServeLaws::turns_next, crate::proofs::ServeLaws::turns_all, link_use::proofs::StopLaws::stops_daemon))]
     pub fn serve_turns<H: Hosts<C>, O: Outside>(
         &mut self,
         alloc: Global,
@@ -119,6 +119,7 @@ impl<C: Callbacks> Running<C> {
         ensures ever { TurnsFront self.old turns (O.told outside.old) (O.told outside.new) }
         ensures written { result ≡ Err Stop.WriteFault → EndsByWrite (O.told outside.new) }
         ensures failed { result ≡ Err Stop.LinkFault → EndsByReceive (O.told outside.new) }
+        ensures stops { IfErr result StopsDaemon }
     {
         let mut room = buffer(alloc)?;
         let buf = room.as_mut_slice();

@@ -13,14 +13,12 @@ use Rattle.script_reader.specs.declared.faults.ScriptFault.{ScriptFault}
 use Rattle.script_reader.specs.declared.faults.ScriptFault.TheVariants as script_fault
 use Rattle.link_use.specs.declared.stop.Stop.{Stop}
 use Rattle.link_use.specs.declared.stop.Stop.TheVariants as stop
-use Rattle.client_run.specs.declared.client.ClientFault.{ClientFault}
-use Rattle.client_run.specs.declared.client.ClientFault.TheVariants as client_fault
 use Rattle.client_run.specs.declared.serving.Usage.{Usage}
 use Rattle.hags_cli.specs.declared.ending.Ending.{Ending}
 use Rattle.hags_cli.specs.declared.ending.Ending.TheVariants as ending
 use Rattle.hags_cli.specs.declared.input.InputFault.{InputFault}
 use Rattle.hags_cli.specs.declared.input.InputFault.TheVariants as input_fault
-use Rattle.hags_cli.specs.Endings.{ending_of_input, ending_of_script, ending_of_client}
+use Rattle.hags_cli.specs.Endings.{ending_of_input, ending_of_script, ending_of_stop}
 use Rattle.hags_cli.specs.Run.{ReadsAs, InputFails}
 use Rattle.hags_cli.specs.Tasks.{uses, Seen, Untouched, CallsEnd, UsesBy, UsesOver, UsesAll, WaitsOn, LosesSession, FindsFull, UsesPart, UsesNoMore, FailsAs, EndsAs}
 use Rattle.hags_cli.proofs.EndLaws.{ended_by}
@@ -82,17 +80,17 @@ module _ (u : Usage) (x : Seen) (s : Script) (spelled : IfSome x.left (λ b. cli
   uses_done end h = (used_by (UsesOver x u (UsesAll x u)) h, end)
 
   -- by whatever fault it ended
-  pub uses_fault : (r : Result (Unit {0}) Ending) (f : ClientFault) → IsErr r × IsErrAnd r (λ e. e ≡ ending_of_client f) → (f ≡ client_fault.NoReply → UsesOver x u (WaitsOn x u) s) → (f ≡ client_fault.Lost → UsesOver x u (LosesSession x u) s) → (f ≡ client_fault.Full → UsesOver x u (FindsFull x u) s)
-      → (f ≡ client_fault.Stop stop.LinkFault → UsesNoMore x u s) → UsesPart x u s → (f ≡ client_fault.Stop stop.WriteFault → Rose x.before.write_faults x.now.write_faults) → (f ≡ client_fault.Stop stop.LinkFault → Rose x.before.link_faults x.now.link_faults)
+  pub uses_fault : (r : Result (Unit {0}) Ending) (f : Stop) → IsErr r × IsErrAnd r (λ e. e ≡ ending_of_stop f) → (f ≡ stop.NoReply → UsesOver x u (WaitsOn x u) s) → (f ≡ stop.SessionLost → UsesOver x u (LosesSession x u) s) → (f ≡ stop.DaemonFull → UsesOver x u (FindsFull x u) s)
+      → (f ≡ stop.LinkFault → UsesNoMore x u s) → UsesPart x u s → (f ≡ stop.WriteFault → Rose x.before.write_faults x.now.write_faults) → (f ≡ stop.LinkFault → Rose x.before.link_faults x.now.link_faults)
       → EndsAs r (Some (uses u)) x
-  uses_fault r f is unanswered lost full failing part wrote failed = ended_by r (ending_of_client f) (λ q. EndsAs q (Some (uses u)) x) is (by f unanswered lost full failing wrote failed)
+  uses_fault r f is unanswered lost full failing part wrote failed = ended_by r (ending_of_stop f) (λ q. EndsAs q (Some (uses u)) x) is (by f unanswered lost full failing wrote failed)
     where
-      by : (f : ClientFault) → (f ≡ client_fault.NoReply → UsesOver x u (WaitsOn x u) s) → (f ≡ client_fault.Lost → UsesOver x u (LosesSession x u) s) → (f ≡ client_fault.Full → UsesOver x u (FindsFull x u) s)
-          → (f ≡ client_fault.Stop stop.LinkFault → UsesNoMore x u s) → (f ≡ client_fault.Stop stop.WriteFault → Rose x.before.write_faults x.now.write_faults) → (f ≡ client_fault.Stop stop.LinkFault → Rose x.before.link_faults x.now.link_faults)
-          → FailsAs (ending_of_client f) (Some (uses u)) x
-      by client_fault.NoReply unanswered lost full failing wrote failed = used_by (UsesOver x u (WaitsOn x u)) (unanswered refl)
-      by client_fault.Lost unanswered lost full failing wrote failed = used_by (UsesOver x u (LosesSession x u)) (lost refl)
-      by client_fault.Full unanswered lost full failing wrote failed = used_by (UsesOver x u (FindsFull x u)) (full refl)
-      by (client_fault.Stop stop.NoMemory) unanswered lost full failing wrote failed = inr (used_by (UsesPart x u) part)
-      by (client_fault.Stop stop.WriteFault) unanswered lost full failing wrote failed = (wrote refl, used_by (UsesPart x u) part)
-      by (client_fault.Stop stop.LinkFault) unanswered lost full failing wrote failed = (failed refl, used_by (UsesNoMore x u) (failing refl))
+      by : (f : Stop) → (f ≡ stop.NoReply → UsesOver x u (WaitsOn x u) s) → (f ≡ stop.SessionLost → UsesOver x u (LosesSession x u) s) → (f ≡ stop.DaemonFull → UsesOver x u (FindsFull x u) s)
+          → (f ≡ stop.LinkFault → UsesNoMore x u s) → (f ≡ stop.WriteFault → Rose x.before.write_faults x.now.write_faults) → (f ≡ stop.LinkFault → Rose x.before.link_faults x.now.link_faults)
+          → FailsAs (ending_of_stop f) (Some (uses u)) x
+      by stop.NoMemory unanswered lost full failing wrote failed = inr (used_by (UsesPart x u) part)
+      by stop.WriteFault unanswered lost full failing wrote failed = (wrote refl, used_by (UsesPart x u) part)
+      by stop.LinkFault unanswered lost full failing wrote failed = (failed refl, used_by (UsesNoMore x u) (failing refl))
+      by stop.NoReply unanswered lost full failing wrote failed = used_by (UsesOver x u (WaitsOn x u)) (unanswered refl)
+      by stop.SessionLost unanswered lost full failing wrote failed = used_by (UsesOver x u (LosesSession x u)) (lost refl)
+      by stop.DaemonFull unanswered lost full failing wrote failed = used_by (UsesOver x u (FindsFull x u)) (full refl)

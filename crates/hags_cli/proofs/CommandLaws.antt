@@ -15,15 +15,14 @@ use Rattle.world_model.specs.Settings.{daemon_script}
 use Rattle.daemon_model.specs.Settings.{OverLink, OverLinkIf}
 use Rattle.daemon_model.specs.Lives.{ServesAs, ServesTo, ServesFront}
 use Rattle.status_client.specs.declared.question.Asking.{Asking}
-use Rattle.status_client.specs.declared.waiting.AskFault.{AskFault}
-use Rattle.status_client.specs.declared.waiting.AskFault.TheVariants as ask_fault
 use Rattle.status_client.specs.Asked.{IsUnwritten, Answered}
 use Rattle.link_use.specs.declared.stop.Stop.{Stop}
 use Rattle.link_use.specs.declared.stop.Stop.TheVariants as stop
+use Rattle.link_use.specs.Stops.{StopsDaemon, StopsQuestion}
 use Rattle.hags_cli.specs.declared.daemon_command.Service.{Service}
 use Rattle.hags_cli.specs.declared.ending.Ending.{Ending}
 use Rattle.hags_cli.specs.declared.ending.Ending.TheVariants as ending
-use Rattle.hags_cli.specs.Endings.{ending_of_stop, ending_of_question}
+use Rattle.hags_cli.specs.Endings.{ending_of_stop}
 use Rattle.hags_cli.specs.Tasks.{serves, asks, Seen, Untouched, counted, SettingsEnd, incarnation_at, ByClock, Incarnates, Running, Runs, ServesAll, ServesPart, ServesNoMore, AsksBy, AsksOver, GivesNone, AsksNoMore, TellEnds, FailsAs, EndsAs}
 use Rattle.hags_cli.proofs.EndLaws.{ended_by}
 use Rattle.hags_cli.proofs.OutputLaws.{rose_within}
@@ -93,14 +92,17 @@ asks_answered r a x s text told answered same spelled end asked kept h =
     told_so r a x s text answered spelled end asked kept (subst (λ (t : List ℕ). TellEnds r t (min answered.write_faults (2 ^ 64 - 1)) (min x.now.write_faults (2 ^ 64 - 1)) answered.held x.now.held) same h)
 
 -- by whatever fault it was not answered, nothing was written
-pub asks_fault : (a : Asking) (x : Seen) (s : Script) (f : AskFault) (e : Ending) → e ≡ ending_of_question f → IfSome x.left (λ b. daemon_script a.node None b ≡ IsScript s) → IsUnwritten x.before x.now → (f ≡ ask_fault.NoReply → AsksOver x a (GivesNone x a) s.config)
-    → (f ≡ ask_fault.LinkFault → AsksNoMore x a s.config) → (f ≡ ask_fault.LinkFault → Rose x.before.link_faults x.now.link_faults) → FailsAs e (Some (asks a)) x
-asks_fault a x s f e is spelled kept unanswered failing failed = subst (λ (z : Ending). FailsAs z (Some (asks a)) x) (sym is) (by f unanswered failing failed)
+pub asks_fault : (a : Asking) (x : Seen) (s : Script) (f : Stop) (e : Ending) → e ≡ ending_of_stop f → StopsQuestion f → IfSome x.left (λ b. daemon_script a.node None b ≡ IsScript s) → IsUnwritten x.before x.now → (f ≡ stop.NoReply → AsksOver x a (GivesNone x a) s.config)
+    → (f ≡ stop.LinkFault → AsksNoMore x a s.config) → (f ≡ stop.LinkFault → Rose x.before.link_faults x.now.link_faults) → FailsAs e (Some (asks a)) x
+asks_fault a x s f e is stops spelled kept unanswered failing failed = subst (λ (z : Ending). FailsAs z (Some (asks a)) x) (sym is) (by f stops unanswered failing failed)
   where
-    by : (f : AskFault) → (f ≡ ask_fault.NoReply → AsksOver x a (GivesNone x a) s.config) → (f ≡ ask_fault.LinkFault → AsksNoMore x a s.config) → (f ≡ ask_fault.LinkFault → Rose x.before.link_faults x.now.link_faults) → FailsAs (ending_of_question f) (Some (asks a)) x
-    by ask_fault.NoMemory unanswered failing failed = kept
-    by ask_fault.LinkFault unanswered failing failed = (failed refl, (asked_by x a s _ spelled (failing refl), kept))
-    by ask_fault.NoReply unanswered failing failed = (asked_by x a s _ spelled (unanswered refl), kept)
+    by : (f : Stop) → StopsQuestion f → (f ≡ stop.NoReply → AsksOver x a (GivesNone x a) s.config) → (f ≡ stop.LinkFault → AsksNoMore x a s.config) → (f ≡ stop.LinkFault → Rose x.before.link_faults x.now.link_faults) → FailsAs (ending_of_stop f) (Some (asks a)) x
+    by stop.NoMemory stops unanswered failing failed = kept
+    by stop.WriteFault stops unanswered failing failed = absurd stops
+    by stop.LinkFault stops unanswered failing failed = (failed refl, (asked_by x a s _ spelled (failing refl), kept))
+    by stop.NoReply stops unanswered failing failed = (asked_by x a s _ spelled (unanswered refl), kept)
+    by stop.SessionLost stops unanswered failing failed = absurd stops
+    by stop.DaemonFull stops unanswered failing failed = absurd stops
 
 -- ---- a daemon
 
@@ -128,16 +130,19 @@ module _ (s : Service) (objects n : ℕ) (x : Seen) (script : Script) (incarnati
   serves_done core end h = (runs (ServesAll x s) (record { opened = h.opened; did = h.did; holds = record { core = core; serves = h.holds } }), end)
 
   -- whatever stopped it
-  pub serves_stop : (r : Result (Unit {0}) Ending) (f : Stop) → IsErr r × IsErrAnd r (λ e. e ≡ ending_of_stop f) → (f ≡ stop.NoMemory → OverLink script.config (script.config.port + s.node) start (λ opened. ServesFront script s.node incarnation s.remote s.turns opened x.now))
+  pub serves_stop : (r : Result (Unit {0}) Ending) (f : Stop) → IsErr r × IsErrAnd r (λ e. e ≡ ending_of_stop f) → StopsDaemon f → (f ≡ stop.NoMemory → OverLink script.config (script.config.port + s.node) start (λ opened. ServesFront script s.node incarnation s.remote s.turns opened x.now))
       → (f ≡ stop.WriteFault → OverLink script.config (script.config.port + s.node) start (λ opened. ServesFront script s.node incarnation s.remote s.turns opened x.now))
       → (f ≡ stop.LinkFault → OverLinkIf script.config (script.config.port + s.node) start x.now (λ opened. ServesTo script s.node incarnation s.remote s.turns opened x.now)) → (f ≡ stop.WriteFault → Rose start.write_faults x.now.write_faults)
       → (f ≡ stop.LinkFault → Rose start.link_faults x.now.link_faults) → EndsAs r (Some (serves s objects)) x
-  serves_stop r f is memory written link wrote failed = ended_by r (ending_of_stop f) (λ q. EndsAs q (Some (serves s objects)) x) is (by f memory written link wrote failed)
+  serves_stop r f is stops memory written link wrote failed = ended_by r (ending_of_stop f) (λ q. EndsAs q (Some (serves s objects)) x) is (by f stops memory written link wrote failed)
     where
-      by : (f : Stop) → (f ≡ stop.NoMemory → OverLink script.config (script.config.port + s.node) start (λ opened. ServesFront script s.node incarnation s.remote s.turns opened x.now))
+      by : (f : Stop) → StopsDaemon f → (f ≡ stop.NoMemory → OverLink script.config (script.config.port + s.node) start (λ opened. ServesFront script s.node incarnation s.remote s.turns opened x.now))
           → (f ≡ stop.WriteFault → OverLink script.config (script.config.port + s.node) start (λ opened. ServesFront script s.node incarnation s.remote s.turns opened x.now))
           → (f ≡ stop.LinkFault → OverLinkIf script.config (script.config.port + s.node) start x.now (λ opened. ServesTo script s.node incarnation s.remote s.turns opened x.now)) → (f ≡ stop.WriteFault → Rose start.write_faults x.now.write_faults)
           → (f ≡ stop.LinkFault → Rose start.link_faults x.now.link_faults) → FailsAs (ending_of_stop f) (Some (serves s objects)) x
-      by stop.NoMemory memory written link wrote failed = inr (runs (ServesPart x s) (memory refl))
-      by stop.WriteFault memory written link wrote failed = (written_from s.incarnation x.before start incarnation x.now.write_faults incarnates (wrote refl), runs (ServesPart x s) (written refl))
-      by stop.LinkFault memory written link wrote failed = (linked_from s.incarnation x.before start incarnation x.now.link_faults incarnates (failed refl), runs (ServesNoMore x s) (link refl))
+      by stop.NoMemory stops memory written link wrote failed = inr (runs (ServesPart x s) (memory refl))
+      by stop.WriteFault stops memory written link wrote failed = (written_from s.incarnation x.before start incarnation x.now.write_faults incarnates (wrote refl), runs (ServesPart x s) (written refl))
+      by stop.LinkFault stops memory written link wrote failed = (linked_from s.incarnation x.before start incarnation x.now.link_faults incarnates (failed refl), runs (ServesNoMore x s) (link refl))
+      by stop.NoReply stops memory written link wrote failed = absurd stops
+      by stop.SessionLost stops memory written link wrote failed = absurd stops
+      by stop.DaemonFull stops memory written link wrote failed = absurd stops

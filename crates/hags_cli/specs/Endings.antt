@@ -10,10 +10,6 @@ use Rattle.script_reader.specs.declared.faults.ScriptFault.{ScriptFault}
 use Rattle.script_reader.specs.declared.faults.ScriptFault.TheVariants as script_fault
 use Rattle.link_use.specs.declared.stop.Stop.{Stop}
 use Rattle.link_use.specs.declared.stop.Stop.TheVariants as stop
-use Rattle.status_client.specs.declared.waiting.AskFault.{AskFault}
-use Rattle.status_client.specs.declared.waiting.AskFault.TheVariants as ask_fault
-use Rattle.client_run.specs.declared.client.ClientFault.{ClientFault}
-use Rattle.client_run.specs.declared.client.ClientFault.TheVariants as client_fault
 use Rattle.hags_cli.specs.declared.ending.Ending.{Ending}
 use Rattle.hags_cli.specs.declared.ending.Ending.TheVariants as ending
 use Rattle.hags_cli.specs.declared.input.InputFault.{InputFault}
@@ -38,17 +34,9 @@ abbrev pub ending_of_stop : Stop → Ending
 ending_of_stop stop.NoMemory = ending.NoMemory
 ending_of_stop stop.WriteFault = ending.WriteFault
 ending_of_stop stop.LinkFault = ending.LinkFault
-
-abbrev pub ending_of_question : AskFault → Ending
-ending_of_question ask_fault.NoMemory = ending.NoMemory
-ending_of_question ask_fault.LinkFault = ending.LinkFault
-ending_of_question ask_fault.NoReply = ending.NoReply
-
-abbrev pub ending_of_client : ClientFault → Ending
-ending_of_client (client_fault.Stop why) = ending_of_stop why
-ending_of_client client_fault.NoReply = ending.NoReply
-ending_of_client client_fault.Lost = ending.SessionLost
-ending_of_client client_fault.Full = ending.DaemonFull
+ending_of_stop stop.NoReply = ending.NoReply
+ending_of_stop stop.SessionLost = ending.SessionLost
+ending_of_stop stop.DaemonFull = ending.DaemonFull
 
 -- ---- the status, and what is said
 

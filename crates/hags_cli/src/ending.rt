@@ -1,15 +1,13 @@
 //! Why a call was not done.
 ghost use Rattle.std.specs.Prelude.{◌≡◌};
-ghost use Rattle.hags_cli.specs.Endings.{ending_of_input, ending_of_script, ending_of_play, ending_of_stop, ending_of_question, ending_of_client};
+ghost use Rattle.hags_cli.specs.Endings.{ending_of_input, ending_of_script, ending_of_play, ending_of_stop};
 ghost use Rattle.hags_cli.specs.declared.ending.Ending.TheVariants as ending;
 
 use crate::input::InputFault;
-use client_run::ClientFault;
 use link_use::Stop;
 use play_state::PlayFault;
 use rsct_packet::NoMemory;
 use script_reader::ScriptFault;
-use status_client::AskFault;
 use world_model::LineWhy;
 
 /// How a call ended that was not done. `BadLine` has the number of the first line that is in no script, and the first
@@ -78,31 +76,9 @@ impl From<Stop> for Ending {
             Stop::NoMemory => Ending::NoMemory,
             Stop::WriteFault => Ending::WriteFault,
             Stop::LinkFault => Ending::LinkFault,
-        }
-    }
-}
-
-impl From<AskFault> for Ending {
-    ghost from_gives = { λ f e. e ≡ ending_of_question f };
-
-    fn from(fault: AskFault) -> Ending {
-        match fault {
-            AskFault::NoMemory => Ending::NoMemory,
-            AskFault::LinkFault => Ending::LinkFault,
-            AskFault::NoReply => Ending::NoReply,
-        }
-    }
-}
-
-impl From<ClientFault> for Ending {
-    ghost from_gives = { λ f e. e ≡ ending_of_client f };
-
-    fn from(fault: ClientFault) -> Ending {
-        match fault {
-            ClientFault::Stop(stop) => Ending::from(stop),
-            ClientFault::NoReply => Ending::NoReply,
-            ClientFault::Lost => Ending::SessionLost,
-            ClientFault::Full => Ending::DaemonFull,
+            Stop::NoReply => Ending::NoReply,
+            Stop::SessionLost => Ending::SessionLost,
+            Stop::DaemonFull => Ending::DaemonFull,
         }
     }
 }

@@ -7,4 +7,3 @@ mod waiting;
 
 pub use asking::ask;
 pub use question::Asking;
-pub use waiting::AskFault;

@@ -1,31 +1,15 @@
 //! The receives of a status client.
-ghost use Rattle.std.specs.Prelude.{◌≡◌, ◌≤◌, ◌<◌, IfOk, OnOk, Err, length};
+ghost use Rattle.std.specs.Prelude.{◌≡◌, ◌≤◌, ◌<◌, IfOk, IfErr, OnOk, Err, length};
 ghost use Rattle.std.specs.Option.{option_map};
 ghost use Rattle.hags_io.specs.Fronts.{EndsByReceive};
+ghost use Rattle.link_use.specs.Stops.{StopsQuestion};
 ghost use Rattle.status_client.specs.Asked.{IsUnwritten, Hears, Answered, Unanswered, Failing};
-ghost use Rattle.status_client.specs.declared.waiting.AskFault.TheVariants as ask_fault;
 
 use crate::question::reply_to;
 use hags_io::Outside;
-use link_use::{MOST_FAILED, Receiving};
+use link_use::{MOST_FAILED, Receiving, Stop};
 use rsct_packet::NoMemory;
 use std::alloc::Global;
-
-/// Why there is no answer: memory has run out, the link failed, or no reply came.
-#[derive(Clone, Copy, Debug, PartialEq, Eq)]
-pub enum AskFault {
-    NoMemory,
-    LinkFault,
-    NoReply,
-}
-
-impl From<NoMemory> for AskFault {
-    ghost from_gives = { λ _ e. e ≡ ask_fault.NoMemory };
-
-    fn from(_e: NoMemory) -> AskFault {
-        AskFault::NoMemory
-    }
-}
 
 /// A status client that waits: for the answer to which question, and what it receives.
 #[derive(Drop)]
@@ -68,24 +52,25 @@ impl Waiting {
         turns: u32,
         buf: &mut [u8],
         outside: &mut O,
-    ) -> Result<Vec<u8>, AskFault>
+    ) -> Result<Vec<u8>, Stop>
         requires { 65536 ≤ length buf.old }
         ensures answered { IfOk result (λ text. Answered self.old.question turns self.old.receiving
             text.items (O.told outside.old) (O.told outside.new)) }
-        ensures unanswered { result ≡ Err AskFault.NoReply → Unanswered self.old.question turns
+        ensures unanswered { result ≡ Err Stop.NoReply → Unanswered self.old.question turns
             self.old.receiving (O.told outside.old) (O.told outside.new) }
-        ensures failing { result ≡ Err AskFault.LinkFault → Failing self.old.question turns
+        ensures failing { result ≡ Err Stop.LinkFault → Failing self.old.question turns
             self.old.receiving (O.told outside.old) (O.told outside.new) }
         ensures unwritten { IsUnwritten (O.told outside.old) (O.told outside.new) }
+        ensures stops { IfErr result StopsQuestion }
     {
         for _ in 0..turns {
             if let Some(text) = self.hear(alloc, buf, outside)? {
                 return Ok(text);
             }
             if self.receiving.failed >= MOST_FAILED {
-                return Err(AskFault::LinkFault);
+                return Err(Stop::LinkFault);
             }
         }
-        Err(AskFault::NoReply)
+        Err(Stop::NoReply)
     }
 }

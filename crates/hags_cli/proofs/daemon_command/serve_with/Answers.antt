@@ -9,7 +9,7 @@ pub returns-in_err-_node : goal.returns-in_err-_node
 returns-in_err-_node g c =
     let count : c.count_of-count.result ≡ counted c.args.objects = search rules in
     serves_stop c.args.service c.args.objects c.count_of-count.result _ c.in_ok-script.script c.incarnation_of.result (g.O.Outside.told c.incarnation_of.new.outside) count c.incarnation_of.ensures c.in_ok-script.ensures.read
-    c.from_residual-in_err-_node.result c.in_err-_node.field-0.0 c.from_residual-in_err-_node.ensures
+    c.from_residual-in_err-_node.result c.in_err-_node.field-0.0 c.from_residual-in_err-_node.ensures c.in_err-_node.ensures.stops
     (λ e. c.in_err-_node.ensures.memory (ap Err e))
     (λ e. c.in_err-_node.ensures.written (ap Err e))
     (λ e. c.in_err-_node.ensures.link (ap Err e))

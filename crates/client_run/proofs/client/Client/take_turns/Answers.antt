@@ -1,19 +1,19 @@
 use Rattle.std.proofs.Common.{◌≡◌, rules}
 use Rattle.std.specs.Prelude.{Result, Err}
-use Rattle.client_run.specs.declared.client.ClientFault.{ClientFault}
-use Rattle.client_run.specs.declared.client.ClientFault.TheVariants as fault
+use Rattle.link_use.specs.declared.stop.Stop.{Stop}
+use Rattle.link_use.specs.declared.stop.Stop.TheVariants as stop
 use Rattle.client_run.specs.Running.{IsLost, IsFull}
 use Rattle.client_run.proofs.RunLaws.{ended, failing, front, front_last, front_all}
 use Rattle.client_run.proofs.client.Client.take_turns.Goals as goal
 
 pub returns-in_err-turn-clause-lost : goal.returns-in_err-turn-clause-lost
 returns-in_err-turn-clause-lost g c = λ e.
-    let same : ◌≡◌ {A = Result (Unit {0}) ClientFault} (Err c.in_err-turn.field-0.0) (Err fault.Lost) = search rules in
+    let same : ◌≡◌ {A = Result (Unit {0}) Stop} (Err c.in_err-turn.field-0.0) (Err stop.SessionLost) = search rules in
     ended c.args.lines.now IsLost c.args.self.now c.loop.self c.loop.counter c.args.turns _ _ _ c.loop-test.true c.loop.invariant.done (c.in_err-turn.ensures.lost same)
 
 pub returns-in_err-turn-clause-full : goal.returns-in_err-turn-clause-full
 returns-in_err-turn-clause-full g c = λ e.
-    let same : ◌≡◌ {A = Result (Unit {0}) ClientFault} (Err c.in_err-turn.field-0.0) (Err fault.Full) = search rules in
+    let same : ◌≡◌ {A = Result (Unit {0}) Stop} (Err c.in_err-turn.field-0.0) (Err stop.DaemonFull) = search rules in
     ended c.args.lines.now IsFull c.args.self.now c.loop.self c.loop.counter c.args.turns _ _ _ c.loop-test.true c.loop.invariant.done (c.in_err-turn.ensures.full same)
 
 pub returns-in_err-turn-clause-ever : goal.returns-in_err-turn-clause-ever
