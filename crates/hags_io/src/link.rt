@@ -10,6 +10,9 @@ ghost use Rattle.hags_io.specs.declared.link.Places.{Places};
 use crate::source::Put;
 use rsct_packet::List;
 
+/// A buffer of so many bytes holds whatever datagram a link can give, and the network before it on the wire.
+pub const DATAGRAM_ROOM: usize = 65_536;
+
 /// What a link gave: a datagram of so many bytes, at the front of the buffer, that came on this network; nothing for
 /// now; a fault; or nothing for want of memory.
 #[derive(Clone, Copy, Debug, PartialEq, Eq)]

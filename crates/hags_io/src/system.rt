@@ -1,16 +1,13 @@
 //! The link and the clock of the system. They tell nothing: what a socket carried and what a clock showed is not told.
 ghost use Rattle.std.specs.Prelude.{◌≡◌, ◌≤◌, ◌+◌, ◌-◌, ◌^◌, ◌↔◌, length, min, IfSome, IsTrue};
 
-use crate::link::{Clock, Got, Link, Places};
+use crate::link::{Clock, DATAGRAM_ROOM, Got, Link, Places};
 use crate::source::Put;
 use rsct_packet::{MAX_NODES, NoMemory};
 use std::alloc::Global;
 use std::io;
 use std::net::{Ipv4Addr, Net, SocketAddr, UdpSocket};
 use std::time::{Duration, Instant, SystemTime};
-
-/// How many bytes a datagram has at most, its network included: a buffer of them holds whatever comes.
-const ROOM: usize = 65536;
 
 /// Datagrams of a UDP port on all addresses. On the wire one byte with the network, from 1 to 4, stands before each
 /// datagram; since UDP over IPv4 carries at most 65,507 bytes, a datagram has at most 65,506, and a longer one fails.
@@ -36,7 +33,7 @@ impl<'r, R: Net> UdpLink<'r, R> {
             socket: None,
             places: Places::none(),
             from: None,
-            packet: vec![in alloc; 0u8; ROOM]?,
+            packet: vec![in alloc; 0u8; DATAGRAM_ROOM]?,
             faults: 0,
         })
     }

@@ -3,7 +3,7 @@ ghost use Rattle.std.specs.Prelude.{◌≡◌, ◌≤◌, ◌<◌, vec_len, leng
 ghost use Rattle.hags_io.specs.Fronts.{EndsByReceive};
 ghost use Rattle.link_use.specs.Receiving.{Receives, ReceivesFront, whole_in, nothing_received};
 
-use hags_io::{Got, Outside};
+use hags_io::{DATAGRAM_ROOM, Got, Outside};
 use piece_link::Joiner;
 use rsct_packet::NoMemory;
 use std::alloc::Global;
@@ -11,14 +11,11 @@ use std::alloc::Global;
 /// So many receives that fail in a row end who works over an outside.
 pub const MOST_FAILED: u8 = 16;
 
-/// The longest datagram that a receive can give has one byte less.
-const BUFFER: usize = 65_536;
-
 /// The memory into which datagrams are received.
 pub fn buffer(alloc: Global) -> Result<Vec<u8>, NoMemory>
     ensures { IfOk result (λ v. vec_len v ≡ 65536) }
 {
-    Ok(vec![in alloc; 0u8; BUFFER]?)
+    Ok(vec![in alloc; 0u8; DATAGRAM_ROOM]?)
 }
 
 /// What is received: the pieces that are joined, and how many receives failed in a row, up to 16.
