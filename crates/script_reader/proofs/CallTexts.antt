@@ -16,7 +16,8 @@ use Rattle.world_model.proofs.ReadingLaws.{reasonless}
 use Rattle.script_reader.specs.declared.faults.ScriptFault.{ScriptFault}
 use Rattle.script_reader.specs.Reading.{GivesScript}
 use Rattle.script_reader.specs.CallTexts.{IsHandedText, HandsTexts}
-use Rattle.script_reader.specs.ClientScript.{max_call, is_long, fits_client, judged, client_line, line_by, lines_from, lines_for, client_script}
+use Rattle.remote_session.specs.Messages.{max_line}
+use Rattle.script_reader.specs.ClientScript.{is_long, fits_client, judged, client_line, line_by, lines_from, lines_for, client_script}
 
 -- what is so of what is read, if it is good
 abbrev Holds : (Reading → Type 0) → Read → Type 0
@@ -95,12 +96,12 @@ some_bytes [] w ws e = absurd (cc)
 some_bytes (b ∷ bs) w ws e = omega arith
 
 -- and no more than a call has, unless it is long
-few_bytes : (bytes w : List ℕ) (ws : List (List ℕ)) → words_in bytes ≡ w ∷ ws → is_comment bytes ≡ false → is_long bytes ≡ false → length bytes ≤ max_call
+few_bytes : (bytes w : List ℕ) (ws : List (List ℕ)) → words_in bytes ≡ w ∷ ws → is_comment bytes ≡ false → is_long bytes ≡ false → length bytes ≤ max_line
 unfolding is_long
 few_bytes bytes w ws words plain e =
-    let same : (nat_lt max_call (length bytes) && (not false && not (is_empty (w ∷ ws)))) ≡ false =
-    subst (λ v. (nat_lt max_call (length bytes) && (not false && not (is_empty v))) ≡ false) words (subst (λ c. (nat_lt max_call (length bytes) && (not c && not (is_empty (words_in bytes)))) ≡ false) plain e) in
-    ltb-false max_call (length bytes) (of (nat_lt max_call (length bytes)) same)
+    let same : (nat_lt max_line (length bytes) && (not false && not (is_empty (w ∷ ws)))) ≡ false =
+    subst (λ v. (nat_lt max_line (length bytes) && (not false && not (is_empty v))) ≡ false) words (subst (λ c. (nat_lt max_line (length bytes) && (not c && not (is_empty (words_in bytes)))) ≡ false) plain e) in
+    ltb-false max_line (length bytes) (of (nat_lt max_line (length bytes)) same)
   where
     of : (b : Bool) → (b && true) ≡ false → b ≡ false
     of true f = f

@@ -2,11 +2,11 @@
 use Rattle.std.specs.Prelude.{ℕ, ◌≤◌, List, length}
 use Rattle.rsct_packet.specs.Format.{EachFits}
 use Rattle.world_model.specs.declared.script.Script.{Script}
-use Rattle.script_reader.specs.ClientScript.{max_call}
+use Rattle.remote_session.specs.Messages.{max_line}
 
 -- there are some, and no more than a call has
 abbrev pub IsHandedText : List ℕ → Type 0
-IsHandedText text = (1 ≤ length text) × (length text ≤ max_call)
+IsHandedText text = (1 ≤ length text) × (length text ≤ max_line)
 
 -- so are those of each call of a script
 abbrev pub HandsTexts : Script → Type 0

@@ -11,15 +11,12 @@ use Rattle.world_model.specs.declared.script.Line.TheVariants as line
 use Rattle.world_model.specs.declared.script.LineWhy.{LineWhy}
 use Rattle.world_model.specs.declared.script.LineWhy.TheVariants.{Long, OutOfPlace, IsAPacket}
 use Rattle.value_words.specs.Words.{split_on, words_in}
+use Rattle.remote_session.specs.Messages.{max_line}
 use Rattle.world_model.specs.Reading.{Reading, Read, Good, Bad, ScriptRead, IsNone, is_comment, read_line, nothing_read, at_end, input_limit}
-
--- how many bytes the line of a call that is handed on has at most
-abbrev pub max_call : ℕ
-max_call = 1100
 
 -- a line of words that is longer than what is handed on may be
 unfoldable pub is_long : List ℕ → Bool
-is_long bytes = nat_lt max_call (length bytes) && (not (is_comment bytes) && not (is_empty (words_in bytes)))
+is_long bytes = nat_lt max_line (length bytes) && (not (is_comment bytes) && not (is_empty (words_in bytes)))
 
 -- the first line makes the client, which votes by calls alone; the others are its calls
 abbrev pub is_handed_on : Bool → Line → Bool

@@ -8,12 +8,10 @@ use crate::faults::LineFault;
 use crate::progress::ReadSoFar;
 use crate::script::{is_comment, read_line};
 use node_state::CallLine;
+use remote_session::MAX_LINE;
 use std::alloc::Global;
 use value_words::Words;
 use world_model::{Event, Line, LineWhy};
-
-/// How many bytes the line of a call that is handed on has at most.
-pub const MAX_CALL: usize = 1_100;
 
 /// Is it a line of words that is longer than what is handed on may be?
 #[tactic(auto, unfolding(crate::specs::ClientScript::is_long))]
@@ -21,7 +19,7 @@ fn is_long(line: &[u8]) -> bool
     ensures { result ≡ is_long line.now }
 {
     let words = Words::of(line);
-    line.len() > MAX_CALL && !is_comment(line) && !words.is_empty()
+    line.len() > MAX_LINE && !is_comment(line) && !words.is_empty()
 }
 
 /// May a client hand this line on? The first one makes the client, which votes by calls alone; the others are its

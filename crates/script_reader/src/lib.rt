@@ -16,6 +16,5 @@ mod settings;
 
 pub use call_lines::call_line;
 pub use calls::caller;
-pub use client_lines::MAX_CALL;
 pub use faults::ScriptFault;
 pub use script::{INPUT_LIMIT, read_client, read_daemon, read_script};
