@@ -30,7 +30,7 @@ pub use reading::{
     known, read_bytes, read_mask, read_member, read_name, read_node, read_node_or_none, read_part,
     read_proto, read_provider, read_ring, read_u8, read_u16, read_u32, read_u64, read_view,
 };
-pub use text::{MAX_NAME, MAX_TEXT, Name, Text, are_name_bytes, is_name};
+pub use text::{MAX_CLIENT_NAME, MAX_NAME, MAX_TEXT, Name, Text, are_name_bytes, is_name};
 pub use writing::{
     put_bytes, put_mask, put_member, put_name, put_proto, put_provider, put_ring, put_u8, put_u16,
     put_u32, put_u64, put_view,

@@ -10,6 +10,9 @@ use std::marker::Model;
 /// How many bytes a group name has at most.
 pub const MAX_NAME: usize = 32;
 
+/// How many bytes the name of a client has at most.
+pub const MAX_CLIENT_NAME: usize = 16;
+
 /// How many bytes a text has at most.
 pub const MAX_TEXT: usize = 65535;
 

@@ -11,13 +11,10 @@ ghost use Rattle.subscribe_core.specs.Subs.{has_token, is_of_client};
 
 use client_callbacks::{MAX_MESSAGE, value_limit};
 use group_attr::{Attrs, HOST_MEMBERSHIP};
-use rsct_packet::{MAX_NAME, ProviderId, is_among, is_name};
+use rsct_packet::{MAX_CLIENT_NAME, MAX_NAME, ProviderId, is_among, is_name};
 use session_delivery::outstanding;
 use session_state::{Field, GsFault, MemberToken, OpenPhase, Provider, Request, SessionState};
 use subscribe_core::{ClientToken, SubToken, Subscription};
-
-/// How many bytes a client's name has at most.
-pub const MAX_CLIENT_NAME: usize = 16;
 
 /// How many sessions a node has at most.
 pub const MAX_SESSIONS: usize = 64;

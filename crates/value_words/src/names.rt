@@ -4,11 +4,8 @@ ghost use Rattle.value_words.specs.Words.{name_word, client_word, group_word};
 ghost use Rattle.value_words.specs.Answers.{GivesWord};
 
 use crate::faults::WordFault;
-use rsct_packet::{List, Name, are_name_bytes};
+use rsct_packet::{List, MAX_CLIENT_NAME, Name, are_name_bytes};
 use std::alloc::Global;
-
-/// How many bytes the name of a client has at most.
-const MAX_CLIENT: usize = 16;
 
 /// How many bytes the name of a group has at most in a script; a session refuses those of more than 32.
 const MAX_GROUP: usize = 64;
@@ -29,7 +26,7 @@ fn name_word(alloc: Global, most: usize, word: &[u8]) -> Result<List<u8>, WordFa
 pub fn client_word(alloc: Global, word: &[u8]) -> Result<List<u8>, WordFault>
     ensures { GivesWord result (client_word word.now) }
 {
-    name_word(alloc, MAX_CLIENT, word)
+    name_word(alloc, MAX_CLIENT_NAME, word)
 }
 
 /// The name of a group, which may be too long to be one: 1 to 64 bytes.
