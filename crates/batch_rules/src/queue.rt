@@ -4,6 +4,7 @@ ghost use Rattle.std.specs.List.{list_any};
 ghost use Rattle.rsct_packet.specs.Providers.{without};
 ghost use Rattle.batch_rules.specs.Waiting.{has_instance, same_instance, is_failure_of, batches_joins, batches_failures, chosen_of, left_of};
 
+use crate::waiting::MAX_WAITING;
 use arrayvec::ArrayVec;
 use group_attr::Batch;
 use proposal_core::Failure;
@@ -31,7 +32,7 @@ pub(crate) fn is_failing(failures: &[Failure], provider: ProviderId) -> bool
 }
 
 /// Takes the provider out.
-pub(crate) fn remove_join(joins: &mut ArrayVec<ProviderId, 64>, provider: ProviderId)
+pub(crate) fn remove_join(joins: &mut ArrayVec<ProviderId, MAX_WAITING>, provider: ProviderId)
     ensures { joins.new.items ≡ without joins.old.items provider }
 {
     joins.retain(|q| *q != provider);
@@ -51,9 +52,9 @@ pub(crate) fn batches_failures(batch: Batch) -> bool
 
 /// Takes all of them, or the oldest one, if there is one.
 pub(crate) fn take_next<T: Default + Drop>(
-    items: &mut ArrayVec<T, 64>,
+    items: &mut ArrayVec<T, MAX_WAITING>,
     all: bool,
-) -> ArrayVec<T, 64>
+) -> ArrayVec<T, MAX_WAITING>
     ensures taken { result.items ≡ chosen_of all items.old.items }
     ensures left { items.new.items ≡ left_of all items.old.items }
 {

@@ -28,16 +28,16 @@ pub enum Added {
 /// What begins next, oldest first; at least one.
 #[derive(Drop)]
 pub enum Chosen {
-    Failures(ArrayVec<Failure, 64>),
-    Joins(ArrayVec<ProviderId, 64>),
+    Failures(ArrayVec<Failure, MAX_WAITING>),
+    Joins(ArrayVec<ProviderId, MAX_WAITING>),
 }
 
 /// The joins and the failures that wait, each oldest first and at most 64; the joins differ. It takes no memory and
 /// cannot fail.
 #[derive(Drop)]
 pub struct Waiting {
-    joins: ArrayVec<ProviderId, 64>,
-    failures: ArrayVec<Failure, 64>,
+    joins: ArrayVec<ProviderId, MAX_WAITING>,
+    failures: ArrayVec<Failure, MAX_WAITING>,
 }
 
 impl Model for Waiting {
@@ -125,7 +125,7 @@ impl Waiting {
     }
 
     /// Takes out the failures that begin next: all of them where the batch control has them, else the oldest.
-    pub fn next_failures(&mut self, batch: Batch) -> ArrayVec<Failure, 64>
+    pub fn next_failures(&mut self, batch: Batch) -> ArrayVec<Failure, MAX_WAITING>
         ensures taken { result.items ≡ next_failures batch self.old }
         ensures queue { self.new ≡ failures_left batch self.old }
     {
@@ -133,7 +133,7 @@ impl Waiting {
     }
 
     /// Takes out the joins that begin next: all of them where the batch control has them, else the oldest.
-    pub fn next_joins(&mut self, batch: Batch) -> ArrayVec<ProviderId, 64>
+    pub fn next_joins(&mut self, batch: Batch) -> ArrayVec<ProviderId, MAX_WAITING>
         ensures taken { result.items ≡ next_joins batch self.old }
         ensures apart { AreProviders (next_joins batch self.old) }
         ensures queue { self.new ≡ joins_left batch self.old }

@@ -12,7 +12,7 @@ ghost use Rattle.group_codec.specs.InPlace.{running_in, optional_running_in, par
 
 use crate::attrs::{AttrsRef, put_attrs, read_attrs};
 use crate::proposals::{ProposalRef, put_proposal, read_proposal};
-use proposal_core::{GroupState, Running, optional_bytes, optional_text_of, text_of};
+use proposal_core::{GroupState, MAX_PHASES, Running, optional_bytes, optional_text_of, text_of};
 use rsct_packet::{
     Listed, MAX_PROVIDERS, NoMemory, ProtoId, ProviderId, Providers, is_listed, known, put_bytes,
     put_optional_bytes, put_optional_proto, put_proto, put_providers, put_u8, put_u16, read_bytes,
@@ -47,7 +47,7 @@ fn read_phase(bytes: &[u8]) -> Option<(u16, &[u8])>
     ensures { Gives result (guarded_at is_phase (number_at w16) bytes.now) }
 {
     let (phase, bytes) = read_u16(bytes)?;
-    if phase < 1 || phase > 200 {
+    if phase < 1 || phase > MAX_PHASES {
         return None;
     }
     Some((phase, bytes))

@@ -6,6 +6,7 @@ ghost use Rattle.node_state.specs.State.{InNameOrder, led_of};
 ghost use Rattle.node_state.specs.Leading.{with_waiting};
 
 use arrayvec::ArrayVec;
+use batch_rules::MAX_WAITING;
 use group_attr::Batch;
 use node_groups::row_mut;
 use node_state::Core;
@@ -20,7 +21,7 @@ pub fn take_failures(
     alloc: Global,
     group: &Name,
     batch: Batch,
-) -> Result<ArrayVec<Failure, 64>, NoMemory>
+) -> Result<ArrayVec<Failure, MAX_WAITING>, NoMemory>
     requires { InNameOrder core.old.groups }
     ensures taken { IfOk result (λ out. out.items
         ≡ next_failures batch (led_of core.old group.now).waiting) }
@@ -38,7 +39,7 @@ pub fn take_joins(
     alloc: Global,
     group: &Name,
     batch: Batch,
-) -> Result<ArrayVec<ProviderId, 64>, NoMemory>
+) -> Result<ArrayVec<ProviderId, MAX_WAITING>, NoMemory>
     requires { InNameOrder core.old.groups }
     ensures taken { IfOk result (λ ps. ps.items ≡ next_joins batch
         (led_of core.old group.now).waiting) }

@@ -120,7 +120,7 @@ impl Names {
             return Ok(node);
         }
         if self.nodes.len() >= MAX_NAMES {
-            return Err(NameFault::Full(64));
+            return Err(NameFault::Full(MAX_NAMES as u32));
         }
         keep(alloc, &mut self.nodes, group, asker)?;
         Ok(asker)

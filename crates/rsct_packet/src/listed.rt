@@ -10,6 +10,7 @@ ghost use Rattle.rsct_packet.specs.Providers.{among, differ, are_providers};
 use crate::fronts::u8_at;
 use crate::ids::{Member, NoMemory, ProviderId};
 use crate::list::List;
+use crate::providers::MAX_PROVIDERS;
 use crate::reading::{known, read_member, read_provider};
 use crate::writing::{put_member, put_provider, put_u8};
 use std::alloc::Global;
@@ -254,7 +255,7 @@ pub fn is_listed(providers: &Listed<ProviderId>, provider: ProviderId) -> bool
 fn are_providers(providers: &Listed<ProviderId>) -> bool
     ensures { result ≡ are_providers providers.now }
 {
-    providers.len() <= 64 && are_apart(providers)
+    providers.len() <= MAX_PROVIDERS && are_apart(providers)
 }
 
 #[tactic(auto, unfolding(crate::specs::Fields::providers_at))]

@@ -33,7 +33,7 @@ pub enum Cast {
 /// the voters when the phase closes.
 #[derive(Drop)]
 pub struct Tally {
-    voters: ArrayVec<Voter, 64>,
+    voters: ArrayVec<Voter, MAX_VOTERS>,
     default: DefaultVote,
     limit: u16,
     count: u32,
@@ -51,7 +51,7 @@ impl Model for Tally {
 
 /// Providers that have not voted, in order.
 #[tactic(auto, using(std::proofs::lemmas::List::map_more, std::proofs::lemmas::Grind::common_steps))]
-fn without_rows(providers: &[ProviderId]) -> ArrayVec<Voter, 64>
+fn without_rows(providers: &[ProviderId]) -> ArrayVec<Voter, MAX_VOTERS>
     requires { length providers.now ≤ 64 }
     ensures { result.items ≡ map no_vote providers.now }
 {
