@@ -18,7 +18,7 @@ use Rattle.hags_cli.specs.declared.ending.Ending.{Ending}
 use Rattle.hags_cli.specs.declared.ending.Ending.TheVariants as ending
 use Rattle.hags_cli.specs.declared.input.InputFault.{InputFault}
 use Rattle.hags_cli.specs.declared.input.InputFault.TheVariants as input_fault
-use Rattle.hags_cli.specs.Endings.{ending_of_input, ending_of_script, ending_of_stop}
+use Rattle.hags_cli.specs.Endings.{ending_of_input, ending_of_script}
 use Rattle.hags_cli.specs.Run.{ReadsAs, InputFails}
 use Rattle.hags_cli.specs.Tasks.{uses, Seen, Untouched, CallsEnd, UsesBy, UsesOver, UsesAll, WaitsOn, LosesSession, FindsFull, UsesPart, UsesNoMore, FailsAs, EndsAs}
 use Rattle.hags_cli.proofs.EndLaws.{ended_by}
@@ -61,14 +61,14 @@ script_ends node left reads reads_now front f e is whole h = subst (λ (z : Endi
 pub uses_settings : (e : Ending) (u : Usage) (x : Seen) → x.now.held ≡ x.before.held → Untouched x → CallsEnd u.node x.left x.reads x.reads_now e → FailsAs e (Some (uses u)) x
 uses_settings ending.Usage u x still touched h = absurd h
 uses_settings (ending.BadLine line why) u x still touched h = (h, keeps_same x still, touched)
-uses_settings ending.NoMemory u x still touched h = memory_ends (Some (uses u)) x still touched
+uses_settings (ending.Stop stop.NoMemory) u x still touched h = memory_ends (Some (uses u)) x still touched
 uses_settings ending.ReadFault u x still touched h = (h, keeps_same x still, touched)
-uses_settings ending.WriteFault u x still touched h = absurd h
-uses_settings ending.LinkFault u x still touched h = absurd h
+uses_settings (ending.Stop stop.WriteFault) u x still touched h = absurd h
+uses_settings (ending.Stop stop.LinkFault) u x still touched h = absurd h
 uses_settings ending.TooMuchKept u x still touched h = absurd h
-uses_settings ending.NoReply u x still touched h = absurd h
-uses_settings ending.SessionLost u x still touched h = absurd h
-uses_settings ending.DaemonFull u x still touched h = absurd h
+uses_settings (ending.Stop stop.NoReply) u x still touched h = absurd h
+uses_settings (ending.Stop stop.SessionLost) u x still touched h = absurd h
+uses_settings (ending.Stop stop.DaemonFull) u x still touched h = absurd h
 
 -- ---- a client that ran
 
@@ -80,14 +80,14 @@ module _ (u : Usage) (x : Seen) (s : Script) (spelled : IfSome x.left (λ b. cli
   uses_done end h = (used_by (UsesOver x u (UsesAll x u)) h, end)
 
   -- by whatever fault it ended
-  pub uses_fault : (r : Result (Unit {0}) Ending) (f : Stop) → IsErr r × IsErrAnd r (λ e. e ≡ ending_of_stop f) → (f ≡ stop.NoReply → UsesOver x u (WaitsOn x u) s) → (f ≡ stop.SessionLost → UsesOver x u (LosesSession x u) s) → (f ≡ stop.DaemonFull → UsesOver x u (FindsFull x u) s)
+  pub uses_fault : (r : Result (Unit {0}) Ending) (f : Stop) → IsErr r × IsErrAnd r (λ e. e ≡ ending.Stop f) → (f ≡ stop.NoReply → UsesOver x u (WaitsOn x u) s) → (f ≡ stop.SessionLost → UsesOver x u (LosesSession x u) s) → (f ≡ stop.DaemonFull → UsesOver x u (FindsFull x u) s)
       → (f ≡ stop.LinkFault → UsesNoMore x u s) → UsesPart x u s → (f ≡ stop.WriteFault → Rose x.before.write_faults x.now.write_faults) → (f ≡ stop.LinkFault → Rose x.before.link_faults x.now.link_faults)
       → EndsAs r (Some (uses u)) x
-  uses_fault r f is unanswered lost full failing part wrote failed = ended_by r (ending_of_stop f) (λ q. EndsAs q (Some (uses u)) x) is (by f unanswered lost full failing wrote failed)
+  uses_fault r f is unanswered lost full failing part wrote failed = ended_by r (ending.Stop f) (λ q. EndsAs q (Some (uses u)) x) is (by f unanswered lost full failing wrote failed)
     where
       by : (f : Stop) → (f ≡ stop.NoReply → UsesOver x u (WaitsOn x u) s) → (f ≡ stop.SessionLost → UsesOver x u (LosesSession x u) s) → (f ≡ stop.DaemonFull → UsesOver x u (FindsFull x u) s)
           → (f ≡ stop.LinkFault → UsesNoMore x u s) → (f ≡ stop.WriteFault → Rose x.before.write_faults x.now.write_faults) → (f ≡ stop.LinkFault → Rose x.before.link_faults x.now.link_faults)
-          → FailsAs (ending_of_stop f) (Some (uses u)) x
+          → FailsAs (ending.Stop f) (Some (uses u)) x
       by stop.NoMemory unanswered lost full failing wrote failed = inr (used_by (UsesPart x u) part)
       by stop.WriteFault unanswered lost full failing wrote failed = (wrote refl, used_by (UsesPart x u) part)
       by stop.LinkFault unanswered lost full failing wrote failed = (failed refl, used_by (UsesNoMore x u) (failing refl))

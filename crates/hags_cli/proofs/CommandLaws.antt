@@ -22,7 +22,6 @@ use Rattle.link_use.specs.Stops.{StopsDaemon, StopsQuestion}
 use Rattle.hags_cli.specs.declared.daemon_command.Service.{Service}
 use Rattle.hags_cli.specs.declared.ending.Ending.{Ending}
 use Rattle.hags_cli.specs.declared.ending.Ending.TheVariants as ending
-use Rattle.hags_cli.specs.Endings.{ending_of_stop}
 use Rattle.hags_cli.specs.Tasks.{serves, asks, Seen, Untouched, counted, SettingsEnd, incarnation_at, ByClock, Incarnates, Running, Runs, ServesAll, ServesPart, ServesNoMore, AsksBy, AsksOver, GivesNone, AsksNoMore, TellEnds, FailsAs, EndsAs}
 use Rattle.hags_cli.proofs.EndLaws.{ended_by}
 use Rattle.hags_cli.proofs.OutputLaws.{rose_within}
@@ -33,26 +32,26 @@ use Rattle.hags_cli.proofs.TaskLaws.{keeps_same, memory_ends}
 pub serves_settings : (e : Ending) (s : Service) (objects n : ℕ) (x : Seen) → n ≡ counted objects → x.now.held ≡ x.before.held → Untouched x → SettingsEnd s.node (Some n) x.left x.reads x.reads_now e → FailsAs e (Some (serves s objects)) x
 serves_settings ending.Usage s objects n x is still touched h = absurd h
 serves_settings (ending.BadLine line why) s objects n x is still touched h = (subst (λ (k : ℕ). IfSome x.left (λ b. daemon_script s.node (Some k) b ≡ IsNone line why)) is h, keeps_same x still, touched)
-serves_settings ending.NoMemory s objects n x is still touched h = memory_ends (Some (serves s objects)) x still touched
+serves_settings (ending.Stop stop.NoMemory) s objects n x is still touched h = memory_ends (Some (serves s objects)) x still touched
 serves_settings ending.ReadFault s objects n x is still touched h = (h, keeps_same x still, touched)
-serves_settings ending.WriteFault s objects n x is still touched h = absurd h
-serves_settings ending.LinkFault s objects n x is still touched h = absurd h
+serves_settings (ending.Stop stop.WriteFault) s objects n x is still touched h = absurd h
+serves_settings (ending.Stop stop.LinkFault) s objects n x is still touched h = absurd h
 serves_settings ending.TooMuchKept s objects n x is still touched h = absurd h
-serves_settings ending.NoReply s objects n x is still touched h = absurd h
-serves_settings ending.SessionLost s objects n x is still touched h = absurd h
-serves_settings ending.DaemonFull s objects n x is still touched h = absurd h
+serves_settings (ending.Stop stop.NoReply) s objects n x is still touched h = absurd h
+serves_settings (ending.Stop stop.SessionLost) s objects n x is still touched h = absurd h
+serves_settings (ending.Stop stop.DaemonFull) s objects n x is still touched h = absurd h
 
 pub asks_settings : (e : Ending) (a : Asking) (x : Seen) → x.now.held ≡ x.before.held → Untouched x → SettingsEnd a.node None x.left x.reads x.reads_now e → FailsAs e (Some (asks a)) x
 asks_settings ending.Usage a x still touched h = absurd h
 asks_settings (ending.BadLine line why) a x still touched h = (h, keeps_same x still, touched)
-asks_settings ending.NoMemory a x still touched h = keeps_same x still
+asks_settings (ending.Stop stop.NoMemory) a x still touched h = keeps_same x still
 asks_settings ending.ReadFault a x still touched h = (h, keeps_same x still, touched)
-asks_settings ending.WriteFault a x still touched h = absurd h
-asks_settings ending.LinkFault a x still touched h = absurd h
+asks_settings (ending.Stop stop.WriteFault) a x still touched h = absurd h
+asks_settings (ending.Stop stop.LinkFault) a x still touched h = absurd h
 asks_settings ending.TooMuchKept a x still touched h = absurd h
-asks_settings ending.NoReply a x still touched h = absurd h
-asks_settings ending.SessionLost a x still touched h = absurd h
-asks_settings ending.DaemonFull a x still touched h = absurd h
+asks_settings (ending.Stop stop.NoReply) a x still touched h = absurd h
+asks_settings (ending.Stop stop.SessionLost) a x still touched h = absurd h
+asks_settings (ending.Stop stop.DaemonFull) a x still touched h = absurd h
 
 -- ---- a question
 
@@ -71,19 +70,19 @@ told_so : (r : Result (Unit {0}) Ending) (a : Asking) (x : Seen) (s : Script) (t
 told_so (Ok u) a x s text answered spelled end asked kept h = (record { text = text; answered = answered; asked = asked_by x a s _ spelled asked; holds = h }, end)
 told_so (Err ending.Usage) a x s text answered spelled end asked kept h = absurd h
 told_so (Err (ending.BadLine line why)) a x s text answered spelled end asked kept h = absurd h
-told_so (Err ending.NoMemory) a x s text answered spelled end asked kept h = Keeps-trans x.before.held answered.held x.now.held kept h
+told_so (Err (ending.Stop stop.NoMemory)) a x s text answered spelled end asked kept h = Keeps-trans x.before.held answered.held x.now.held kept h
 told_so (Err ending.ReadFault) a x s text answered spelled end asked kept h = absurd h
-told_so (Err ending.WriteFault) a x s text answered spelled end asked kept h = (
+told_so (Err (ending.Stop stop.WriteFault)) a x s text answered spelled end asked kept h = (
   rises_on x.before asked.opened x.now.write_faults _ asked.did
       (rises_on asked.opened asked.holds.sent x.now.write_faults asked.holds.went.deeds asked.holds.went.told
       (rises_on asked.holds.sent answered x.now.write_faults _ asked.holds.then.told (rose_within answered.write_faults x.now.write_faults h.0))),
   record { text = text; answered = answered; asked = asked_by x a s _ spelled asked; holds = h.1 },
 )
-told_so (Err ending.LinkFault) a x s text answered spelled end asked kept h = absurd h
+told_so (Err (ending.Stop stop.LinkFault)) a x s text answered spelled end asked kept h = absurd h
 told_so (Err ending.TooMuchKept) a x s text answered spelled end asked kept h = absurd h
-told_so (Err ending.NoReply) a x s text answered spelled end asked kept h = absurd h
-told_so (Err ending.SessionLost) a x s text answered spelled end asked kept h = absurd h
-told_so (Err ending.DaemonFull) a x s text answered spelled end asked kept h = absurd h
+told_so (Err (ending.Stop stop.NoReply)) a x s text answered spelled end asked kept h = absurd h
+told_so (Err (ending.Stop stop.SessionLost)) a x s text answered spelled end asked kept h = absurd h
+told_so (Err (ending.Stop stop.DaemonFull)) a x s text answered spelled end asked kept h = absurd h
 
 pub asks_answered : (r : Result (Unit {0}) Ending) (a : Asking) (x : Seen) (s : Script) (text told : List ℕ) (answered : Telling) → told ≡ text → IfSome x.left (λ b. daemon_script a.node None b ≡ IsScript s) → IsAtEnd x.rest
     → AsksOver x a (λ question sent. Answered question a.turns nothing_received text sent answered) s.config → IsUnwritten x.before answered
@@ -92,11 +91,11 @@ asks_answered r a x s text told answered same spelled end asked kept h =
     told_so r a x s text answered spelled end asked kept (subst (λ (t : List ℕ). TellEnds r t (min answered.write_faults (2 ^ 64 - 1)) (min x.now.write_faults (2 ^ 64 - 1)) answered.held x.now.held) same h)
 
 -- by whatever fault it was not answered, nothing was written
-pub asks_fault : (a : Asking) (x : Seen) (s : Script) (f : Stop) (e : Ending) → e ≡ ending_of_stop f → StopsQuestion f → IfSome x.left (λ b. daemon_script a.node None b ≡ IsScript s) → IsUnwritten x.before x.now → (f ≡ stop.NoReply → AsksOver x a (GivesNone x a) s.config)
+pub asks_fault : (a : Asking) (x : Seen) (s : Script) (f : Stop) (e : Ending) → e ≡ ending.Stop f → StopsQuestion f → IfSome x.left (λ b. daemon_script a.node None b ≡ IsScript s) → IsUnwritten x.before x.now → (f ≡ stop.NoReply → AsksOver x a (GivesNone x a) s.config)
     → (f ≡ stop.LinkFault → AsksNoMore x a s.config) → (f ≡ stop.LinkFault → Rose x.before.link_faults x.now.link_faults) → FailsAs e (Some (asks a)) x
 asks_fault a x s f e is stops spelled kept unanswered failing failed = subst (λ (z : Ending). FailsAs z (Some (asks a)) x) (sym is) (by f stops unanswered failing failed)
   where
-    by : (f : Stop) → StopsQuestion f → (f ≡ stop.NoReply → AsksOver x a (GivesNone x a) s.config) → (f ≡ stop.LinkFault → AsksNoMore x a s.config) → (f ≡ stop.LinkFault → Rose x.before.link_faults x.now.link_faults) → FailsAs (ending_of_stop f) (Some (asks a)) x
+    by : (f : Stop) → StopsQuestion f → (f ≡ stop.NoReply → AsksOver x a (GivesNone x a) s.config) → (f ≡ stop.LinkFault → AsksNoMore x a s.config) → (f ≡ stop.LinkFault → Rose x.before.link_faults x.now.link_faults) → FailsAs (ending.Stop f) (Some (asks a)) x
     by stop.NoMemory stops unanswered failing failed = kept
     by stop.WriteFault stops unanswered failing failed = absurd stops
     by stop.LinkFault stops unanswered failing failed = (failed refl, (asked_by x a s _ spelled (failing refl), kept))
@@ -130,16 +129,16 @@ module _ (s : Service) (objects n : ℕ) (x : Seen) (script : Script) (incarnati
   serves_done core end h = (runs (ServesAll x s) (record { opened = h.opened; did = h.did; holds = record { core = core; serves = h.holds } }), end)
 
   -- whatever stopped it
-  pub serves_stop : (r : Result (Unit {0}) Ending) (f : Stop) → IsErr r × IsErrAnd r (λ e. e ≡ ending_of_stop f) → StopsDaemon f → (f ≡ stop.NoMemory → OverLink script.config (script.config.port + s.node) start (λ opened. ServesFront script s.node incarnation s.remote s.turns opened x.now))
+  pub serves_stop : (r : Result (Unit {0}) Ending) (f : Stop) → IsErr r × IsErrAnd r (λ e. e ≡ ending.Stop f) → StopsDaemon f → (f ≡ stop.NoMemory → OverLink script.config (script.config.port + s.node) start (λ opened. ServesFront script s.node incarnation s.remote s.turns opened x.now))
       → (f ≡ stop.WriteFault → OverLink script.config (script.config.port + s.node) start (λ opened. ServesFront script s.node incarnation s.remote s.turns opened x.now))
       → (f ≡ stop.LinkFault → OverLinkIf script.config (script.config.port + s.node) start x.now (λ opened. ServesTo script s.node incarnation s.remote s.turns opened x.now)) → (f ≡ stop.WriteFault → Rose start.write_faults x.now.write_faults)
       → (f ≡ stop.LinkFault → Rose start.link_faults x.now.link_faults) → EndsAs r (Some (serves s objects)) x
-  serves_stop r f is stops memory written link wrote failed = ended_by r (ending_of_stop f) (λ q. EndsAs q (Some (serves s objects)) x) is (by f stops memory written link wrote failed)
+  serves_stop r f is stops memory written link wrote failed = ended_by r (ending.Stop f) (λ q. EndsAs q (Some (serves s objects)) x) is (by f stops memory written link wrote failed)
     where
       by : (f : Stop) → StopsDaemon f → (f ≡ stop.NoMemory → OverLink script.config (script.config.port + s.node) start (λ opened. ServesFront script s.node incarnation s.remote s.turns opened x.now))
           → (f ≡ stop.WriteFault → OverLink script.config (script.config.port + s.node) start (λ opened. ServesFront script s.node incarnation s.remote s.turns opened x.now))
           → (f ≡ stop.LinkFault → OverLinkIf script.config (script.config.port + s.node) start x.now (λ opened. ServesTo script s.node incarnation s.remote s.turns opened x.now)) → (f ≡ stop.WriteFault → Rose start.write_faults x.now.write_faults)
-          → (f ≡ stop.LinkFault → Rose start.link_faults x.now.link_faults) → FailsAs (ending_of_stop f) (Some (serves s objects)) x
+          → (f ≡ stop.LinkFault → Rose start.link_faults x.now.link_faults) → FailsAs (ending.Stop f) (Some (serves s objects)) x
       by stop.NoMemory stops memory written link wrote failed = inr (runs (ServesPart x s) (memory refl))
       by stop.WriteFault stops memory written link wrote failed = (written_from s.incarnation x.before start incarnation x.now.write_faults incarnates (wrote refl), runs (ServesPart x s) (written refl))
       by stop.LinkFault stops memory written link wrote failed = (linked_from s.incarnation x.before start incarnation x.now.link_faults incarnates (failed refl), runs (ServesNoMore x s) (link refl))

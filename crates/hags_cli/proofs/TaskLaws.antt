@@ -21,6 +21,7 @@ use Rattle.transcript.specs.declared.kinds.Kinds.{Kinds}
 use Rattle.transcript.specs.Kinds.{kinds_text, all_kinds, kinds_of}
 use Rattle.transcript.proofs.KindLaws.{all_lines, named_lines}
 use Rattle.script_reader.specs.ClientScript.{client_script}
+use Rattle.link_use.specs.declared.stop.Stop.TheVariants as stop
 use Rattle.hags_cli.specs.declared.ending.Ending.{Ending}
 use Rattle.hags_cli.specs.declared.ending.Ending.TheVariants as ending
 use Rattle.hags_cli.specs.Endings.{Says, status_of, said_of, ending_text}
@@ -33,110 +34,110 @@ use Rattle.hags_cli.proofs.OutputLaws.{rose_within}
 status_usage : (e : Ending) → status_of e ≡ 1 → e ≡ ending.Usage
 status_usage ending.Usage h = refl
 status_usage (ending.BadLine n why) h = absurd (omega arith)
-status_usage ending.NoMemory h = absurd (omega arith)
+status_usage (ending.Stop stop.NoMemory) h = absurd (omega arith)
 status_usage ending.ReadFault h = absurd (omega arith)
-status_usage ending.WriteFault h = absurd (omega arith)
-status_usage ending.LinkFault h = absurd (omega arith)
+status_usage (ending.Stop stop.WriteFault) h = absurd (omega arith)
+status_usage (ending.Stop stop.LinkFault) h = absurd (omega arith)
 status_usage ending.TooMuchKept h = absurd (omega arith)
-status_usage ending.NoReply h = absurd (omega arith)
-status_usage ending.SessionLost h = absurd (omega arith)
-status_usage ending.DaemonFull h = absurd (omega arith)
+status_usage (ending.Stop stop.NoReply) h = absurd (omega arith)
+status_usage (ending.Stop stop.SessionLost) h = absurd (omega arith)
+status_usage (ending.Stop stop.DaemonFull) h = absurd (omega arith)
 
-status_no_memory : (e : Ending) → status_of e ≡ 3 → e ≡ ending.NoMemory
+status_no_memory : (e : Ending) → status_of e ≡ 3 → e ≡ ending.Stop stop.NoMemory
 status_no_memory ending.Usage h = absurd (omega arith)
 status_no_memory (ending.BadLine n why) h = absurd (omega arith)
-status_no_memory ending.NoMemory h = refl
+status_no_memory (ending.Stop stop.NoMemory) h = refl
 status_no_memory ending.ReadFault h = absurd (omega arith)
-status_no_memory ending.WriteFault h = absurd (omega arith)
-status_no_memory ending.LinkFault h = absurd (omega arith)
+status_no_memory (ending.Stop stop.WriteFault) h = absurd (omega arith)
+status_no_memory (ending.Stop stop.LinkFault) h = absurd (omega arith)
 status_no_memory ending.TooMuchKept h = absurd (omega arith)
-status_no_memory ending.NoReply h = absurd (omega arith)
-status_no_memory ending.SessionLost h = absurd (omega arith)
-status_no_memory ending.DaemonFull h = absurd (omega arith)
+status_no_memory (ending.Stop stop.NoReply) h = absurd (omega arith)
+status_no_memory (ending.Stop stop.SessionLost) h = absurd (omega arith)
+status_no_memory (ending.Stop stop.DaemonFull) h = absurd (omega arith)
 
 status_read_fault : (e : Ending) → status_of e ≡ 4 → e ≡ ending.ReadFault
 status_read_fault ending.Usage h = absurd (omega arith)
 status_read_fault (ending.BadLine n why) h = absurd (omega arith)
-status_read_fault ending.NoMemory h = absurd (omega arith)
+status_read_fault (ending.Stop stop.NoMemory) h = absurd (omega arith)
 status_read_fault ending.ReadFault h = refl
-status_read_fault ending.WriteFault h = absurd (omega arith)
-status_read_fault ending.LinkFault h = absurd (omega arith)
+status_read_fault (ending.Stop stop.WriteFault) h = absurd (omega arith)
+status_read_fault (ending.Stop stop.LinkFault) h = absurd (omega arith)
 status_read_fault ending.TooMuchKept h = absurd (omega arith)
-status_read_fault ending.NoReply h = absurd (omega arith)
-status_read_fault ending.SessionLost h = absurd (omega arith)
-status_read_fault ending.DaemonFull h = absurd (omega arith)
+status_read_fault (ending.Stop stop.NoReply) h = absurd (omega arith)
+status_read_fault (ending.Stop stop.SessionLost) h = absurd (omega arith)
+status_read_fault (ending.Stop stop.DaemonFull) h = absurd (omega arith)
 
-status_write_fault : (e : Ending) → status_of e ≡ 5 → e ≡ ending.WriteFault
+status_write_fault : (e : Ending) → status_of e ≡ 5 → e ≡ ending.Stop stop.WriteFault
 status_write_fault ending.Usage h = absurd (omega arith)
 status_write_fault (ending.BadLine n why) h = absurd (omega arith)
-status_write_fault ending.NoMemory h = absurd (omega arith)
+status_write_fault (ending.Stop stop.NoMemory) h = absurd (omega arith)
 status_write_fault ending.ReadFault h = absurd (omega arith)
-status_write_fault ending.WriteFault h = refl
-status_write_fault ending.LinkFault h = absurd (omega arith)
+status_write_fault (ending.Stop stop.WriteFault) h = refl
+status_write_fault (ending.Stop stop.LinkFault) h = absurd (omega arith)
 status_write_fault ending.TooMuchKept h = absurd (omega arith)
-status_write_fault ending.NoReply h = absurd (omega arith)
-status_write_fault ending.SessionLost h = absurd (omega arith)
-status_write_fault ending.DaemonFull h = absurd (omega arith)
+status_write_fault (ending.Stop stop.NoReply) h = absurd (omega arith)
+status_write_fault (ending.Stop stop.SessionLost) h = absurd (omega arith)
+status_write_fault (ending.Stop stop.DaemonFull) h = absurd (omega arith)
 
-status_link_fault : (e : Ending) → status_of e ≡ 6 → e ≡ ending.LinkFault
+status_link_fault : (e : Ending) → status_of e ≡ 6 → e ≡ ending.Stop stop.LinkFault
 status_link_fault ending.Usage h = absurd (omega arith)
 status_link_fault (ending.BadLine n why) h = absurd (omega arith)
-status_link_fault ending.NoMemory h = absurd (omega arith)
+status_link_fault (ending.Stop stop.NoMemory) h = absurd (omega arith)
 status_link_fault ending.ReadFault h = absurd (omega arith)
-status_link_fault ending.WriteFault h = absurd (omega arith)
-status_link_fault ending.LinkFault h = refl
+status_link_fault (ending.Stop stop.WriteFault) h = absurd (omega arith)
+status_link_fault (ending.Stop stop.LinkFault) h = refl
 status_link_fault ending.TooMuchKept h = absurd (omega arith)
-status_link_fault ending.NoReply h = absurd (omega arith)
-status_link_fault ending.SessionLost h = absurd (omega arith)
-status_link_fault ending.DaemonFull h = absurd (omega arith)
+status_link_fault (ending.Stop stop.NoReply) h = absurd (omega arith)
+status_link_fault (ending.Stop stop.SessionLost) h = absurd (omega arith)
+status_link_fault (ending.Stop stop.DaemonFull) h = absurd (omega arith)
 
 status_too_much_kept : (e : Ending) → status_of e ≡ 7 → e ≡ ending.TooMuchKept
 status_too_much_kept ending.Usage h = absurd (omega arith)
 status_too_much_kept (ending.BadLine n why) h = absurd (omega arith)
-status_too_much_kept ending.NoMemory h = absurd (omega arith)
+status_too_much_kept (ending.Stop stop.NoMemory) h = absurd (omega arith)
 status_too_much_kept ending.ReadFault h = absurd (omega arith)
-status_too_much_kept ending.WriteFault h = absurd (omega arith)
-status_too_much_kept ending.LinkFault h = absurd (omega arith)
+status_too_much_kept (ending.Stop stop.WriteFault) h = absurd (omega arith)
+status_too_much_kept (ending.Stop stop.LinkFault) h = absurd (omega arith)
 status_too_much_kept ending.TooMuchKept h = refl
-status_too_much_kept ending.NoReply h = absurd (omega arith)
-status_too_much_kept ending.SessionLost h = absurd (omega arith)
-status_too_much_kept ending.DaemonFull h = absurd (omega arith)
+status_too_much_kept (ending.Stop stop.NoReply) h = absurd (omega arith)
+status_too_much_kept (ending.Stop stop.SessionLost) h = absurd (omega arith)
+status_too_much_kept (ending.Stop stop.DaemonFull) h = absurd (omega arith)
 
-status_no_reply : (e : Ending) → status_of e ≡ 9 → e ≡ ending.NoReply
+status_no_reply : (e : Ending) → status_of e ≡ 9 → e ≡ ending.Stop stop.NoReply
 status_no_reply ending.Usage h = absurd (omega arith)
 status_no_reply (ending.BadLine n why) h = absurd (omega arith)
-status_no_reply ending.NoMemory h = absurd (omega arith)
+status_no_reply (ending.Stop stop.NoMemory) h = absurd (omega arith)
 status_no_reply ending.ReadFault h = absurd (omega arith)
-status_no_reply ending.WriteFault h = absurd (omega arith)
-status_no_reply ending.LinkFault h = absurd (omega arith)
+status_no_reply (ending.Stop stop.WriteFault) h = absurd (omega arith)
+status_no_reply (ending.Stop stop.LinkFault) h = absurd (omega arith)
 status_no_reply ending.TooMuchKept h = absurd (omega arith)
-status_no_reply ending.NoReply h = refl
-status_no_reply ending.SessionLost h = absurd (omega arith)
-status_no_reply ending.DaemonFull h = absurd (omega arith)
+status_no_reply (ending.Stop stop.NoReply) h = refl
+status_no_reply (ending.Stop stop.SessionLost) h = absurd (omega arith)
+status_no_reply (ending.Stop stop.DaemonFull) h = absurd (omega arith)
 
-status_lost : (e : Ending) → status_of e ≡ 10 → e ≡ ending.SessionLost
+status_lost : (e : Ending) → status_of e ≡ 10 → e ≡ ending.Stop stop.SessionLost
 status_lost ending.Usage h = absurd (omega arith)
 status_lost (ending.BadLine n why) h = absurd (omega arith)
-status_lost ending.NoMemory h = absurd (omega arith)
+status_lost (ending.Stop stop.NoMemory) h = absurd (omega arith)
 status_lost ending.ReadFault h = absurd (omega arith)
-status_lost ending.WriteFault h = absurd (omega arith)
-status_lost ending.LinkFault h = absurd (omega arith)
+status_lost (ending.Stop stop.WriteFault) h = absurd (omega arith)
+status_lost (ending.Stop stop.LinkFault) h = absurd (omega arith)
 status_lost ending.TooMuchKept h = absurd (omega arith)
-status_lost ending.NoReply h = absurd (omega arith)
-status_lost ending.SessionLost h = refl
-status_lost ending.DaemonFull h = absurd (omega arith)
+status_lost (ending.Stop stop.NoReply) h = absurd (omega arith)
+status_lost (ending.Stop stop.SessionLost) h = refl
+status_lost (ending.Stop stop.DaemonFull) h = absurd (omega arith)
 
-status_full : (e : Ending) → status_of e ≡ 11 → e ≡ ending.DaemonFull
+status_full : (e : Ending) → status_of e ≡ 11 → e ≡ ending.Stop stop.DaemonFull
 status_full ending.Usage h = absurd (omega arith)
 status_full (ending.BadLine n why) h = absurd (omega arith)
-status_full ending.NoMemory h = absurd (omega arith)
+status_full (ending.Stop stop.NoMemory) h = absurd (omega arith)
 status_full ending.ReadFault h = absurd (omega arith)
-status_full ending.WriteFault h = absurd (omega arith)
-status_full ending.LinkFault h = absurd (omega arith)
+status_full (ending.Stop stop.WriteFault) h = absurd (omega arith)
+status_full (ending.Stop stop.LinkFault) h = absurd (omega arith)
 status_full ending.TooMuchKept h = absurd (omega arith)
-status_full ending.NoReply h = absurd (omega arith)
-status_full ending.SessionLost h = absurd (omega arith)
-status_full ending.DaemonFull h = refl
+status_full (ending.Stop stop.NoReply) h = absurd (omega arith)
+status_full (ending.Stop stop.SessionLost) h = absurd (omega arith)
+status_full (ending.Stop stop.DaemonFull) h = refl
 
 -- ---- what each status says
 
@@ -159,14 +160,14 @@ outside_as (Some (uses u)) n why x h = (outside (uses u) x.left n why h.0, h.1, 
 ended_outside : (e : Ending) (t : Option Task) (x : Seen) → FailsAs e t x → status_of e ≡ 2 → Asks t (OutsideAs x)
 ended_outside ending.Usage t x h s = absurd (omega arith)
 ended_outside (ending.BadLine n why) t x h s = outside_as t n why x h
-ended_outside ending.NoMemory t x h s = absurd (omega arith)
+ended_outside (ending.Stop stop.NoMemory) t x h s = absurd (omega arith)
 ended_outside ending.ReadFault t x h s = absurd (omega arith)
-ended_outside ending.WriteFault t x h s = absurd (omega arith)
-ended_outside ending.LinkFault t x h s = absurd (omega arith)
+ended_outside (ending.Stop stop.WriteFault) t x h s = absurd (omega arith)
+ended_outside (ending.Stop stop.LinkFault) t x h s = absurd (omega arith)
 ended_outside ending.TooMuchKept t x h s = absurd (omega arith)
-ended_outside ending.NoReply t x h s = absurd (omega arith)
-ended_outside ending.SessionLost t x h s = absurd (omega arith)
-ended_outside ending.DaemonFull t x h s = absurd (omega arith)
+ended_outside (ending.Stop stop.NoReply) t x h s = absurd (omega arith)
+ended_outside (ending.Stop stop.SessionLost) t x h s = absurd (omega arith)
+ended_outside (ending.Stop stop.DaemonFull) t x h s = absurd (omega arith)
 
 -- words that ask for nothing
 ended_words : (e : Ending) (t : Option Task) (x : Seen) → FailsAs e t x → t ≡ None → (status_of e ≡ 1) ⊎ (status_of e ≡ 3)
@@ -175,26 +176,26 @@ ended_words e t x h none = by e (subst (λ (z : Option Task). FailsAs e z x) non
     by : (e : Ending) → FailsAs e None x → (status_of e ≡ 1) ⊎ (status_of e ≡ 3)
     by ending.Usage h = inl refl
     by (ending.BadLine n why) h = absurd h
-    by ending.NoMemory h = inr refl
+    by (ending.Stop stop.NoMemory) h = inr refl
     by ending.ReadFault h = absurd h
-    by ending.WriteFault h = absurd h.1
-    by ending.LinkFault h = absurd h.1
+    by (ending.Stop stop.WriteFault) h = absurd h.1
+    by (ending.Stop stop.LinkFault) h = absurd h.1
     by ending.TooMuchKept h = absurd h
-    by ending.NoReply h = absurd h
-    by ending.SessionLost h = absurd h
-    by ending.DaemonFull h = absurd h
+    by (ending.Stop stop.NoReply) h = absurd h
+    by (ending.Stop stop.SessionLost) h = absurd h
+    by (ending.Stop stop.DaemonFull) h = absurd h
 
 status_known : (e : Ending) → (status_of e ≤ 7) ⊎ ((9 ≤ status_of e) × (status_of e ≤ 11))
 status_known ending.Usage = inl (omega arith)
 status_known (ending.BadLine n why) = inl (omega arith)
-status_known ending.NoMemory = inl (omega arith)
+status_known (ending.Stop stop.NoMemory) = inl (omega arith)
 status_known ending.ReadFault = inl (omega arith)
-status_known ending.WriteFault = inl (omega arith)
-status_known ending.LinkFault = inl (omega arith)
+status_known (ending.Stop stop.WriteFault) = inl (omega arith)
+status_known (ending.Stop stop.LinkFault) = inl (omega arith)
 status_known ending.TooMuchKept = inl (omega arith)
-status_known ending.NoReply = inr (omega arith, omega arith)
-status_known ending.SessionLost = inr (omega arith, omega arith)
-status_known ending.DaemonFull = inr (omega arith, omega arith)
+status_known (ending.Stop stop.NoReply) = inr (omega arith, omega arith)
+status_known (ending.Stop stop.SessionLost) = inr (omega arith, omega arith)
+status_known (ending.Stop stop.DaemonFull) = inr (omega arith, omega arith)
 
 -- ---- where nothing fails
 
@@ -236,28 +237,28 @@ ended_complete : (e : Ending) (t : Option Task) (x : Seen) → FailsAs e t x →
     → (status_of e ≡ 0) ⊎ ((status_of e ≡ 3) ⊎ (status_of e ≡ 7))
 ended_complete ending.Usage t x h can r w l n gone full = absurd (asks_nothing t (CanBeDone x) h.0 can)
 ended_complete (ending.BadLine line why) t x h can r w l n gone full = absurd (outside_cannot t line why x h can)
-ended_complete ending.NoMemory t x h can r w l n gone full = inr (inl refl)
+ended_complete (ending.Stop stop.NoMemory) t x h can r w l n gone full = inr (inl refl)
 ended_complete ending.ReadFault t x h can r w l n gone full = absurd (r (read_rose t x h))
-ended_complete ending.WriteFault t x h can r w l n gone full = absurd (w h.0)
-ended_complete ending.LinkFault t x h can r w l n gone full = absurd (l h.1)
+ended_complete (ending.Stop stop.WriteFault) t x h can r w l n gone full = absurd (w h.0)
+ended_complete (ending.Stop stop.LinkFault) t x h can r w l n gone full = absurd (l h.1)
 ended_complete ending.TooMuchKept t x h can r w l n gone full = inr (inr refl)
-ended_complete ending.NoReply t x h can r w l n gone full = absurd (n h)
-ended_complete ending.SessionLost t x h can r w l n gone full = absurd (gone h)
-ended_complete ending.DaemonFull t x h can r w l n gone full = absurd (full h)
+ended_complete (ending.Stop stop.NoReply) t x h can r w l n gone full = absurd (n h)
+ended_complete (ending.Stop stop.SessionLost) t x h can r w l n gone full = absurd (gone h)
+ended_complete (ending.Stop stop.DaemonFull) t x h can r w l n gone full = absurd (full h)
 
 -- ---- all of it
 
 never_done : (e : Ending) → status_of e ≡ 0 → ⊥
 never_done ending.Usage h = omega arith
 never_done (ending.BadLine n why) h = omega arith
-never_done ending.NoMemory h = omega arith
+never_done (ending.Stop stop.NoMemory) h = omega arith
 never_done ending.ReadFault h = omega arith
-never_done ending.WriteFault h = omega arith
-never_done ending.LinkFault h = omega arith
+never_done (ending.Stop stop.WriteFault) h = omega arith
+never_done (ending.Stop stop.LinkFault) h = omega arith
 never_done ending.TooMuchKept h = omega arith
-never_done ending.NoReply h = omega arith
-never_done ending.SessionLost h = omega arith
-never_done ending.DaemonFull h = omega arith
+never_done (ending.Stop stop.NoReply) h = omega arith
+never_done (ending.Stop stop.SessionLost) h = omega arith
+never_done (ending.Stop stop.DaemonFull) h = omega arith
 
 failed_so : (e : Ending) (t : Option Task) (x : Seen) → FailsAs e t x → Ended (status_of e) t x
 failed_so e t x h = record {
@@ -265,14 +266,14 @@ failed_so e t x h = record {
   words = ended_words e t x h;
   done = λ s. absurd (never_done e s);
   outside = ended_outside e t x h;
-  memory = λ s. ended_as e ending.NoMemory t x (status_no_memory e s) h;
+  memory = λ s. ended_as e (ending.Stop stop.NoMemory) t x (status_no_memory e s) h;
   read = λ s. ended_as e ending.ReadFault t x (status_read_fault e s) h;
-  write = λ s. ended_as e ending.WriteFault t x (status_write_fault e s) h;
-  link = λ s. ended_as e ending.LinkFault t x (status_link_fault e s) h;
+  write = λ s. ended_as e (ending.Stop stop.WriteFault) t x (status_write_fault e s) h;
+  link = λ s. ended_as e (ending.Stop stop.LinkFault) t x (status_link_fault e s) h;
   past = λ s. ended_as e ending.TooMuchKept t x (status_too_much_kept e s) h;
-  no_reply = λ s. ended_as e ending.NoReply t x (status_no_reply e s) h;
-  lost = λ s. ended_as e ending.SessionLost t x (status_lost e s) h;
-  full = λ s. ended_as e ending.DaemonFull t x (status_full e s) h;
+  no_reply = λ s. ended_as e (ending.Stop stop.NoReply) t x (status_no_reply e s) h;
+  lost = λ s. ended_as e (ending.Stop stop.SessionLost) t x (status_lost e s) h;
+  full = λ s. ended_as e (ending.Stop stop.DaemonFull) t x (status_full e s) h;
   no_other = status_known e;
   complete = ended_complete e t x h;
 }
@@ -321,14 +322,14 @@ says_bad_line e n why text faults later old new is line g =
 said_as : (e : Ending) → (status_of e ≡ 2 → ⊥) → ending_text e ≡ said_of (status_of e)
 said_as ending.Usage other = refl
 said_as (ending.BadLine line why) other = absurd (other refl)
-said_as ending.NoMemory other = refl
+said_as (ending.Stop stop.NoMemory) other = refl
 said_as ending.ReadFault other = refl
-said_as ending.WriteFault other = refl
-said_as ending.LinkFault other = refl
+said_as (ending.Stop stop.WriteFault) other = refl
+said_as (ending.Stop stop.LinkFault) other = refl
 said_as ending.TooMuchKept other = refl
-said_as ending.NoReply other = refl
-said_as ending.SessionLost other = refl
-said_as ending.DaemonFull other = refl
+said_as (ending.Stop stop.NoReply) other = refl
+said_as (ending.Stop stop.SessionLost) other = refl
+said_as (ending.Stop stop.DaemonFull) other = refl
 
 pub says_said : (e : Ending) (n faults later : ℕ) (old new : Option (List ℕ)) → n ≡ status_of e → n ≢ 2 → Says faults later old new (ending_text e) → Says faults later old new (said_of n)
 says_said e n faults later old new is other g =
@@ -346,14 +347,14 @@ line_fault (Some (uses u)) n why x h = h.0
 says_line_of : (e : Ending) (t : Option Task) (x : Seen) (faults later : ℕ) (before after : Option (List ℕ)) → FailsAs e t x → Says faults later before after (ending_text e) → status_of e ≡ 2 → SaysLine t x.left faults later before after
 says_line_of ending.Usage t x faults later before after p g h = absurd (omega arith)
 says_line_of (ending.BadLine n why) t x faults later before after p g h = record { line = n; why = why; fault = line_fault t n why x p; said = g }
-says_line_of ending.NoMemory t x faults later before after p g h = absurd (omega arith)
+says_line_of (ending.Stop stop.NoMemory) t x faults later before after p g h = absurd (omega arith)
 says_line_of ending.ReadFault t x faults later before after p g h = absurd (omega arith)
-says_line_of ending.WriteFault t x faults later before after p g h = absurd (omega arith)
-says_line_of ending.LinkFault t x faults later before after p g h = absurd (omega arith)
+says_line_of (ending.Stop stop.WriteFault) t x faults later before after p g h = absurd (omega arith)
+says_line_of (ending.Stop stop.LinkFault) t x faults later before after p g h = absurd (omega arith)
 says_line_of ending.TooMuchKept t x faults later before after p g h = absurd (omega arith)
-says_line_of ending.NoReply t x faults later before after p g h = absurd (omega arith)
-says_line_of ending.SessionLost t x faults later before after p g h = absurd (omega arith)
-says_line_of ending.DaemonFull t x faults later before after p g h = absurd (omega arith)
+says_line_of (ending.Stop stop.NoReply) t x faults later before after p g h = absurd (omega arith)
+says_line_of (ending.Stop stop.SessionLost) t x faults later before after p g h = absurd (omega arith)
+says_line_of (ending.Stop stop.DaemonFull) t x faults later before after p g h = absurd (omega arith)
 
 pub says_line : (e : Ending) (n : ℕ) (t : Option Task) (x : Seen) (faults later : ℕ) (before after : Option (List ℕ)) → n ≡ status_of e → FailsAs e t x → Says faults later before after (ending_text e) → n ≡ 2 → SaysLine t x.left faults later before after
 says_line e n t x faults later before after is p g h = says_line_of e t x faults later before after p g (sym is ∙ h)
@@ -425,14 +426,14 @@ run_so : (k : Kinds) (list : List ℕ) → ((rs : List Happened) → kinds_text 
 run_so k list same (Ok u) x still as_was h = (all_as (kinds_text k) (shown_of list) same x.left x.before.held x.now.held h.0, h.1)
 run_so k list same (Err ending.Usage) x still as_was h = absurd h
 run_so k list same (Err (ending.BadLine n why)) x still as_was h = (h.0, keeps_same x (ap (λ (t : Telling). t.held) (as_was h.1)), same_untouched x (as_was h.1))
-run_so k list same (Err ending.NoMemory) x still as_was h = may_as (kinds_text k) (shown_of list) same x.left x.before.held x.now.held h
+run_so k list same (Err (ending.Stop stop.NoMemory)) x still as_was h = may_as (kinds_text k) (shown_of list) same x.left x.before.held x.now.held h
 run_so k list same (Err ending.ReadFault) x still as_was h = (h.0, keeps_same x (ap (λ (t : Telling). t.held) (as_was h.1)), same_untouched x (as_was h.1))
-run_so k list same (Err ending.WriteFault) x still as_was h = (rose_within x.before.write_faults x.now.write_faults h.0, front_as (kinds_text k) (shown_of list) same x.left x.before.held x.now.held h.1)
-run_so k list same (Err ending.LinkFault) x still as_was h = absurd h
+run_so k list same (Err (ending.Stop stop.WriteFault)) x still as_was h = (rose_within x.before.write_faults x.now.write_faults h.0, front_as (kinds_text k) (shown_of list) same x.left x.before.held x.now.held h.1)
+run_so k list same (Err (ending.Stop stop.LinkFault)) x still as_was h = absurd h
 run_so k list same (Err ending.TooMuchKept) x still as_was h = past_as (kinds_text k) (shown_of list) same x.left x.before.held x.now.held h
-run_so k list same (Err ending.NoReply) x still as_was h = absurd h
-run_so k list same (Err ending.SessionLost) x still as_was h = absurd h
-run_so k list same (Err ending.DaemonFull) x still as_was h = absurd h
+run_so k list same (Err (ending.Stop stop.NoReply)) x still as_was h = absurd h
+run_so k list same (Err (ending.Stop stop.SessionLost)) x still as_was h = absurd h
+run_so k list same (Err (ending.Stop stop.DaemonFull)) x still as_was h = absurd h
 
 pub run_ends : (objects : ℕ) (c : Option Command) (list : Option (List ℕ)) (k : Kinds) (r : Result (Unit {0}) Ending) (x : Seen) (still : Type 0) → c ≡ Some (command.Run list) → Shows k list → played_as list ≡ Some (plays (list_in list)) → (still → x.now ≡ x.before)
     → RunEnds r (kinds_text k) x.left x.rest (Rose x.reads x.reads_now) (Rose (min x.before.write_faults (2 ^ 64 - 1)) (min x.now.write_faults (2 ^ 64 - 1))) still x.before.held x.now.held → EndsAs r (task_asked objects c) x
@@ -443,27 +444,27 @@ pub load_ends : (r : Result (Unit {0}) Ending) (steps : ℕ) (x : Seen) → x.re
 load_ends (Ok u) steps x still h = (h, still)
 load_ends (Err ending.Usage) steps x still h = absurd h
 load_ends (Err (ending.BadLine n why)) steps x still h = absurd h
-load_ends (Err ending.NoMemory) steps x still h = h.written
+load_ends (Err (ending.Stop stop.NoMemory)) steps x still h = h.written
 load_ends (Err ending.ReadFault) steps x still h = absurd h
-load_ends (Err ending.WriteFault) steps x still h = (rose_within x.before.write_faults x.now.write_faults h.0, h.1)
-load_ends (Err ending.LinkFault) steps x still h = absurd h
+load_ends (Err (ending.Stop stop.WriteFault)) steps x still h = (rose_within x.before.write_faults x.now.write_faults h.0, h.1)
+load_ends (Err (ending.Stop stop.LinkFault)) steps x still h = absurd h
 load_ends (Err ending.TooMuchKept) steps x still h = h
-load_ends (Err ending.NoReply) steps x still h = absurd h
-load_ends (Err ending.SessionLost) steps x still h = absurd h
-load_ends (Err ending.DaemonFull) steps x still h = absurd h
+load_ends (Err (ending.Stop stop.NoReply)) steps x still h = absurd h
+load_ends (Err (ending.Stop stop.SessionLost)) steps x still h = absurd h
+load_ends (Err (ending.Stop stop.DaemonFull)) steps x still h = absurd h
 
 tells_so : (r : Result (Unit {0}) Ending) (text : List ℕ) (x : Seen) → x.rest ≡ x.left → TellEnds r text (min x.before.write_faults (2 ^ 64 - 1)) (min x.now.write_faults (2 ^ 64 - 1)) x.before.held x.now.held → EndsAs r (Some (tells text)) x
 tells_so (Ok u) text x still h = (h, still)
 tells_so (Err ending.Usage) text x still h = absurd h
 tells_so (Err (ending.BadLine n why)) text x still h = absurd h
-tells_so (Err ending.NoMemory) text x still h = h
+tells_so (Err (ending.Stop stop.NoMemory)) text x still h = h
 tells_so (Err ending.ReadFault) text x still h = absurd h
-tells_so (Err ending.WriteFault) text x still h = (rose_within x.before.write_faults x.now.write_faults h.0, h.1)
-tells_so (Err ending.LinkFault) text x still h = absurd h
+tells_so (Err (ending.Stop stop.WriteFault)) text x still h = (rose_within x.before.write_faults x.now.write_faults h.0, h.1)
+tells_so (Err (ending.Stop stop.LinkFault)) text x still h = absurd h
 tells_so (Err ending.TooMuchKept) text x still h = absurd h
-tells_so (Err ending.NoReply) text x still h = absurd h
-tells_so (Err ending.SessionLost) text x still h = absurd h
-tells_so (Err ending.DaemonFull) text x still h = absurd h
+tells_so (Err (ending.Stop stop.NoReply)) text x still h = absurd h
+tells_so (Err (ending.Stop stop.SessionLost)) text x still h = absurd h
+tells_so (Err (ending.Stop stop.DaemonFull)) text x still h = absurd h
 
 pub tell_ends : (r : Result (Unit {0}) Ending) (text wanted : List ℕ) (x : Seen) → text ≡ wanted → x.rest ≡ x.left → TellEnds r text (min x.before.write_faults (2 ^ 64 - 1)) (min x.now.write_faults (2 ^ 64 - 1)) x.before.held x.now.held → EndsAs r (Some (tells wanted)) x
 tell_ends r text wanted x is still h = subst (λ (t : List ℕ). EndsAs r (Some (tells t)) x) is (tells_so r text x still h)
@@ -473,7 +474,7 @@ nothing_played list None held now kept = tt
 nothing_played list (Some b) held now kept = inl kept
 
 -- before anything was done
-pub memory_ends : (t : Option Task) (x : Seen) → x.now.held ≡ x.before.held → Untouched x → FailsAs ending.NoMemory t x
+pub memory_ends : (t : Option Task) (x : Seen) → x.now.held ≡ x.before.held → Untouched x → FailsAs (ending.Stop stop.NoMemory) t x
 memory_ends None x still touched = keeps_same x still
 memory_ends (Some (plays list)) x still touched = nothing_played list x.left x.before.held x.now.held (keeps_same x still)
 memory_ends (Some (loads steps)) x still touched = none_grew x.before.held x.now.held _ (keeps_same x still)

@@ -8,7 +8,6 @@ use Rattle.play_state.specs.declared.play_fault.PlayFault.{PlayFault}
 use Rattle.play_state.specs.declared.play_fault.PlayFault.TheVariants as play_fault
 use Rattle.script_reader.specs.declared.faults.ScriptFault.{ScriptFault}
 use Rattle.script_reader.specs.declared.faults.ScriptFault.TheVariants as script_fault
-use Rattle.link_use.specs.declared.stop.Stop.{Stop}
 use Rattle.link_use.specs.declared.stop.Stop.TheVariants as stop
 use Rattle.hags_cli.specs.declared.ending.Ending.{Ending}
 use Rattle.hags_cli.specs.declared.ending.Ending.TheVariants as ending
@@ -19,38 +18,30 @@ use Rattle.hags_cli.specs.declared.input.InputFault.TheVariants as input_fault
 
 abbrev pub ending_of_input : InputFault → Ending
 ending_of_input input_fault.ReadFault = ending.ReadFault
-ending_of_input input_fault.NoMemory = ending.NoMemory
+ending_of_input input_fault.NoMemory = ending.Stop stop.NoMemory
 
 abbrev pub ending_of_script : ScriptFault → Ending
 ending_of_script (script_fault.Line number why) = ending.BadLine number why
-ending_of_script script_fault.NoMemory = ending.NoMemory
+ending_of_script script_fault.NoMemory = ending.Stop stop.NoMemory
 
 abbrev pub ending_of_play : PlayFault → Ending
 ending_of_play (play_fault.Kept sum) = ending.TooMuchKept
-ending_of_play play_fault.WriteFault = ending.WriteFault
-ending_of_play play_fault.NoMemory = ending.NoMemory
-
-abbrev pub ending_of_stop : Stop → Ending
-ending_of_stop stop.NoMemory = ending.NoMemory
-ending_of_stop stop.WriteFault = ending.WriteFault
-ending_of_stop stop.LinkFault = ending.LinkFault
-ending_of_stop stop.NoReply = ending.NoReply
-ending_of_stop stop.SessionLost = ending.SessionLost
-ending_of_stop stop.DaemonFull = ending.DaemonFull
+ending_of_play play_fault.WriteFault = ending.Stop stop.WriteFault
+ending_of_play play_fault.NoMemory = ending.Stop stop.NoMemory
 
 -- ---- the status, and what is said
 
 abbrev pub status_of : Ending → ℕ
 status_of ending.Usage = 1
 status_of (ending.BadLine n why) = 2
-status_of ending.NoMemory = 3
+status_of (ending.Stop stop.NoMemory) = 3
 status_of ending.ReadFault = 4
-status_of ending.WriteFault = 5
-status_of ending.LinkFault = 6
+status_of (ending.Stop stop.WriteFault) = 5
+status_of (ending.Stop stop.LinkFault) = 6
 status_of ending.TooMuchKept = 7
-status_of ending.NoReply = 9
-status_of ending.SessionLost = 10
-status_of ending.DaemonFull = 11
+status_of (ending.Stop stop.NoReply) = 9
+status_of (ending.Stop stop.SessionLost) = 10
+status_of (ending.Stop stop.DaemonFull) = 11
 
 -- the whole text was said; or nothing, where there was no memory for it; or a front of it, where the sink failed
 abbrev pub Says : ℕ → ℕ → Option (List ℕ) → Option (List ℕ) → List ℕ → Type 0

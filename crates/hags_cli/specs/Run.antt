@@ -10,6 +10,7 @@ use Rattle.script_reader.specs.ClientScript.{lines_for}
 use Rattle.world_model.specs.Play.{script_records}
 use Rattle.world_model.specs.Kept.{kept_past, kept_records, most_kept}
 use Rattle.net_script.specs.PlaySafe.{ScriptIsSafe, KeptRunIsSafe}
+use Rattle.link_use.specs.declared.stop.Stop.TheVariants as stop
 use Rattle.hags_cli.specs.declared.ending.Ending.{Ending}
 use Rattle.hags_cli.specs.declared.ending.Ending.TheVariants as ending
 use Rattle.hags_cli.specs.declared.input.InputFault.{InputFault}
@@ -64,8 +65,8 @@ InputFails reads reads_now input_fault.NoMemory = Unit {0}
 abbrev pub RunEnds : Result (Unit {0}) Ending → (List Happened → List ℕ) → (left rest : Option (List ℕ)) → (read_failed write_failed still : Type 0) → (old new : Option (List ℕ)) → Type 0
 RunEnds (Ok u) shown left rest read_failed write_failed still old new = IfSome left (PlaysAll shown old new) × IsAtEnd rest
 RunEnds (Err (ending.BadLine n why)) shown left rest read_failed write_failed still old new = IfSome left (λ b. script_of b ≡ IsNone n why) × still
-RunEnds (Err ending.NoMemory) shown left rest read_failed write_failed still old new = IfSome left (MayHavePlayed shown old new)
+RunEnds (Err (ending.Stop stop.NoMemory)) shown left rest read_failed write_failed still old new = IfSome left (MayHavePlayed shown old new)
 RunEnds (Err ending.ReadFault) shown left rest read_failed write_failed still old new = read_failed × still
-RunEnds (Err ending.WriteFault) shown left rest read_failed write_failed still old new = write_failed × IfSome left (PlaysFront shown old new)
+RunEnds (Err (ending.Stop stop.WriteFault)) shown left rest read_failed write_failed still old new = write_failed × IfSome left (PlaysFront shown old new)
 RunEnds (Err ending.TooMuchKept) shown left rest read_failed write_failed still old new = IfSome left (PlaysPast shown old new)
 RunEnds (Err e) shown left rest read_failed write_failed still old new = ⊥

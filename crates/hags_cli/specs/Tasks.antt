@@ -33,6 +33,7 @@ use Rattle.hags_words.specs.declared.command.Command.TheVariants as command
 use Rattle.hags_words.specs.declared.help.TheConstants.{VERSION}
 use Rattle.hags_words.specs.Commands.{command_of}
 use Rattle.hags_words.specs.Help.{help_of}
+use Rattle.link_use.specs.declared.stop.Stop.TheVariants as stop
 use Rattle.hags_cli.specs.declared.daemon_command.Service.{Service}
 use Rattle.hags_cli.specs.declared.edges.Edges.{Edges}
 use Rattle.hags_cli.specs.declared.ending.Ending.{Ending}
@@ -146,8 +147,8 @@ pub record LoadsFront (steps : ℕ) (old new : Option (List ℕ)) : Type 0 where
 
 abbrev pub LoadEnds : Result (Unit {0}) Ending → ℕ → ℕ → ℕ → Option (List ℕ) → Option (List ℕ) → Type 0
 LoadEnds (Ok u) steps faults later old new = LoadsAll steps old new
-LoadEnds (Err ending.NoMemory) steps faults later old new = LoadsFront steps old new
-LoadEnds (Err ending.WriteFault) steps faults later old new = Rose faults later × LoadsFront steps old new
+LoadEnds (Err (ending.Stop stop.NoMemory)) steps faults later old new = LoadsFront steps old new
+LoadEnds (Err (ending.Stop stop.WriteFault)) steps faults later old new = Rose faults later × LoadsFront steps old new
 LoadEnds (Err ending.TooMuchKept) steps faults later old new = LoadsPast steps old new
 LoadEnds (Err e) steps faults later old new = ⊥
 
@@ -155,8 +156,8 @@ LoadEnds (Err e) steps faults later old new = ⊥
 
 abbrev pub TellEnds : Result (Unit {0}) Ending → List ℕ → ℕ → ℕ → Option (List ℕ) → Option (List ℕ) → Type 0
 TellEnds (Ok u) text faults later old new = Appends old new text
-TellEnds (Err ending.NoMemory) text faults later old new = Keeps old new
-TellEnds (Err ending.WriteFault) text faults later old new = Rose faults later × GrowsByFront old new text
+TellEnds (Err (ending.Stop stop.NoMemory)) text faults later old new = Keeps old new
+TellEnds (Err (ending.Stop stop.WriteFault)) text faults later old new = Rose faults later × GrowsByFront old new text
 TellEnds (Err e) text faults later old new = ⊥
 
 -- ---- settings
@@ -168,14 +169,14 @@ counted objects = min objects (2 ^ 32 - 1)
 -- what comes of settings that are not read
 abbrev pub SettingsEnd : ℕ → Option ℕ → Option (List ℕ) → ℕ → ℕ → Ending → Type 0
 SettingsEnd node objects left reads reads_now (ending.BadLine line why) = IfSome left (λ b. daemon_script node objects b ≡ IsNone line why)
-SettingsEnd node objects left reads reads_now ending.NoMemory = Unit {0}
+SettingsEnd node objects left reads reads_now (ending.Stop stop.NoMemory) = Unit {0}
 SettingsEnd node objects left reads reads_now ending.ReadFault = Rose reads reads_now
 SettingsEnd node objects left reads reads_now _ = ⊥
 
 -- what comes of the input of a client that is not read
 abbrev pub CallsEnd : ℕ → Option (List ℕ) → ℕ → ℕ → Ending → Type 0
 CallsEnd node left reads reads_now (ending.BadLine line why) = IfSome left (λ b. client_script node b ≡ IsNone line why)
-CallsEnd node left reads reads_now ending.NoMemory = Unit {0}
+CallsEnd node left reads reads_now (ending.Stop stop.NoMemory) = Unit {0}
 CallsEnd node left reads reads_now ending.ReadFault = Rose reads reads_now
 CallsEnd node left reads reads_now _ = ⊥
 
@@ -422,14 +423,14 @@ CanBeDone x (uses u) = SpellsCalls u.node x.left
 abbrev pub FailsAs : Ending → Option Task → Seen → Type 0
 FailsAs ending.Usage t x = (t ≡ None) × Keeps x.before.held x.now.held × (x.rest ≡ x.left) × Untouched x
 FailsAs (ending.BadLine line why) t x = Asks t (OutsideAt line why x)
-FailsAs ending.NoMemory t x = MemoryAs x t
+FailsAs (ending.Stop stop.NoMemory) t x = MemoryAs x t
 FailsAs ending.ReadFault t x = Asks t (ReadFaultAs x)
-FailsAs ending.WriteFault t x = Rose x.before.write_faults x.now.write_faults × Asks t (WriteFaultAs x)
-FailsAs ending.LinkFault t x = Rose x.before.link_faults x.now.link_faults × Asks t (LinkFaultAs x)
+FailsAs (ending.Stop stop.WriteFault) t x = Rose x.before.write_faults x.now.write_faults × Asks t (WriteFaultAs x)
+FailsAs (ending.Stop stop.LinkFault) t x = Rose x.before.link_faults x.now.link_faults × Asks t (LinkFaultAs x)
 FailsAs ending.TooMuchKept t x = Asks t (PastAs x)
-FailsAs ending.NoReply t x = Asks t (NoReplyAs x)
-FailsAs ending.SessionLost t x = Asks t (LostAs x)
-FailsAs ending.DaemonFull t x = Asks t (FullAs x)
+FailsAs (ending.Stop stop.NoReply) t x = Asks t (NoReplyAs x)
+FailsAs (ending.Stop stop.SessionLost) t x = Asks t (LostAs x)
+FailsAs (ending.Stop stop.DaemonFull) t x = Asks t (FullAs x)
 
 abbrev pub EndsAs : Result (Unit {0}) Ending → Option Task → Seen → Type 0
 EndsAs (Ok u) t x = Asks t (DoneAs x)

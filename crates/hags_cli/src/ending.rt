@@ -1,7 +1,8 @@
 //! Why a call was not done.
 ghost use Rattle.std.specs.Prelude.{◌≡◌};
-ghost use Rattle.hags_cli.specs.Endings.{ending_of_input, ending_of_script, ending_of_play, ending_of_stop};
+ghost use Rattle.hags_cli.specs.Endings.{ending_of_input, ending_of_script, ending_of_play};
 ghost use Rattle.hags_cli.specs.declared.ending.Ending.TheVariants as ending;
+ghost use Rattle.link_use.specs.declared.stop.Stop.TheVariants as stop;
 
 use crate::input::InputFault;
 use link_use::Stop;
@@ -11,26 +12,29 @@ use script_reader::ScriptFault;
 use world_model::LineWhy;
 
 /// How a call ended that was not done. `BadLine` has the number of the first line that is in no script, and the first
-/// reason.
+/// reason. `Stop` is also that of a command that works over no link: it has no memory, or its write failed.
 #[derive(Clone, Copy, Debug, PartialEq, Eq)]
 pub enum Ending {
     Usage,
     BadLine(u32, LineWhy),
-    NoMemory,
     ReadFault,
-    WriteFault,
-    LinkFault,
     TooMuchKept,
-    NoReply,
-    SessionLost,
-    DaemonFull,
+    Stop(Stop),
 }
 
 impl From<NoMemory> for Ending {
-    ghost from_gives = { λ _ e. e ≡ ending.NoMemory };
+    ghost from_gives = { λ _ e. e ≡ ending.Stop stop.NoMemory };
 
     fn from(_e: NoMemory) -> Ending {
-        Ending::NoMemory
+        Ending::Stop(Stop::NoMemory)
+    }
+}
+
+impl From<Stop> for Ending {
+    ghost from_gives = { λ why e. e ≡ ending.Stop why };
+
+    fn from(stop: Stop) -> Ending {
+        Ending::Stop(stop)
     }
 }
 
@@ -40,7 +44,7 @@ impl From<InputFault> for Ending {
     fn from(fault: InputFault) -> Ending {
         match fault {
             InputFault::ReadFault => Ending::ReadFault,
-            InputFault::NoMemory => Ending::NoMemory,
+            InputFault::NoMemory => Ending::Stop(Stop::NoMemory),
         }
     }
 }
@@ -51,7 +55,7 @@ impl From<ScriptFault> for Ending {
     fn from(fault: ScriptFault) -> Ending {
         match fault {
             ScriptFault::Line(number, why) => Ending::BadLine(number, why),
-            ScriptFault::NoMemory => Ending::NoMemory,
+            ScriptFault::NoMemory => Ending::Stop(Stop::NoMemory),
         }
     }
 }
@@ -62,23 +66,8 @@ impl From<PlayFault> for Ending {
     fn from(fault: PlayFault) -> Ending {
         match fault {
             PlayFault::Kept(_) => Ending::TooMuchKept,
-            PlayFault::WriteFault => Ending::WriteFault,
-            PlayFault::NoMemory => Ending::NoMemory,
-        }
-    }
-}
-
-impl From<Stop> for Ending {
-    ghost from_gives = { λ f e. e ≡ ending_of_stop f };
-
-    fn from(stop: Stop) -> Ending {
-        match stop {
-            Stop::NoMemory => Ending::NoMemory,
-            Stop::WriteFault => Ending::WriteFault,
-            Stop::LinkFault => Ending::LinkFault,
-            Stop::NoReply => Ending::NoReply,
-            Stop::SessionLost => Ending::SessionLost,
-            Stop::DaemonFull => Ending::DaemonFull,
+            PlayFault::WriteFault => Ending::Stop(Stop::WriteFault),
+            PlayFault::NoMemory => Ending::Stop(Stop::NoMemory),
         }
     }
 }

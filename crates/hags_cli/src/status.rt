@@ -8,6 +8,7 @@ use crate::ending::Ending;
 use crate::tasks::obey;
 use client_callbacks::Callbacks;
 use hags_io::{Outside, Put, Sink, Source};
+use link_use::Stop;
 use std::alloc::Global;
 use transcript::fault_line;
 
@@ -21,14 +22,14 @@ fn status_of(ending: Ending) -> u8
     match ending {
         Ending::Usage => 1,
         Ending::BadLine(_, _) => 2,
-        Ending::NoMemory => 3,
+        Ending::Stop(Stop::NoMemory) => 3,
         Ending::ReadFault => 4,
-        Ending::WriteFault => 5,
-        Ending::LinkFault => 6,
+        Ending::Stop(Stop::WriteFault) => 5,
+        Ending::Stop(Stop::LinkFault) => 6,
         Ending::TooMuchKept => 7,
-        Ending::NoReply => 9,
-        Ending::SessionLost => 10,
-        Ending::DaemonFull => 11,
+        Ending::Stop(Stop::NoReply) => 9,
+        Ending::Stop(Stop::SessionLost) => 10,
+        Ending::Stop(Stop::DaemonFull) => 11,
     }
 }
 
@@ -39,14 +40,14 @@ fn text_of(ending: Ending) -> &'static [u8]
     match ending {
         Ending::BadLine(_, _) => b"",
         Ending::Usage => USAGE,
-        Ending::NoMemory => b"hags: no memory\n",
+        Ending::Stop(Stop::NoMemory) => b"hags: no memory\n",
         Ending::ReadFault => b"hags: read fault\n",
-        Ending::WriteFault => b"hags: write fault\n",
-        Ending::LinkFault => b"hags: link fault\n",
+        Ending::Stop(Stop::WriteFault) => b"hags: write fault\n",
+        Ending::Stop(Stop::LinkFault) => b"hags: link fault\n",
         Ending::TooMuchKept => b"hags: too much kept\n",
-        Ending::NoReply => b"hags: no reply\n",
-        Ending::SessionLost => b"hags: session lost\n",
-        Ending::DaemonFull => b"hags: daemon full\n",
+        Ending::Stop(Stop::NoReply) => b"hags: no reply\n",
+        Ending::Stop(Stop::SessionLost) => b"hags: session lost\n",
+        Ending::Stop(Stop::DaemonFull) => b"hags: daemon full\n",
     }
 }
 

@@ -3,6 +3,7 @@ ghost use Rattle.hags_cli.specs.Tasks.{TellEnds};
 
 use crate::ending::Ending;
 use hags_io::{Put, Sink};
+use link_use::Stop;
 
 /// Writes a text.
 pub fn tell<K: Sink>(text: &[u8], out: &mut K) -> Result<(), Ending>
@@ -11,7 +12,7 @@ pub fn tell<K: Sink>(text: &[u8], out: &mut K) -> Result<(), Ending>
 {
     match out.put(text) {
         Put::Done => Ok(()),
-        Put::Failed => Err(Ending::WriteFault),
-        Put::NoMemory => Err(Ending::NoMemory),
+        Put::Failed => Err(Ending::Stop(Stop::WriteFault)),
+        Put::NoMemory => Err(Ending::Stop(Stop::NoMemory)),
     }
 }
