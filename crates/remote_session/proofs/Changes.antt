@@ -7,7 +7,8 @@ use Rattle.rsct_packet.specs.Lists.{is_empty}
 use Rattle.rsct_packet.specs.Ids.{risen, last_u32}
 use Rattle.remote_session.specs.declared.session.Session.{Session}
 use Rattle.remote_session.specs.Messages.{UpIn}
-use Rattle.remote_session.specs.Daemon.{new_session, acknowledged, makes_call, opened, answer_told, session_done, with_event, session_event}
+use Rattle.remote_session.specs.Daemon.{new_session, acknowledged, makes_call, opened, answer_told, session_done, with_event, session_event, spoken}
+use Rattle.remote_session.specs.Ending.{silent_longer}
 use Rattle.remote_session.specs.Client.{is_taken}
 use Rattle.remote_session.proofs.ListLaws.{get_last}
 use Rattle.remote_session.proofs.Parts.{Lines, Blank, SessionIs}
@@ -54,6 +55,38 @@ acknowledged_is given told events ack s fits h = by (nat_lt s.ack ack) refl
               ∙ (drop-drop (ack - s.ack) s.ack (take s.newest events) ∙ ap (λ (n : ℕ). drop n (take s.newest events)) sum);
         }
     by false e = h
+
+-- how long a key was silent is no part of it
+
+pub spoken_is : (given : Lines) (told : List Bool) (events : Lines) (s : Session) → SessionIs given told events s → SessionIs given told events (spoken s)
+spoken_is given told events s h =
+    record {
+      done = h.done;
+      done_fits = h.done_fits;
+      idle = h.idle;
+      busy = h.busy;
+      answer = h.answer;
+      ack_fits = h.ack_fits;
+      newest_fits = h.newest_fits;
+      within = h.within;
+      all = h.all;
+      kept = h.kept;
+    }
+
+pub longer_is : (given : Lines) (told : List Bool) (events : Lines) (s : Session) → SessionIs given told events s → SessionIs given told events (silent_longer s)
+longer_is given told events s h =
+    record {
+      done = h.done;
+      done_fits = h.done_fits;
+      idle = h.idle;
+      busy = h.busy;
+      answer = h.answer;
+      ack_fits = h.ack_fits;
+      newest_fits = h.newest_fits;
+      within = h.within;
+      all = h.all;
+      kept = h.kept;
+    }
 
 pub acknowledged_open : (ack : ℕ) (s : Session) → (acknowledged ack s).is_open ≡ s.is_open
 unfolding acknowledged

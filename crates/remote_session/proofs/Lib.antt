@@ -1,4 +1,5 @@
 pub mod SessionLaws
+pub mod EndLaws
 pub mod MessageLaws
 pub mod ListLaws
 pub mod Parts
@@ -7,3 +8,4 @@ pub mod Steps
 pub mod DaemonSteps
 pub mod FarSteps
 pub mod Runs
+pub mod EndedRuns

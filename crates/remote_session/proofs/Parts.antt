@@ -7,7 +7,7 @@ use Rattle.rsct_packet.specs.Search.{Has}
 use Rattle.rsct_packet.specs.Ids.{last_u32}
 use Rattle.remote_session.specs.declared.session.Session.{Session}
 use Rattle.remote_session.specs.Messages.{max_line, UpIn, IsUp, up_text, DownIn, IsDown, down_text}
-use Rattle.remote_session.specs.Daemon.{session_of}
+use Rattle.remote_session.specs.Daemon.{session_of, is_ended}
 use Rattle.remote_session.specs.Client.{FarState, is_full, is_taken}
 use Rattle.remote_session.specs.World.{World}
 use Rattle.remote_session.specs.Laws.{IsPrefixOf}
@@ -90,7 +90,8 @@ pub record DownIs (told : ℕ → ℕ → List Bool) (events : ℕ → ℕ → L
 pub record Fine (w : World) : Type 0 where
   pub life : IsU32 w.remote.incarnation
   pub later : (l k : ℕ) → w.remote.incarnation < l → Blank (w.given l k) (w.told l k) (w.events l k)
-  pub session : (k : ℕ) → SessionOk (w.given w.remote.incarnation k) (w.told w.remote.incarnation k) (w.events w.remote.incarnation k) (session_of k w.remote.sessions)
+  pub session : (k : ℕ) → is_ended k w.remote.ended ≡ false → SessionOk (w.given w.remote.incarnation k) (w.told w.remote.incarnation k) (w.events w.remote.incarnation k) (session_of k w.remote.sessions)
+  pub ended : (k : ℕ) → is_ended k w.remote.ended ≡ true → session_of k w.remote.sessions ≡ None
   pub given : (l k : ℕ) → IsPrefixOf (w.given l k) (w.called k)
   pub told : (l k : ℕ) → length (w.told l k) ≤ length (w.given l k)
   pub short : (l k : ℕ) → EachFits AreShort (w.events l k)

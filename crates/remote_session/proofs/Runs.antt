@@ -8,13 +8,14 @@ use Rattle.rsct_packet.specs.Search.{Has}
 use Rattle.rsct_packet.proofs.HasLaws.{get_has}
 use Rattle.remote_session.specs.declared.session.Session.{Session}
 use Rattle.remote_session.specs.Daemon.{Sessions, session_of, remote_new, done_told, event_added}
+use Rattle.remote_session.specs.Ending.{key_ended, ended_up}
 use Rattle.remote_session.specs.Client.{FarState, far_new, may_call, far_called}
-use Rattle.remote_session.specs.World.{Happening, Begins, Calls, Sends_up, Up_comes, Answers, Occurs, Sends_down, Down_comes, Restarts, World, quiet, with_far, added, added_in, is_key, is_line, is_event, has_open, calls_at, sends_up_at, up_comes_at, down_comes_at, happens, after}
+use Rattle.remote_session.specs.World.{Happening, Begins, Calls, Sends_up, Up_comes, Answers, Occurs, Ticks, Ends, Sends_down, Down_comes, Restarts, World, quiet, with_far, added, added_in, is_key, is_line, is_event, has_open, calls_at, sends_up_at, up_comes_as, up_comes_at, down_comes_at, happens, after}
 use Rattle.remote_session.specs.Laws.{IsPrefixOf, IsHeardIn, AreAnswersOf, CallsComeOnceAndInOrder, HeardIsAPrefix, AnswersAreThoseTold, NoAnswerWithoutCall}
 use Rattle.remote_session.proofs.ListLaws.{prefix_none}
 use Rattle.remote_session.proofs.Parts.{HeardOk, Fine}
 use Rattle.remote_session.proofs.Steps.{none_is, some_far, begins_fine, calls_fine, sends_up_fine}
-use Rattle.remote_session.proofs.DaemonSteps.{up_fine, answers_fine, occurs_fine, sends_down_fine, restarts_fine}
+use Rattle.remote_session.proofs.DaemonSteps.{up_fine, answers_fine, occurs_fine, ticks_fine, ends_fine, sends_down_fine, restarts_fine}
 use Rattle.remote_session.proofs.FarSteps.{down_fine}
 
 quiet_fine : (incarnation : ℕ) → IsU32 incarnation → Fine (quiet incarnation)
@@ -23,7 +24,8 @@ quiet_fine incarnation fits =
     record {
       life = fits;
       later = λ l k lt. record { given_none = refl; told_none = refl; events_none = refl };
-      session = λ k. record { given_none = refl; told_none = refl; events_none = refl };
+      session = λ k own. record { given_none = refl; told_none = refl; events_none = refl };
+      ended = λ k gone. absurd cc;
       given = λ l k. prefix_none [];
       told = λ l k. omega arith;
       short = λ l k. tt;
@@ -50,18 +52,22 @@ sends_up_at_fine w fine key None is = fine
 sends_up_at_fine w fine key (Some f) is = sends_up_fine w fine key f is
 
 up_comes_fine : (w : World) (fine : Fine w) (o : Option (List ℕ)) → ((bytes : List ℕ) → o ≡ Some bytes → Has bytes w.ups) → Fine (up_comes_at w o)
-unfolding up_comes_at
+unfolding up_comes_at up_comes_as
 up_comes_fine w fine None has = fine
-up_comes_fine w fine (Some bytes) has = up_fine w fine bytes (has bytes refl)
+up_comes_fine w fine (Some bytes) has = by (ended_up w.remote bytes) refl
+  where
+    by : (o : Option ℕ) → ended_up w.remote bytes ≡ o → Fine (up_comes_as w bytes o)
+    by (Some key) e = fine
+    by None e = up_fine w fine bytes (has bytes refl) e
 
-open_session : (key : ℕ) (sessions : Sessions) → has_open key sessions ≡ true → (s : Session) × (session_of key sessions ≡ Some s) × (s.is_open ≡ true)
+pub open_session : (key : ℕ) (sessions : Sessions) → has_open key sessions ≡ true → (s : Session) × (session_of key sessions ≡ Some s) × (s.is_open ≡ true)
 open_session key sessions e = by (session_of key sessions) refl e
   where
     by : (o : Option Session) → session_of key sessions ≡ o → option_map_or (λ (s : Session). s.is_open) o false ≡ true → (s : Session) × (session_of key sessions ≡ Some s) × (s.is_open ≡ true)
     by None is h = absurd cc
     by (Some s) is h = (s, is, h)
 
-kept_session : (key : ℕ) (sessions : Sessions) → is_some (session_of key sessions) ≡ true → (s : Session) × (session_of key sessions ≡ Some s)
+pub kept_session : (key : ℕ) (sessions : Sessions) → is_some (session_of key sessions) ≡ true → (s : Session) × (session_of key sessions ≡ Some s)
 kept_session key sessions e = by (session_of key sessions) refl e
   where
     by : (o : Option Session) → session_of key sessions ≡ o → is_some o ≡ true → (s : Session) × (session_of key sessions ≡ Some s)
@@ -91,6 +97,8 @@ happens_fine w fine (Occurs key line) =
     let p = and_parts (is_some (session_of key w.remote.sessions)) (is_event line) e in
     let s = kept_session key w.remote.sessions p.0 in
     occurs_fine w fine key line s.0 s.1 (ltb-true (length line) 65536 p.1))
+happens_fine w fine Ticks = ticks_fine w fine
+happens_fine w fine (Ends key) = either_fine (is_some (session_of key w.remote.sessions)) w (record w { remote = key_ended key w.remote }) fine (λ e. ends_fine w fine key)
 happens_fine w fine (Sends_down key) = either_fine (is_key key) w _ fine (λ e. sends_down_fine w fine key e)
 happens_fine w fine (Down_comes place key) = down_comes_fine w fine key (slice_get w.downs place) (w.fars key) (λ bytes e. get_has w.downs place bytes e) refl
 happens_fine w fine (Restarts incarnation) =
@@ -102,13 +110,16 @@ unfolding after
 after_fine w [] fine = fine
 after_fine w (h ∷ hs) fine = after_fine (happens w h) hs (happens_fine w fine h)
 
+pub fine_after : (incarnation : ℕ) → IsU32 incarnation → (happenings : List Happening) → Fine (after (quiet incarnation) happenings)
+fine_after incarnation fits happenings = after_fine (quiet incarnation) happenings (quiet_fine incarnation fits)
+
 -- the laws
 
 pub given_first : CallsComeOnceAndInOrder
-given_first incarnation fits happenings life key = (after_fine (quiet incarnation) happenings (quiet_fine incarnation fits)).given life key
+given_first incarnation fits happenings life key = (fine_after incarnation fits happenings).given life key
 
 pub told_of_given : NoAnswerWithoutCall
-told_of_given incarnation fits happenings life key = (after_fine (quiet incarnation) happenings (quiet_fine incarnation fits)).told life key
+told_of_given incarnation fits happenings life key = (fine_after incarnation fits happenings).told life key
 
 heard_of : (w : World) (key : ℕ) (f : FarState) → f.key ≡ key → (o : Option ℕ) → HeardOk f.heard (w.answered key) (λ l. w.told l key) (λ l. w.events l key) o → IsHeardIn w f o
 heard_of w key f is None h = h.0
@@ -121,11 +132,11 @@ answers_of w key f is (Some life) h = subst (λ (k : ℕ). IsPrefixOf (w.answere
 pub heard_first : HeardIsAPrefix
 heard_first incarnation fits happenings key f is =
     let w = after (quiet incarnation) happenings in
-    let far = some_far w (after_fine (quiet incarnation) happenings (quiet_fine incarnation fits)) key f is in
+    let far = some_far w (fine_after incarnation fits happenings) key f is in
     heard_of w key f far.key_is f.incarnation far.hears
 
 pub answers_first : AnswersAreThoseTold
 answers_first incarnation fits happenings key f is =
     let w = after (quiet incarnation) happenings in
-    let far = some_far w (after_fine (quiet incarnation) happenings (quiet_fine incarnation fits)) key f is in
+    let far = some_far w (fine_after incarnation fits happenings) key f is in
     answers_of w key f far.key_is f.incarnation far.hears

@@ -1,6 +1,7 @@
 -- The daemon's end of all client sessions.
 use Rattle.std.specs.Prelude.{ℕ, ◌+◌, ◌-◌, Bool, true, false, not, ◌&&◌, ◌==◌, nat_le, nat_lt, nat_eq, List, [], ◌∷◌, ◌++◌, length, take, drop, Option, Some, None, is_none, if◌then◌else◌}
 use Rattle.std.specs.Map.{lookup, set_value}
+use Rattle.std.specs.List.{list_any}
 use Rattle.std.specs.Option.{option_map_or}
 use Rattle.rsct_packet.specs.Lists.{is_empty}
 use Rattle.rsct_packet.specs.Ids.{risen, last_u32}
@@ -18,7 +19,7 @@ max_keys = 1024
 -- one key's session
 
 unfoldable pub new_session : Session
-new_session = record { ack = 0; done = 0; answer = NoAnswer; is_open = false; newest = 0; events = [] }
+new_session = record { ack = 0; done = 0; answer = NoAnswer; is_open = false; newest = 0; events = []; silent = 0 }
 
 -- what the client's end has heard is let go
 unfoldable pub acknowledged : ℕ → Session → Session
@@ -31,9 +32,13 @@ makes_call u s = (u.number == s.done + 1) && not (is_empty u.line) && not s.is_o
 unfoldable pub opened : Bool → Session → Session
 opened calls s = if calls then record s { is_open = true } else s
 
+-- an Up of it came just now
+abbrev pub spoken : Session → Session
+spoken s = record s { silent = 0 }
+
 -- a session after an Up
 unfoldable pub session_up : UpIn → Session → Session
-session_up u s = opened (makes_call u s) (acknowledged u.ack s)
+session_up u s = opened (makes_call u s) (spoken (acknowledged u.ack s))
 
 unfoldable pub answer_told : Bool → Answer
 answer_told taken = if taken then Taken else Refused
@@ -82,9 +87,14 @@ call_made u sessions = option_map_or (makes_call u) (session_of u.key sessions) 
 
 -- the daemon's end in one life of the daemon
 
+-- its incarnation; the sessions of the keys that it keeps; and the keys that have ended, in their order
 pub record RemoteState : Type 0 where
   pub incarnation : ℕ
   pub sessions : Sessions
+  pub ended : List ℕ
+
+abbrev pub is_ended : ℕ → List ℕ → Bool
+is_ended key ended = list_any (nat_eq key) ended
 
 -- what an Up is to the daemon: none, of a new key where no more are kept, of a key whose call it does not bring, or
 -- a call with its line
@@ -101,7 +111,7 @@ seen_up (seen.Known key) = KnownKey key
 seen_up (seen.Call key line) = CallMade key line.now
 
 unfoldable pub remote_new : ℕ → RemoteState
-remote_new incarnation = record { incarnation = incarnation; sessions = [] }
+remote_new incarnation = record { incarnation = incarnation; sessions = []; ended = [] }
 
 unfoldable pub up_seen_as : Sessions → Option UpIn → SeenUp
 up_seen_as sessions None = NotUp
@@ -131,9 +141,13 @@ down_as incarnation key None = record { key = key; incarnation = incarnation; do
 down_as incarnation key (Some s) =
     record { key = key; incarnation = incarnation; done = s.done; answer = s.answer; first = risen s.ack; events = take max_events s.events }
 
+-- the incarnation that a key is told: 0 where it has ended, so that its far end gives it up
+abbrev pub life_told : ℕ → RemoteState → ℕ
+life_told key r = if is_ended key r.ended then 0 else r.incarnation
+
 -- the Down of a key at this moment
 unfoldable pub down_for : RemoteState → ℕ → DownIn
-down_for r key = down_as r.incarnation key (session_of key r.sessions)
+down_for r key = down_as (life_told key r) key (session_of key r.sessions)
 
 -- opens each word of this file, for a computation
 unfoldable pub daemon_opens : Unit {0}

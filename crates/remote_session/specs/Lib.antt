@@ -1,5 +1,6 @@
 pub mod Messages
 pub mod Daemon
+pub mod Ending
 pub mod Client
 pub mod World
 pub mod Laws

@@ -8,6 +8,7 @@ use Rattle.remote_session.specs.declared.far.DownSeen.{DownSeen}
 use Rattle.remote_session.specs.declared.far.DownSeen.TheVariants.{NoMessage, Nothing, Answer, Lost, Full}
 use Rattle.remote_session.specs.Messages.{max_line, up_text, down_text}
 use Rattle.remote_session.specs.Daemon.{Sessions, session_of, RemoteState, SeenUp, NotUp, KeysFull, KnownKey, CallMade, remote_new, up_seen, up_taken, done_told, event_added, down_for}
+use Rattle.remote_session.specs.Ending.{remote_ticked, key_ended, ended_up}
 use Rattle.remote_session.specs.Client.{FarState, far_new, may_call, far_called, up_from, far_seen, far_taken}
 
 -- what may happen next. A datagram that was sent comes never, once or often, whenever it may be: so a loss is one that
@@ -25,6 +26,10 @@ pub data Happening : Type 0 where
   Answers : (key : ℕ) (taken : Bool) → Happening
   -- the client of a key is to hear a line
   Occurs : (key : ℕ) (line : List ℕ) → Happening
+  -- the daemon ticks
+  Ticks : Happening
+  -- the daemon ends a key that it keeps
+  Ends : (key : ℕ) → Happening
   -- the daemon sends a Down of a key
   Sends_down : (key : ℕ) → Happening
   -- the end with this key, whosever Down it is, is given the one at this place of all
@@ -98,9 +103,14 @@ given_out (KeysFull key limit) w = w
 given_out (KnownKey key) w = w
 given_out (CallMade key line) w = record w { given = added_in w.remote.incarnation key line w.given }
 
+-- an Up of a key that has ended changes nothing
+unfoldable pub up_comes_as : World → List ℕ → Option ℕ → World
+up_comes_as w bytes (Some key) = w
+up_comes_as w bytes None = given_out (up_seen w.remote bytes) (record w { remote = up_taken w.remote bytes })
+
 unfoldable pub up_comes_at : World → Option (List ℕ) → World
 up_comes_at w None = w
-up_comes_at w (Some bytes) = given_out (up_seen w.remote bytes) (record w { remote = up_taken w.remote bytes })
+up_comes_at w (Some bytes) = up_comes_as w bytes (ended_up w.remote bytes)
 
 -- has the key an open call?
 abbrev pub has_open : ℕ → Sessions → Bool
@@ -131,6 +141,8 @@ happens w (Occurs key line) =
     if is_some (session_of key w.remote.sessions) && is_event line
     then record w { remote = event_added key line w.remote; events = added_in w.remote.incarnation key line w.events }
     else w
+happens w Ticks = record w { remote = remote_ticked w.remote }
+happens w (Ends key) = if is_some (session_of key w.remote.sessions) then record w { remote = key_ended key w.remote } else w
 happens w (Sends_down key) = if is_key key then record w { downs = down_text (down_for w.remote key) ∷ w.downs } else w
 happens w (Down_comes place key) = down_comes_at key w (slice_get w.downs place) (w.fars key)
 happens w (Restarts incarnation) =
@@ -142,5 +154,5 @@ after w happenings = fold happens w happenings
 
 -- opens each word of this file, for a computation
 unfoldable pub world_opens : Unit {0}
-unfolding quiet added added_in with_far calls_at sends_up_at given_out up_comes_at answer_heard down_comes_at happens after
+unfolding quiet added added_in with_far calls_at sends_up_at given_out up_comes_as up_comes_at answer_heard down_comes_at happens after
 world_opens = tt

@@ -1,8 +1,8 @@
 //! What holds over every list of happenings to client ends and a daemon, whatever the network loses, repeats or
-//! reorders, and however often the daemon starts anew.
+//! reorders, whichever keys the daemon ends, and however often it starts anew.
 ghost use Rattle.rsct_packet.specs.Format.{IsFormat};
 ghost use Rattle.remote_session.specs.Messages.{IsUp, up_at, up_text, IsDown, down_at, down_text};
-ghost use Rattle.remote_session.specs.Laws.{CallsComeOnceAndInOrder, HeardIsAPrefix, AnswersAreThoseTold, NoAnswerWithoutCall};
+ghost use Rattle.remote_session.specs.Laws.{CallsComeOnceAndInOrder, HeardIsAPrefix, AnswersAreThoseTold, NoAnswerWithoutCall, EndedKeysStay, NothingEndsUnasked};
 
 /// In each life of the daemon, the lines that it gave out for a key are the first calls of that key's client, each
 /// once and in order.
@@ -24,6 +24,14 @@ pub fn heard_is_a_prefix()
 pub fn answers_are_those_told()
     ensures told { AnswersAreThoseTold }
     ensures calls { NoAnswerWithoutCall }
+{}
+
+/// A key that has ended stays so for the daemon's life, and no Up of it makes a call, however late it comes. Where no
+/// key has ended, everything is as if none could.
+#[tactic(auto, using(crate::proofs::EndedRuns::none_unasked))]
+pub fn ended_keys_stay()
+    ensures stay { EndedKeysStay }
+    ensures unasked { NothingEndsUnasked }
 {}
 
 /// Each Up and each Down that fits has one spelling: what is read is spelled so, and what is spelled so is read.

@@ -1,17 +1,21 @@
 //! The daemon's end of all client sessions.
-ghost use Rattle.std.specs.Prelude.{◌≡◌, ◌++◌, ◌≤◌, ◌^◌, length, take, nat_le, IfOk, OnOk, OnErr, IsErr, option_copied};
+ghost use Rattle.std.specs.Prelude.{◌≡◌, ◌++◌, ◌≤◌, ◌^◌, length, take, not, true, nat_eq, nat_le, IfOk, OnOk, OnErr, IsErr, IsTrue, is_some, option_copied};
 ghost use Rattle.remote_session.specs.Messages.{down_text};
-ghost use Rattle.remote_session.specs.Daemon.{session_of, kept, is_full_for, call_made, edited, session_up, session_done, session_event, remote_new, seen_up, up_seen, up_taken, done_told, event_added, down_as, down_for};
+ghost use Rattle.remote_session.specs.Daemon.{session_of, kept, is_full_for, call_made, edited, session_up, session_done, session_event, remote_new, seen_up, up_seen, up_taken, done_told, event_added, down_as, life_told, down_for};
+ghost use Rattle.remote_session.specs.Ending.{silent_longer, waited, remote_ticked, silent_keys, may_end, without, key_ended, ended_up};
 
 use crate::messages::{Answer, Up, put_down_head, read_up, settled};
 use crate::session::Session;
-use indexmap::IndexMap;
+use indexmap::{IndexMap, IndexSet};
 use rsct_packet::{NoMemory, Text, put_u8, risen};
 use std::alloc::Global;
 use std::marker::Model;
 
 /// How many keys a daemon keeps.
 pub const MAX_KEYS: usize = 1024;
+
+/// How many keys end in a daemon's life.
+pub const MAX_ENDED: usize = 1_048_576;
 
 /// What an Up was to the daemon.
 ///
@@ -83,6 +87,34 @@ fn add_event(sessions: &mut IndexMap<u32, Session>, key: u32, line: Text) -> Res
     }
 }
 
+/// The daemon ticks: each key was silent for one tick more.
+// Written with `retain`, which tells what is written to each value; a `for` over the values does not.
+#[tactic(auto, unfolding(crate::specs::Ending::waited))]
+fn wait(sessions: &mut IndexMap<u32, Session>)
+    ensures { sessions.new.entries ≡ waited sessions.old.entries }
+{
+    sessions.retain(
+        |_key: &u32, session: &mut Session| -> bool
+            ensures { (result ≡ true) × (session.new ≡ silent_longer session.old) }
+        {
+            session.wait();
+            true
+        },
+    );
+}
+
+/// The key's session goes, and its events with it.
+#[tactic(auto, unfolding(crate::specs::Ending::without))]
+fn forget(sessions: &mut IndexMap<u32, Session>, key: u32)
+    ensures { sessions.new.entries ≡ without key sessions.old.entries }
+{
+    sessions.retain(
+        |kept: &u32, session: &mut Session| -> bool
+            ensures { (result ≡ not (nat_eq key kept.now)) × (session.new ≡ session.old) }
+        { key != *kept },
+    );
+}
+
 /// The Down of a key with this session, or with none.
 #[tactic(auto, unfolding(crate::specs::Daemon::down_as, crate::specs::Messages::down_text, crate::specs::Messages::down_head_text))]
 fn put_down_parts(
@@ -114,11 +146,12 @@ fn put_down_parts(
     }
 }
 
-/// The sessions of all keys, in one life of the daemon.
+/// The sessions of all keys that are kept, and the keys that have ended, in one life of the daemon.
 #[derive(Drop)]
 pub struct Remote {
     incarnation: u32,
     sessions: IndexMap<u32, Session>,
+    ended: IndexSet<u32>,
 }
 
 impl Model for Remote {
@@ -126,7 +159,7 @@ impl Model for Remote {
 
     ghost Value = { RemoteState };
 
-    ghost view = { λ r. record { incarnation = r.incarnation; sessions = r.sessions.entries } };
+    ghost view = { λ r. record { incarnation = r.incarnation; sessions = r.sessions.entries; ended = r.ended.keys } };
 }
 
 impl Remote {
@@ -138,11 +171,25 @@ impl Remote {
         Remote {
             incarnation,
             sessions: IndexMap::new(alloc),
+            ended: IndexSet::new(alloc),
         }
     }
 
-    /// Takes a datagram. A new key is kept for the daemon's life, unless 1,024 are. Events up to the Up's
-    /// acknowledgement are let go. Where memory has run out nothing has changed.
+    /// The key of the Up that these bytes are, where that key has ended. Such an Up is not for `up`: it brings nothing,
+    /// however late it comes, and is answered by the `down` of its key.
+    #[tactic(auto, unfolding(crate::specs::Ending::ended_up))]
+    pub fn ended(&self, bytes: &[u8]) -> Option<u32>
+        ensures { result ≡ ended_up self.now bytes.now }
+    {
+        let up = read_up(bytes)?;
+        if !self.ended.contains(&up.key) {
+            return None;
+        }
+        Some(up.key)
+    }
+
+    /// Takes a datagram that is no Up of an ended key. A new key is kept until it ends or the daemon does, unless 1,024
+    /// are. Events up to the Up's acknowledgement are let go. Where memory has run out nothing has changed.
     #[tactic(auto, unfolding(crate::specs::Daemon::up_seen, crate::specs::Daemon::up_seen_as, crate::specs::Daemon::up_taken, crate::specs::Daemon::up_taken_as))]
     pub fn up<'a>(&mut self, alloc: Global, bytes: &'a [u8]) -> Result<UpSeen<'a>, NoMemory>
         ensures seen { IfOk result (λ seen. seen_up seen ≡ up_seen self.old bytes.now) }
@@ -188,9 +235,56 @@ impl Remote {
         add_event(&mut self.sessions, key, line)
     }
 
+    /// The daemon ticks: the count of ticks since its last Up rises by one for each key, up to 4,294,967,295.
+    #[tactic(auto, unfolding(crate::specs::Ending::remote_ticked))]
+    pub fn tick(&mut self)
+        ensures { self.new ≡ remote_ticked self.old }
+    {
+        wait(&mut self.sessions);
+    }
+
+    /// The keys of which no Up came for `least` ticks or more, in the order in which they came.
+    #[tactic(auto, unfolding(crate::specs::Ending::silent_keys))]
+    pub fn silent(&self, alloc: Global, least: u32) -> Result<Vec<u32>, NoMemory>
+        ensures { IfOk result (λ keys. keys.items ≡ silent_keys least self.now) }
+    {
+        let keys = self
+            .sessions
+            .iter()
+            .filter(|(_key, session)| session.silent >= least)
+            .map(|(key, _session)| *key)
+            .collect(alloc)?;
+        Ok(keys)
+    }
+
+    /// Is the key kept? It is from its first Up on, until it ends.
+    pub fn is_kept(&self, key: u32) -> bool
+        ensures { result ≡ is_some (session_of key self.now.sessions) }
+    {
+        self.sessions.contains_key(&key)
+    }
+
+    /// Ends a key that is kept, for the daemon's life: its events go, no more are kept for it, and it counts no longer
+    /// among the 1,024. Answers false, and nothing changes, exactly where 1,048,576 keys have ended. Where memory has
+    /// run out nothing has changed.
+    #[tactic(auto, unfolding(crate::specs::Ending::may_end, crate::specs::Ending::key_ended))]
+    pub fn end(&mut self, _alloc: Global, key: u32) -> Result<bool, NoMemory>
+        requires { IsTrue (is_some (session_of key self.old.sessions)) }
+        ensures ended { IfOk result (λ ended. ended ≡ may_end self.old) }
+        ensures state { OnOk result (self.new ≡ key_ended key self.old) }
+        ensures err { OnErr result (self.new ≡ self.old) }
+    {
+        if self.ended.len() >= MAX_ENDED {
+            return Ok(false);
+        }
+        self.ended.insert(key)?;
+        forget(&mut self.sessions, key);
+        Ok(true)
+    }
+
     /// Takes the Down of a key, as it is now, to the end of `out`: how many of its calls were answered, the last answer,
-    /// and the first 16 events that were not acknowledged. Of a key that is not kept it says that no more are kept.
-    /// Where memory has run out `out` is as before.
+    /// and the first 16 events that were not acknowledged. Of a key that is not kept it says that no more are kept, and
+    /// of one that has ended so too, with 0 as the incarnation. Where memory has run out `out` is as before.
     #[tactic(auto, unfolding(crate::specs::Daemon::down_for))]
     pub fn down(&self, key: u32, out: &mut Vec<u8>) -> Result<(), NoMemory>
         ensures ok { OnOk result (out.new.items
@@ -198,8 +292,13 @@ impl Remote {
         ensures err { OnErr result (out.new.items ≡ out.old.items) }
     {
         let before = out.len();
+        let incarnation = if self.ended.contains(&key) {
+            0
+        } else {
+            self.incarnation
+        };
         let session = self.sessions.get(&key);
-        let done = put_down_parts(out, self.incarnation, key, session);
+        let done = put_down_parts(out, incarnation, key, session);
         settled(out, before, done)
     }
 }

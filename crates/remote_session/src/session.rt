@@ -5,6 +5,7 @@ ghost use Rattle.rsct_packet.specs.Format.{counted_text};
 ghost use Rattle.rsct_packet.specs.Fields.{bytes_text};
 ghost use Rattle.remote_session.specs.Messages.{max_events};
 ghost use Rattle.remote_session.specs.Daemon.{new_session, acknowledged, makes_call, opened, session_up, answer_told, session_done, with_event, session_event};
+ghost use Rattle.remote_session.specs.Ending.{silent_longer};
 
 use crate::messages::{Answer, MAX_EVENTS, Up};
 use rsct_packet::{NoMemory, Text, put_bytes, put_u8, risen};
@@ -84,8 +85,8 @@ impl Events {
 }
 
 /// A key's session: how many events its client's end has heard; how many of its calls were answered, and the last
-/// answer; whether a call is open, which was given out and has no answer yet; the number of its newest event; and the
-/// events that were not heard yet.
+/// answer; whether a call is open, which was given out and has no answer yet; the number of its newest event; the
+/// events that were not heard yet; and how many ticks the daemon made since the key's last Up.
 #[derive(Drop)]
 pub(crate) struct Session {
     pub(crate) ack: u32,
@@ -94,6 +95,7 @@ pub(crate) struct Session {
     pub(crate) is_open: bool,
     pub(crate) newest: u32,
     pub(crate) events: Events,
+    pub(crate) silent: u32,
 }
 
 impl Session {
@@ -108,6 +110,7 @@ impl Session {
             is_open: false,
             newest: 0,
             events: Events::new(alloc),
+            silent: 0,
         }
     }
 
@@ -137,10 +140,18 @@ impl Session {
     {
         let calls = self.makes_call(up);
         self.acknowledge(up.ack);
+        self.silent = 0;
         if calls {
             self.is_open = true;
         }
         calls
+    }
+
+    /// The daemon ticks, and no Up came.
+    pub(crate) fn wait(&mut self)
+        ensures { self.new ≡ silent_longer self.old }
+    {
+        self.silent = risen(self.silent);
     }
 
     /// Answers the open call.

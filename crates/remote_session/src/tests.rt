@@ -150,3 +150,89 @@ fn keys_past_the_last(rt: HostRuntime) {
     let full = refused(rt.alloc(), 1026).expect(&rt, "memory");
     assert!(rt; full == 2);
 }
+
+/// A daemon whose key 7 has been silent for two ticks.
+fn waited(alloc: Global) -> Result<Remote, NoMemory> {
+    let mut remote = called(alloc)?;
+    remote.tick();
+    remote.tick();
+    Ok(remote)
+}
+
+/// A daemon that was given the first call of key 7, and ended that key.
+fn after_the_end(alloc: Global) -> Result<Remote, NoMemory> {
+    let mut remote = called(alloc)?;
+    let _ = end(alloc, &mut remote, 7)?;
+    Ok(remote)
+}
+
+/// Ends a key, where it is kept.
+fn end(alloc: Global, remote: &mut Remote, key: u32) -> Result<bool, NoMemory> {
+    if !remote.is_kept(key) {
+        return Ok(false);
+    }
+    remote.end(alloc, key)
+}
+
+#[test]
+fn a_key_is_silent(rt: HostRuntime) {
+    let remote = waited(rt.alloc()).expect(&rt, "memory");
+    let two = remote.silent(rt.alloc(), 2).expect(&rt, "memory");
+    let three = remote.silent(rt.alloc(), 3).expect(&rt, "memory");
+    assert!(rt; two.as_slice() == [7u32].as_slice() && three.is_empty());
+}
+
+#[test]
+fn an_up_ends_the_silence(rt: HostRuntime) {
+    let mut remote = waited(rt.alloc()).expect(&rt, "memory");
+    let _ = remote.up(rt.alloc(), &FIRST_UP).expect(&rt, "memory");
+    let silent = remote.silent(rt.alloc(), 1).expect(&rt, "memory");
+    assert!(rt; silent.is_empty());
+}
+
+#[test]
+fn a_key_ends(rt: HostRuntime) {
+    let mut remote = waited(rt.alloc()).expect(&rt, "memory");
+    let ended = end(rt.alloc(), &mut remote, 7).expect(&rt, "memory");
+    assert!(rt; ended && remote.ended(&FIRST_UP) == Some(7));
+}
+
+#[test]
+fn an_end_that_had_a_down_is_lost(rt: HostRuntime) {
+    let mut far = caller(rt.alloc()).expect(&rt, "memory");
+    let _ = far.down(rt.alloc(), &FIRST_DOWN).expect(&rt, "memory");
+    let remote = after_the_end(rt.alloc()).expect(&rt, "memory");
+    let down = down_of(rt.alloc(), &remote, 7).expect(&rt, "memory");
+    let seen = far.down(rt.alloc(), down.as_slice()).expect(&rt, "memory");
+    assert!(rt; seen == DownSeen::Lost(5, 0));
+}
+
+#[test]
+fn an_end_that_had_none_is_full(rt: HostRuntime) {
+    let mut far = caller(rt.alloc()).expect(&rt, "memory");
+    let remote = after_the_end(rt.alloc()).expect(&rt, "memory");
+    let down = down_of(rt.alloc(), &remote, 7).expect(&rt, "memory");
+    let seen = far.down(rt.alloc(), down.as_slice()).expect(&rt, "memory");
+    assert!(rt; seen == DownSeen::Full);
+}
+
+/// The daemon is given the first Ups of so many keys, one after another, and ends each. How many were refused?
+fn refused_of_ended(alloc: Global, keys: u32) -> Result<u32, NoMemory> {
+    let mut remote = Remote::new(alloc, 5);
+    let mut full = 0u32;
+    for key in 0..keys {
+        let far = Far::new(alloc, key);
+        let up = up_of(alloc, &far)?;
+        if let UpSeen::Full(_, _) = remote.up(alloc, up.as_slice())? {
+            full = full.saturating_add(1);
+        }
+        let _ = end(alloc, &mut remote, key)?;
+    }
+    Ok(full)
+}
+
+#[test]
+fn ended_keys_make_room(rt: HostRuntime) {
+    let full = refused_of_ended(rt.alloc(), 3000).expect(&rt, "memory");
+    assert!(rt; full == 0);
+}

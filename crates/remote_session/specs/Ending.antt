@@ -1,0 +1,58 @@
+-- Keys that end: how long each was silent, and what is left of one that ended.
+use Rattle.std.specs.Prelude.{ℕ, Bool, not, nat_eq, nat_le, nat_lt, List, [], ◌∷◌, ◌++◌, length, map, filter, Option, Some, None, if◌then◌else◌}
+use Rattle.rsct_packet.specs.Ids.{risen}
+use Rattle.remote_session.specs.declared.session.Session.{Session}
+use Rattle.remote_session.specs.Messages.{UpIn, up_of}
+use Rattle.remote_session.specs.Daemon.{Sessions, RemoteState, is_ended}
+
+-- how many keys end in a daemon's life
+abbrev pub max_ended : ℕ
+max_ended = 1048576
+
+-- ---- silence
+
+-- no Up came since one tick more
+abbrev pub silent_longer : Session → Session
+silent_longer s = record s { silent = risen s.silent }
+
+-- each key's count of ticks since its last Up rises
+unfoldable pub waited : Sessions → Sessions
+waited sessions = map (λ e. (e.0, silent_longer e.1)) sessions
+
+-- the daemon ticks
+unfoldable pub remote_ticked : RemoteState → RemoteState
+remote_ticked r = record r { sessions = waited r.sessions }
+
+-- the keys of which no Up came for so many ticks, in the order in which they came
+unfoldable pub silent_keys : ℕ → RemoteState → List ℕ
+silent_keys least r = map (λ e. e.0) (filter (λ e. nat_le least e.1.silent) r.sessions)
+
+-- ---- the end of a key
+
+unfoldable pub may_end : RemoteState → Bool
+may_end r = nat_lt (length r.ended) max_ended
+
+-- all sessions but the key's
+unfoldable pub without : ℕ → Sessions → Sessions
+without key sessions = filter (λ e. not (nat_eq key e.0)) sessions
+
+abbrev pub with_ended : ℕ → List ℕ → List ℕ
+with_ended key ended = if is_ended key ended then ended else ended ++ key ∷ []
+
+-- the key's session goes with its events, and the key has ended; where as many have ended as may nothing changes
+unfoldable pub key_ended : ℕ → RemoteState → RemoteState
+key_ended key r = if may_end r then record r { sessions = without key r.sessions; ended = with_ended key r.ended } else r
+
+-- the key of an Up, where that has ended
+abbrev pub ended_key_in : List ℕ → Option UpIn → Option ℕ
+ended_key_in ended None = None
+ended_key_in ended (Some u) = if is_ended u.key ended then Some u.key else None
+
+-- the key of the Up that these bytes are, where that has ended
+unfoldable pub ended_up : RemoteState → List ℕ → Option ℕ
+ended_up r bytes = ended_key_in r.ended (up_of bytes)
+
+-- opens each word of this file, for a computation
+unfoldable pub ending_opens : Unit {0}
+unfolding waited remote_ticked silent_keys may_end without key_ended ended_up
+ending_opens = tt
