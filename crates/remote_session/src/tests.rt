@@ -194,7 +194,7 @@ fn an_up_ends_the_silence(rt: HostRuntime) {
 fn a_key_ends(rt: HostRuntime) {
     let mut remote = waited(rt.alloc()).expect(&rt, "memory");
     let ended = end(rt.alloc(), &mut remote, 7).expect(&rt, "memory");
-    assert!(rt; ended && remote.ended(&FIRST_UP) == Some(7));
+    assert!(rt; ended && matches!(remote.ended(&FIRST_UP), Some(7)));
 }
 
 #[test]
