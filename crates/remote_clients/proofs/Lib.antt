@@ -1,2 +1,4 @@
 pub mod TextLaws
 pub mod PlainLaws
+pub mod ToldLaws
+pub mod EntryOrder

@@ -1,5 +1,5 @@
 -- The clients that keys made, the providers whose joins they asked for, and whose a record is.
-use Rattle.std.specs.Prelude.{◌≡◌, ℕ, Bool, false, not, ◌==◌, ◌&&◌, List, [], ◌∷◌, ◌++◌, codes, find, Option, Some, None, option_map}
+use Rattle.std.specs.Prelude.{◌≡◌, ℕ, Bool, false, not, ◌==◌, ◌&&◌, List, [], ◌∷◌, ◌++◌, codes, filter, find, Option, Some, None, option_map, if◌then◌else◌}
 use Rattle.std.specs.List.{list_any}
 use Rattle.std.specs.Str.{bytes_eq}
 use Rattle.rsct_packet.specs.declared.ids.ProviderId.{ProviderId}
@@ -83,6 +83,28 @@ with_call key (call.Init node name votes) c = record c { made = c.made ++ record
 with_call key (call.Goodbye client) c = record c { gone = c.gone ++ key ∷ [] }
 with_call key _ c = c
 
+-- ---- a key that ends
+
+-- the goodbye that the key owes: that of the client that it made, where that has said none
+abbrev pub goodbye_if : List ℕ → ℕ → Option RemoteClient → Option CallLine
+goodbye_if gone key None = None
+goodbye_if gone key (Some client) = if is_gone gone key then None else Some (call.Goodbye client.name)
+
+unfoldable pub goodbye_owed : ClientsState → ℕ → Option CallLine
+goodbye_owed c key = goodbye_if c.gone key (find (is_of_key key) c.made)
+
+abbrev pub is_owned_by : ℕ → Owner → Bool
+is_owned_by key o = o.key == key
+
+-- nothing of the key is left
+unfoldable pub with_end : ℕ → ClientsState → ClientsState
+with_end key c =
+    record {
+      made = filter (λ (r : RemoteClient). not (is_of_key key r)) c.made;
+      gone = filter (λ k. not (k == key)) c.gone;
+      owners = filter (λ (o : Owner). not (is_owned_by key o)) c.owners;
+    }
+
 -- ---- which calls are the node's
 
 -- the first call of a key makes its client, at this node, whose votes are calls alone
@@ -109,5 +131,5 @@ IsPlain _ = Unit {0}
 
 -- opens each word of this file, for a computation
 unfoldable pub clients_opens : Unit {0}
-unfolding key_of_name key_of_provider hearer_of with_record with_call admits
+unfolding key_of_name key_of_provider hearer_of with_record with_call goodbye_owed with_end admits
 clients_opens = tt

@@ -1,6 +1,6 @@
 //! Whose client and whose provider it is.
-ghost use Rattle.std.specs.Prelude.{◌≡◌, OnOk, OnErr, find, option_copied};
-ghost use Rattle.remote_clients.specs.Clients.{no_clients, is_of_key, is_gone, is_live, is_owner_of, key_of_name, key_of_provider, hearer_of, join_in, join_of, with_record, with_call, admits_first, admits_later, admits};
+ghost use Rattle.std.specs.Prelude.{◌≡◌, ◌==◌, not, IfOk, OnOk, OnErr, filter, find, option_copied};
+ghost use Rattle.remote_clients.specs.Clients.{no_clients, is_of_key, is_gone, is_live, is_owner_of, is_owned_by, key_of_name, key_of_provider, hearer_of, join_in, join_of, with_record, with_call, goodbye_owed, with_end, admits_first, admits_later, admits};
 
 use node_state::{CallLine, Happened};
 use proposal_core::Proposal;
@@ -124,6 +124,27 @@ fn admits_later(gone: &[u32], key: u32, client: &RemoteClient, call: &CallLine) 
     client.name.as_slice() == caller(call) && !is_gone(gone, key)
 }
 
+/// Takes the key's client off.
+fn leave_out_client(made: &mut List<RemoteClient>, key: u32)
+    ensures { made.new ≡ filter (λ r. not (is_of_key key r)) made.old }
+{
+    made.retain(|client| client.key != key);
+}
+
+/// Takes the key off.
+fn leave_out_key(gone: &mut List<u32>, key: u32)
+    ensures { gone.new ≡ filter (λ k. not (k == key)) gone.old }
+{
+    gone.retain(|other| *other != key);
+}
+
+/// Takes the key's providers off.
+fn leave_out_owner(owners: &mut List<Owner>, key: u32)
+    ensures { owners.new ≡ filter (λ o. not (is_owned_by key o)) owners.old }
+{
+    owners.retain(|owner| owner.key != key);
+}
+
 /// The clients of all keys, at most one of each, in the order in which they were made; the keys whose clients have said
 /// goodbye; and the providers whose joins they asked for.
 #[derive(Drop)]
@@ -214,5 +235,32 @@ impl Clients {
             CallLine::Goodbye { .. } => self.gone.push(key),
             _ => Ok(()),
         }
+    }
+
+    /// The goodbye that a key owes: that of the client that it made, where that one has said none.
+    #[tactic(auto, unfolding(crate::specs::Clients::goodbye_owed))]
+    pub fn goodbye_owed(&self, alloc: Global, key: u32) -> Result<Option<CallLine>, NoMemory>
+        ensures { IfOk result (λ call. call ≡ goodbye_owed self.now key) }
+    {
+        match client_of(self.made.as_slice(), key) {
+            None => Ok(None),
+            Some(made) => {
+                if is_gone(self.gone.as_slice(), key) {
+                    return Ok(None);
+                }
+                let client = List::of(alloc, made.name.as_slice())?;
+                Ok(Some(CallLine::Goodbye { client }))
+            }
+        }
+    }
+
+    /// The key has ended: its client is forgotten, and its providers are nobody's.
+    #[tactic(auto, unfolding(crate::specs::Clients::with_end))]
+    pub fn end(&mut self, key: u32)
+        ensures { self.new ≡ with_end key self.old }
+    {
+        leave_out_client(&mut self.made, key);
+        leave_out_key(&mut self.gone, key);
+        leave_out_owner(&mut self.owners, key);
     }
 }

@@ -3,7 +3,10 @@
 #![tactic(auto)]
 
 mod clients;
+mod entries;
+mod laws;
 mod sessions;
 
 pub use clients::{Clients, Owner, RemoteClient};
+pub use laws::entries_come_first;
 pub use sessions::{Sessions, is_refused};

@@ -1,10 +1,15 @@
 //! The sessions of the clients on other machines: what comes from them, and what they are to hear.
-ghost use Rattle.std.specs.Prelude.{◌≡◌, OnOk, IfOk, IfSome};
+ghost use Rattle.std.specs.Prelude.{◌≡◌, OnOk, OnErr, IfOk, IfSome, IsTrue, is_some};
 ghost use Rattle.world_model.specs.Text.{record_text};
 ghost use Rattle.remote_clients.specs.Clients.{IsPlain};
 ghost use Rattle.remote_clients.specs.Sessions.{sessions_new, noted, noted_all, call_for, is_refused, finished, turned_down};
+ghost use Rattle.remote_clients.specs.Entries.{noting_of, entry_noted, noted_with};
+ghost use Rattle.remote_clients.specs.Ending.{session_ended};
+ghost use Rattle.remote_session.specs.Daemon.{session_of, event_added};
+ghost use Rattle.remote_session.specs.Ending.{may_end};
 
 use crate::clients::Clients;
+use crate::entries::Shown;
 use node_state::{CallLine, Happened};
 use remote_session::Remote;
 use rsct_packet::NoMemory;
@@ -110,6 +115,62 @@ impl Sessions {
         Ok(())
     }
 
+    /// The line of a record goes to the key.
+    fn tell(&mut self, alloc: Global, key: u32, happened: &Happened) -> Result<(), NoMemory>
+        ensures { OnOk result (self.new ≡ record self.old
+            { remote = event_added key (record_text happened.now) self.old.remote }) }
+    {
+        let line = event_text(alloc, happened)?;
+        self.remote.event(alloc, key, line.as_slice())
+    }
+
+    /// A record comes: its line goes to who is to hear it, and before it that of its entry, where one is heard whose line
+    /// the key has not got in this step.
+    #[tactic(auto, unfolding(crate::specs::Entries::entry_noted))]
+    fn note_entry<'a>(
+        &mut self,
+        alloc: Global,
+        calling: Option<u32>,
+        happened: &'a Happened,
+        shown: &mut Shown<'a>,
+    ) -> Result<(), NoMemory>
+        ensures { OnOk result (noting_of self.new shown.new
+            ≡ entry_noted calling (noting_of self.old shown.old) happened.now) }
+    {
+        self.clients.note(calling, happened)?;
+        let Some(key) = self.clients.hearer(calling, happened) else {
+            return Ok(());
+        };
+        if let Some(put) = shown.due(alloc, key, happened)? {
+            self.tell(alloc, key, &put)?;
+            shown.show(alloc, key, happened)?;
+        }
+        self.tell(alloc, key, happened)
+    }
+
+    /// The records of a step come, in their order; with `entries` the line of each entry stands directly before the first
+    /// hearing of it that goes to a key.
+    #[tactic(auto, unfolding(crate::specs::Entries::noted_with), using(std::proofs::lemmas::List::Sums::fold_more))]
+    pub fn note_all_with(
+        &mut self,
+        alloc: Global,
+        entries: bool,
+        calling: Option<u32>,
+        records: &[Happened],
+    ) -> Result<(), NoMemory>
+        ensures { OnOk result (self.new
+            ≡ noted_with entries calling records.now self.old) }
+    {
+        if !entries {
+            return self.note_all(alloc, calling, records);
+        }
+        let mut shown = Shown::new(alloc);
+        for happened in records {
+            self.note_entry(alloc, calling, happened, &mut shown)?;
+        }
+        Ok(())
+    }
+
     /// A call of the key was a step, in which it was taken or refused.
     #[tactic(auto, unfolding(crate::specs::Sessions::finished))]
     pub fn finish(
@@ -135,5 +196,20 @@ impl Sessions {
         ensures { self.new ≡ turned_down key self.old }
     {
         self.remote.done(key, false);
+    }
+
+    /// Ends a key that is kept, as `Remote::end` does, and what is known of its client goes with it.
+    #[tactic(auto, unfolding(crate::specs::Ending::session_ended))]
+    pub fn end(&mut self, alloc: Global, key: u32) -> Result<bool, NoMemory>
+        requires { IsTrue (is_some (session_of key self.old.remote.sessions)) }
+        ensures ended { IfOk result (λ ended. ended ≡ may_end self.old.remote) }
+        ensures state { OnOk result (self.new ≡ session_ended key self.old) }
+        ensures err { OnErr result (self.new ≡ self.old) }
+    {
+        let ended = self.remote.end(alloc, key)?;
+        if ended {
+            self.clients.end(key);
+        }
+        Ok(ended)
     }
 }
