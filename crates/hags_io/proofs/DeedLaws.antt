@@ -9,7 +9,7 @@ use Rattle.hags_io.specs.Deeds.{Deed, Read, Placed, Opened, Exchanged, Wrote}
 use Rattle.hags_io.specs.Edges.{GrowsByFront, Rose}
 use Rattle.hags_io.specs.Links.{Same, Grows, Tells, Counts, was_opened}
 use Rattle.hags_io.specs.Places.{with_place}
-use Rattle.hags_io.specs.Telling.{Telling, calls_in, moments_in, last_in, placed_by, opened_by, link_failure, link_failures, write_failure, write_failures, WroteIf, Holds, Rises, Did}
+use Rattle.hags_io.specs.Telling.{Telling, calls_in, moments_in, last_in, placed_by, opened_by, link_failure, link_failures, write_failure, write_failures, WroteIf, Holds, Rises, Did, telling_of}
 
 -- ---- what is told stays, or grows
 
@@ -167,7 +167,7 @@ did_on t u v xs ys p q = record {
 module _ (ds : List Deed) (held : Option (List ℕ)) (write_faults : ℕ) (moments : Option (List ℕ)) (last : ℕ) where
   abbrev at_link : List Deed → Option (List LinkCall) → Option Places → Option (Option (ℕ × Bool)) → ℕ → Telling
   at_link es calls places opened faults =
-      record { deeds = es; calls = calls; places = places; opened = opened; link_faults = faults; held = held; write_faults = write_faults; moments = moments; last_moment = last }
+      telling_of es calls places opened faults held write_faults moments last
 
   pub did_place : (es : List Deed) (a b : Option (List LinkCall)) (p q : Option Places) (o r : Option (Option (ℕ × Bool))) (m n : ℕ) (node network address port : ℕ)
       → es ≡ ds ++ Placed node network address port ∷ [] → Tells p q (with_place node network address port) → Same a b → Same o r → n ≡ m
@@ -266,7 +266,7 @@ module _ (ds : List Deed) (held : Option (List ℕ)) (write_faults : ℕ) (momen
 module _ (ds : List Deed) (calls : Option (List LinkCall)) (places : Option Places) (opened : Option (Option (ℕ × Bool))) (link_faults : ℕ) where
   abbrev at_rest : List Deed → Option (List ℕ) → ℕ → Option (List ℕ) → ℕ → Telling
   at_rest es held faults moments last =
-      record { deeds = es; calls = calls; places = places; opened = opened; link_faults = link_faults; held = held; write_faults = faults; moments = moments; last_moment = last }
+      telling_of es calls places opened link_faults held faults moments last
 
   pub did_read : (es : List Deed) (x : Option (List ℕ)) (m : ℕ) (u v : Option (List ℕ)) (l k moment : ℕ) → es ≡ ds ++ Read moment ∷ [] → Counts u v (moment ∷ []) → k ≡ moment
       → Did (at_rest ds x m u l) (at_rest es x m v k) (Read moment ∷ [])

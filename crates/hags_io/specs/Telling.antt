@@ -27,6 +27,21 @@ pub record Telling : Type 0 where
   pub moments : Option (List ℕ)
   pub last_moment : ℕ
 
+-- what is told by a history with these deeds, a link, a sink and a clock
+abbrev pub telling_of : List Deed → Option (List LinkCall) → Option Places → Option (Option (ℕ × Bool)) → ℕ
+    → Option (List ℕ) → ℕ → Option (List ℕ) → ℕ → Telling
+telling_of deeds calls places opened link_faults held write_faults moments last = record {
+  deeds = deeds;
+  calls = calls;
+  places = places;
+  opened = opened;
+  link_faults = link_faults;
+  held = held;
+  write_faults = write_faults;
+  moments = moments;
+  last_moment = last;
+}
+
 -- ---- whose share of the deeds each part has
 
 abbrev pub calls_in : List Deed → List LinkCall

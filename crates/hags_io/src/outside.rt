@@ -1,7 +1,7 @@
 //! All that a program works over as one value: a sink, a link and a clock, with one list of what was done.
 ghost use Rattle.std.specs.Prelude.{◌≡◌, ◌≤◌, ◌∷◌, [], length};
 ghost use Rattle.hags_io.specs.Deeds.{Read, Placed, Opened};
-ghost use Rattle.hags_io.specs.Telling.{Telling, Did, DidReceive, DidSend, DidWrite};
+ghost use Rattle.hags_io.specs.Telling.{Telling, Did, DidReceive, DidSend, DidWrite, telling_of};
 
 use crate::history::History;
 use crate::link::{Clock, Got, Link};
@@ -51,7 +51,9 @@ pub struct Parts<K, L, M> {
 }
 
 impl<K: Sink, L: Link, M: Clock> Outside for Parts<K, L, M> {
-    ghost told = { λ p. record { deeds = p.history.deeds; calls = L.calls p.link; places = L.places p.link; opened = L.opened p.link; link_faults = L.faults p.link; held = K.held p.out; write_faults = K.faults p.out; moments = M.moments p.clock; last_moment = M.last p.clock } };
+    ghost told = { λ p. telling_of p.history.deeds (L.calls p.link) (L.places p.link)
+        (L.opened p.link) (L.faults p.link) (K.held p.out) (K.faults p.out)
+        (M.moments p.clock) (M.last p.clock) };
 
     #[tactic(auto, using(crate::proofs::DeedLaws::did_place))]
     fn place(&mut self, node: u8, network: u8, address: u32, port: u16) {
