@@ -1,6 +1,8 @@
 -- How a daemon's whole life comes together.
-use Rattle.std.proofs.Common.{◌≡◌, ℕ, ◌+◌, ◌≤◌, Bool, List, [], ◌∷◌, ◌++◌, map, refl, sym, ◌∙◌, ap, subst, append_assoc, append-nil, arith}
-use Rattle.std.specs.Prelude.{Option}
+use Rattle.std.proofs.Common.{◌≡◌, ℕ, ◌≤◌, Bool, List, [], ◌∷◌, ◌++◌, map, Option, None, IfSome, IsSomeAnd, refl, sym, ◌∙◌, ap, subst, append_assoc, append-nil, arith}
+use Rattle.std.specs.Prelude.{Result, Ok, Err, OnOk, IfErr}
+use Rattle.std.proofs.lemmas.List.{map-append}
+use Rattle.std.proofs.lemmas.Option.{none-some}
 use Rattle.hags_io.specs.Deeds.{Read, Opened}
 use Rattle.hags_io.specs.Edges.{Rose}
 use Rattle.hags_io.specs.Telling.{Telling, Did}
@@ -8,12 +10,16 @@ use Rattle.hags_io.specs.Fronts.{EndsByWrite, EndsByReceive}
 use Rattle.hags_io.proofs.FrontLaws.{went_as, rose_by_write, rose_by_receive}
 use Rattle.client_callbacks.specs.declared.votes.VoteItem.{VoteItem}
 use Rattle.client_callbacks.specs.Handed.{Handed}
+use Rattle.link_use.specs.declared.stop.Stop.{Stop}
+use Rattle.link_use.specs.declared.stop.Stop.TheVariants as stop
+use Rattle.link_use.specs.Stops.{StopsBy, StopsDaemon}
 use Rattle.link_use.proofs.OpenLaws.{rose_after}
 use Rattle.node_state.specs.declared.config.Config.{Config}
 use Rattle.node_state.specs.Step.{at_work}
+use Rattle.node_core.specs.Node.{NodeView}
 use Rattle.world_model.specs.declared.script.Script.{Script}
-use Rattle.daemon_model.specs.Daemon.{Daemon, Opening, Turn, fresh, begun_for, lived}
-use Rattle.daemon_model.specs.Actions.{Opens, did_all}
+use Rattle.daemon_model.specs.Daemon.{Daemon, Opening, Turn, Life, fresh, begun_for, lived}
+use Rattle.daemon_model.specs.Actions.{Action, Opens, did_all}
 use Rattle.daemon_model.specs.Doings.{Doing, Reads, since, doings_of, life_doings, Made, MadeFront}
 use Rattle.daemon_model.specs.Lives.{GoesOn, Lived, ServesAs, ServesTo, ServesFront, most_failed}
 use Rattle.daemon_model.specs.Settings.{placings, openings}
@@ -23,42 +29,57 @@ use Rattle.daemon_model.proofs.MadeLaws.{made_on, made_front_on}
 use Rattle.daemon_run.specs.declared.hosted.Hosted.{Hosted}
 use Rattle.daemon_run.specs.declared.running.Running.{Running}
 use Rattle.daemon_run.specs.Hosting.{Known}
-use Rattle.daemon_run.specs.Doing.{daemon_of, Acts, Passes}
-use Rattle.daemon_run.specs.Calling.{opening_doings, opened_by, BeginsAs, BeginBreaks}
-use Rattle.daemon_run.specs.Ends.{HandsOver}
-use Rattle.daemon_run.specs.Audience.{Audience, no_audience, OpeningHands, TurnsHand, Attend, AttendWith}
-use Rattle.daemon_run.specs.Serving.{acts_in, TurnsDone, TurnsEnded, TurnsFront}
+use Rattle.daemon_run.specs.Audience.{Audience, no_audience, ActionsHand, Attend, AttendWith}
+use Rattle.daemon_run.specs.Doing.{daemon_of, Acts, Passes, Attends, WriteFails}
+use Rattle.daemon_run.specs.Calling.{calls_in, fresh_running, opening_doings, opened_by, BeginsWith, BeginsAs, BeginBreaks, BeginFails}
+use Rattle.daemon_run.specs.Serving.{acts_in, TurnsDone, TurnsEnded, TurnsFront, TurnsFail}
+use Rattle.daemon_run.specs.Ends.{HandsOver, daemon_after, LeftByAll, LeftByLink, LeftByWrite, LeftBy, left_of}
+use Rattle.daemon_run.proofs.FailLaws.{fails_on}
+use Rattle.daemon_run.proofs.GoesLaws.{hands_append}
+use Rattle.daemon_run.proofs.CallLaws.{unanswered, unanswered_are}
 
 -- ---- the doings of a life, part by part
 
 read_made : (t u : Telling) (moment : ℕ) → Did t u (Read moment ∷ []) → Made t u (Reads moment ∷ [])
 read_made t u moment h = record { went = went_as t u (Read moment) (Read moment) refl h; spelled = tt }
 
--- the start, the calls of the settings, and the turns
+-- the start, the calls of the settings, and acts
+acts_parts : (remote : Bool) (c : Config) (me inc moment : ℕ) (os : List Opening) (acts : List Action)
+    → Reads moment ∷ (opening_doings remote c me inc moment os ++ doings_of (opened_by remote c me inc moment os) acts)
+    ≡ Reads moment ∷ (since (fresh remote c me inc moment) (begun_for remote c me inc moment) ++ doings_of (begun_for remote c me inc moment) (map Opens os ++ acts))
+acts_parts remote c me inc moment os acts =
+    let d : Daemon = begun_for remote c me inc moment in
+    let first : List Doing = since (fresh remote c me inc moment) d in
+    ap (λ x. Reads moment ∷ x) (append_assoc first (doings_of d (map Opens os)) (doings_of (did_all d (map Opens os)) acts) ∙ ap (λ x. first ++ x) (sym (doings_append d (map Opens os) acts)))
+
+-- and turns
 life_parts : (remote : Bool) (c : Config) (me inc moment : ℕ) (os : List Opening) (ts : List Turn)
     → Reads moment ∷ (opening_doings remote c me inc moment os ++ doings_of (opened_by remote c me inc moment os) (acts_in ts)) ≡ life_doings c me inc (record { remote = remote; start = moment; opening = os; turns = ts })
 unfolding life_doings
-life_parts remote c me inc moment os ts =
-    let d : Daemon = begun_for remote c me inc moment in
-    let first : List Doing = since (fresh remote c me inc moment) d in
-    ap (λ x. Reads moment ∷ x)
-    (append_assoc first (doings_of d (map Opens os)) (doings_of (did_all d (map Opens os)) (acts_in ts)) ∙ ap (λ x. first ++ x) (sym (doings_append d (map Opens os) (acts_in ts))))
+life_parts remote c me inc moment os ts = acts_parts remote c me inc moment os (acts_in ts)
 
 last_is : (remote : Bool) (c : Config) (me inc moment : ℕ) (os : List Opening) (ts : List Turn) → lived c me inc (record { remote = remote; start = moment; opening = os; turns = ts }) ≡ did_all (opened_by remote c me inc moment os) (acts_in ts)
 last_is remote c me inc moment os ts =
     lives_are_actions c me inc (record { remote = remote; start = moment; opening = os; turns = ts }) ∙ did_append (begun_for remote c me inc moment) (map Opens os) (acts_in ts)
 
 module _ {C : Type 0} where
+  -- the moment of a start is that which the clock gave
+  pub fresh_at : (r : Running C) (remote : Bool) (c : Config) (me inc moment : ℕ) → r ≡ fresh_running remote c me inc moment → r ≡ fresh_running remote c me inc r.last
+  fresh_at r remote c me inc moment is = is ∙ ap (λ (m : ℕ). fresh_running {C = C} remote c me inc m) (sym (ap (λ (x : Running C). x.last) is))
+
+  pub read_at : (r : Running C) (remote : Bool) (c : Config) (me inc moment : ℕ) (t u : Telling) → r ≡ fresh_running remote c me inc moment → Did t u (Read moment ∷ []) → Did t u (Read r.last ∷ [])
+  read_at r remote c me inc moment t u is h = subst (λ (m : ℕ). Did t u (Read m ∷ [])) (sym (ap (λ (x : Running C). x.last) is)) h
+
   -- the daemon after its turns
-  after_turns : {A B : Known → List (Hosted C) → Audience → Type 0} (remote : Bool) (script : Script) (me inc moment : ℕ) (s q : Running C) (ts : List Turn) (t u v w : Telling) → (h : BeginsAs A B remote script me inc moment s t u) → (n : Acts s q v w (acts_in ts))
+  after_turns : {A B D : Known → List (Hosted C) → Audience → Type 0} (remote : Bool) (script : Script) (me inc moment : ℕ) (s q : Running C) (ts : List Turn) (t u v w : Telling) → (h : BeginsAs A B remote script me inc moment s t u) → (n : Acts D D s q v w (acts_in ts))
       → did_all (opened_by remote script.config me inc moment h.opening) (acts_in ts)
       ≡ daemon_of q ((opened_by remote script.config me inc moment h.opening).calls ++ n.calls) ((opened_by remote script.config me inc moment h.opening).records ++ n.records)
   after_turns remote script me inc moment s q ts t u v w h n =
       let d : Daemon = opened_by remote script.config me inc moment h.opening in
       ap (λ (e : Daemon). did_all e (acts_in ts)) h.is ∙ n.is d.calls d.records
 
-  lived_as : {A B : Known → List (Hosted C) → Audience → Type 0} (remote : Bool) (script : Script) (me inc moment : ℕ) (s q : Running C) (ts : List Turn) (t u v w : Telling) → Did t u (Read moment ∷ []) → (h : BeginsAs A B remote script me inc moment s u v)
-      → Acts s q v w (acts_in ts) → Lived script me inc remote (record { remote = remote; start = moment; opening = h.opening; turns = ts }) t w
+  lived_as : {A B D : Known → List (Hosted C) → Audience → Type 0} (remote : Bool) (script : Script) (me inc moment : ℕ) (s q : Running C) (ts : List Turn) (t u v w : Telling) → Did t u (Read moment ∷ []) → (h : BeginsAs A B remote script me inc moment s u v)
+      → Acts D D s q v w (acts_in ts) → Lived script me inc remote (record { remote = remote; start = moment; opening = h.opening; turns = ts }) t w
   lived_as remote script me inc moment s q ts t u v w at h n =
       let d : Daemon = opened_by remote script.config me inc moment h.opening in
       let done : n.done ≡ doings_of d (acts_in ts) = sym (ap (λ (e : Daemon). doings_of e (acts_in ts)) h.is ∙ n.are d.calls d.records) in
@@ -70,7 +91,7 @@ module _ {C : Type 0} where
             (made_on u v w (opening_doings remote script.config me inc moment h.opening) n.done h.made n.made));
       }
 
-  pub serves_all : {A B D : Known → List (Hosted C) → Audience → Type 0} (remote : Bool) (script : Script) (me inc moment count : ℕ) (s q : Running C) (t u v w : Telling) → Did t u (Read moment ∷ []) → BeginsAs A B remote script me inc moment s u v → TurnsDone D s q count v w
+  serves_all : {A B D : Known → List (Hosted C) → Audience → Type 0} (remote : Bool) (script : Script) (me inc moment count : ℕ) (s q : Running C) (t u v w : Telling) → Did t u (Read moment ∷ []) → BeginsAs A B remote script me inc moment s u v → TurnsDone D s q count v w
       → ServesAs script me inc remote count (at_work q.node.core) t w
   serves_all remote script me inc moment count s q t u v w at h n =
       let d : Daemon = opened_by remote script.config me inc moment h.opening in
@@ -82,31 +103,7 @@ module _ {C : Type 0} where
         core_is = sym (ap (λ (e : Daemon). e.core) (last_is remote script.config me inc moment h.opening n.turns ∙ after_turns remote script me inc moment s q n.turns u v v w h n.acts));
       }
 
-  -- and what it handed to its clients
-  pub hands_over : {P Q : Known → Type 0} {R : C → List Handed → Type 0} {votes : C → Option (List (Option VoteItem))} (remote : Bool) (script : Script) (me inc moment count : ℕ) (s q : Running C) (t u v w : Telling) → Did t u (Read moment ∷ [])
-      → BeginsAs (AttendWith P R votes) (AttendWith Q R votes) remote script me inc moment s u v → TurnsDone (Attend R votes) s q count v w → HandsOver P R votes script me inc remote count q.node t w
-  unfolding serves_all
-  hands_over {P = P} {Q = Q} {R = R} {votes = votes} remote script me inc moment count s q t u v w at h n = record {
-    serves = serves_all remote script me inc moment count s q t u v w at h n;
-    last = next.0;
-    hands = (first.0, first.1, subst (λ (e : Daemon). TurnsHand e n.turns first.0 next.0) (sym (opens_done (begun_for remote script.config me inc moment) h.opening ∙ h.is)) next.1);
-    stand = λ known held. next.2 known (first.2 known (attends_first known held)).attend;
-  }
-    where
-      d : Daemon
-      d = opened_by remote script.config me inc moment h.opening
-
-      first : (m : Audience) × OpeningHands (begun_for remote script.config me inc moment) h.opening no_audience m × Passes (AttendWith P R votes) (AttendWith Q R votes) [] s.node.clients no_audience m
-      first = h.attends no_audience
-
-      next : (y : Audience) × TurnsHand (daemon_of s d.calls d.records) n.turns first.0 y × Passes (Attend R votes) (Attend R votes) s.node.clients q.node.clients first.0 y
-      next = n.attends d.calls d.records first.0
-
-      -- no session, and the objects as they were handed in
-      attends_first : (known : Known) → P known → AttendWith P R votes known [] no_audience
-      attends_first known held = record { left = held; attend = record { stand = tt; even = refl; logs = tt; boxed = refl } }
-
-  pub serves_to : {A B : Known → List (Hosted C) → Audience → Type 0} (remote : Bool) (script : Script) (me inc moment count : ℕ) (s q : Running C) (t u v w : Telling) → Did t u (Read moment ∷ []) → BeginsAs A B remote script me inc moment s u v → TurnsEnded s q count v w
+  pub serves_to : {A B D : Known → List (Hosted C) → Audience → Type 0} (remote : Bool) (script : Script) (me inc moment count : ℕ) (s q : Running C) (t u v w : Telling) → Did t u (Read moment ∷ []) → BeginsAs A B remote script me inc moment s u v → TurnsEnded D s q count v w
       → ServesTo script me inc remote count t w
   serves_to remote script me inc moment count s q t u v w at h n = record {
     life = record { remote = remote; start = moment; opening = h.opening; turns = n.turns };
@@ -146,6 +143,143 @@ serves_begun remote script me inc moment count t u v at h = record {
   };
   at_most = omega arith;
 }
+
+-- ---- the node that is left
+
+-- a node that is not given back had no memory
+pub left_none : {C : Type 0} (end : Result (Unit {0}) Stop) (node : NodeView (Hosted C)) (o : Option (NodeView (Hosted C))) → o ≡ left_of end node → o ≡ None → end ≡ Err stop.NoMemory
+left_none (Ok u) node o is none = absurd (none-some node (sym none ∙ is))
+left_none (Err stop.NoMemory) node o is none = refl
+left_none (Err stop.WriteFault) node o is none = absurd (none-some node (sym none ∙ is))
+left_none (Err stop.LinkFault) node o is none = absurd (none-some node (sym none ∙ is))
+left_none (Err stop.NoReply) node o is none = absurd (none-some node (sym none ∙ is))
+left_none (Err stop.SessionLost) node o is none = absurd (none-some node (sym none ∙ is))
+left_none (Err stop.DaemonFull) node o is none = absurd (none-some node (sym none ∙ is))
+
+-- after all turns it is given back
+pub serves_left : {C : Type 0} {A B : Known → List (Hosted C) → Audience → Type 0} (D : Known → List (Hosted C) → Audience → Type 0) (remote : Bool) (script : Script) (me inc moment count : ℕ) (s q : Running C) (t u v w : Telling) (o : Option (NodeView (Hosted C))) (end : Result (Unit {0}) Stop) → o ≡ left_of end q.node → Did t u (Read moment ∷ [])
+    → BeginsAs A B remote script me inc moment s u v → OnOk end (TurnsDone D s q count v w) → OnOk end (IsSomeAnd o (λ node. ServesAs script me inc remote count (at_work node.core) t w))
+serves_left {C = C} D remote script me inc moment count s q t u v w o (Ok x) is at h done = subst (λ (y : Option (NodeView (Hosted C))). IsSomeAnd y (λ node. ServesAs script me inc remote count (at_work node.core) t w)) (sym is) (serves_all remote script me inc moment count s q t u v w at h done)
+serves_left D remote script me inc moment count s q t u v w o (Err f) is at h done = tt
+
+module _ {C : Type 0} {P : Known → Type 0} {R : C → List Handed → Type 0} {votes : C → Option (List (Option VoteItem))} where
+  -- no session, and the objects as they were handed in
+  attends_first : (known : Known) → P known → AttendWith P R votes known [] no_audience
+  attends_first known held = record { left = held; attend = record { stand = tt; even = refl; logs = tt; boxed = refl } }
+
+  -- what acts handed, and more acts
+  acts_hand_over : (script : Script) (me inc : ℕ) (life : Life) (s q : Running C) (d : Daemon) (acts more : List Action) → daemon_after script me inc life acts ≡ d → HandsOver P R votes script me inc life acts s.node
+      → ((x : Audience) → (y : Audience) × ActionsHand d more x y × Passes (Attend R votes) (Attend R votes) s.node.clients q.node.clients x y) → HandsOver P R votes script me inc life (acts ++ more) q.node
+  acts_hand_over script me inc life s q d acts more is h k =
+      let next : (y : Audience) × ActionsHand d more h.last y × Passes (Attend R votes) (Attend R votes) s.node.clients q.node.clients h.last y = k h.last in
+      record {
+        last = next.0;
+        hands = hands_append (begun_for life.remote script.config me inc life.start) acts more no_audience h.last next.0 h.hands (subst (λ (e : Daemon). ActionsHand e more h.last next.0) (sym is) next.1);
+        stand = λ known held. next.2 known (h.stand known held);
+      }
+
+module _ {C : Type 0} {P Q : Known → Type 0} {R : C → List Handed → Type 0} {votes : C → Option (List (Option VoteItem))} where
+  -- what the calls handed
+  calls_hand : (remote : Bool) (script : Script) (me inc moment : ℕ) (s : Running C) (os more : List Opening) (ts : List Turn) → BeginsWith (AttendWith P R votes) (AttendWith Q R votes) remote script.config me inc moment s os
+      → HandsOver P R votes script me inc (record { remote = remote; start = moment; opening = more; turns = ts }) (map Opens os) s.node
+  calls_hand remote script me inc moment s os more ts h =
+      let first : (v : Audience) × ActionsHand (begun_for remote script.config me inc moment) (map Opens os) no_audience v × Passes (AttendWith P R votes) (AttendWith Q R votes) [] s.node.clients no_audience v = h no_audience in
+      record { last = first.0; hands = first.1; stand = λ known held. (first.2 known (attends_first known held)).attend }
+
+  -- all of a life that began
+  turns_hand : (remote : Bool) (script : Script) (me inc moment : ℕ) (s q : Running C) (ts : List Turn) (acts : List Action) (u v : Telling) → (h : BeginsAs (AttendWith P R votes) (AttendWith Q R votes) remote script me inc moment s u v)
+      → Attends (Attend R votes) (Attend R votes) s q (λ d. ActionsHand d acts) → HandsOver P R votes script me inc (record { remote = remote; start = moment; opening = h.opening; turns = ts }) (map Opens h.opening ++ acts) q.node
+  turns_hand remote script me inc moment s q ts acts u v h k =
+      let d : Daemon = opened_by remote script.config me inc moment h.opening in
+      acts_hand_over script me inc (record { remote = remote; start = moment; opening = h.opening; turns = ts }) s q (daemon_of s d.calls d.records) (map Opens h.opening) acts h.is
+      (calls_hand remote script me inc moment s h.opening h.opening ts h.attends) (k d.calls d.records)
+
+  left_by_all : (remote : Bool) (script : Script) (me inc moment count : ℕ) (s q : Running C) (t u v w : Telling) → Did t u (Read moment ∷ []) → BeginsAs (AttendWith P R votes) (AttendWith Q R votes) remote script me inc moment s u v → TurnsDone (Attend R votes) s q count v w
+      → LeftByAll P R votes script me inc remote count q.node t w
+  unfolding serves_all
+  left_by_all remote script me inc moment count s q t u v w at h n = record {
+    serves = serves_all remote script me inc moment count s q t u v w at h n;
+    hands = turns_hand remote script me inc moment s q n.turns (acts_in n.turns) u v h n.acts.attends;
+  }
+
+  left_by_link : (remote : Bool) (script : Script) (me inc moment count : ℕ) (s q : Running C) (t u v w : Telling) → Did t u (Read moment ∷ []) → BeginsAs (AttendWith P R votes) (AttendWith Q R votes) remote script me inc moment s u v → TurnsEnded (Attend R votes) s q count v w
+      → LeftByLink P R votes script me inc remote count q.node t w
+  unfolding serves_to
+  left_by_link remote script me inc moment count s q t u v w at h n = record {
+    serves = serves_to remote script me inc moment count s q t u v w at h n;
+    core_is = sym (ap (λ (e : Daemon). e.core) (last_is remote script.config me inc moment h.opening n.turns ∙ after_turns remote script me inc moment s q n.turns u v v w h n.acts));
+    hands = turns_hand remote script me inc moment s q n.turns (acts_in n.turns) u v h n.acts.attends;
+  }
+
+  left_by_write : (remote : Bool) (script : Script) (me inc moment count : ℕ) (s q : Running C) (t u v w : Telling) → Did t u (Read moment ∷ []) → BeginsAs (AttendWith P R votes) (AttendWith Q R votes) remote script me inc moment s u v → TurnsFail (Attend R votes) s q count v w
+      → LeftByWrite P R votes script me inc remote count q.node t w
+  left_by_write remote script me inc moment count s q t u v w at h n =
+      let d : Daemon = opened_by remote script.config me inc moment h.opening in
+      record {
+        serves = record {
+          life = record { remote = remote; start = moment; opening = h.opening; turns = n.turns };
+          serves = refl;
+          opening = h.are;
+          at_most = n.at_most;
+          acts = map Opens h.opening ++ n.acts;
+          later = n.later;
+          are = append_assoc (map Opens h.opening) n.acts n.later ∙ ap (λ x. map Opens h.opening ++ x) n.are;
+          made = subst (WriteFails t w)
+              (ap (λ x. Reads moment ∷ (opening_doings remote script.config me inc moment h.opening ++ x)) (sym (ap (λ (e : Daemon). doings_of e n.acts) h.is)) ∙ acts_parts remote script.config me inc moment h.opening n.acts)
+              (fails_on t u w (Reads moment ∷ []) (opening_doings remote script.config me inc moment h.opening ++ doings_of (daemon_of s d.calls d.records) n.acts) (read_made t u moment at)
+              (fails_on u v w (opening_doings remote script.config me inc moment h.opening) (doings_of (daemon_of s d.calls d.records) n.acts) h.made (n.fails.made d.calls d.records)));
+          core_is = sym (ap (λ (e : Daemon). e.core) (did_append (begun_for remote script.config me inc moment) (map Opens h.opening) n.acts ∙ ap (λ (e : Daemon). did_all e n.acts) h.is) ∙ n.fails.core d.calls d.records);
+        };
+        hands = turns_hand remote script me inc moment s q n.turns n.acts u v h n.fails.attends;
+      }
+
+  -- it began no turn
+  begun_by_write : (remote : Bool) (script : Script) (me inc moment count : ℕ) (s : Running C) (t u v : Telling) → Did t u (Read moment ∷ []) → BeginFails (AttendWith P R votes) (AttendWith Q R votes) remote script me inc moment s u v
+      → LeftByWrite P R votes script me inc remote count s.node t v
+  begun_by_write remote script me inc moment count s t u v at h =
+      let all : List Opening = h.opening ++ unanswered h.later in
+      record {
+        serves = record {
+          life = record { remote = remote; start = moment; opening = all; turns = [] };
+          serves = refl;
+          opening = map-append (λ (o : Opening). o.call) h.opening (unanswered h.later) ∙ (ap (λ x. calls_in h.opening ++ x) (unanswered_are h.later) ∙ h.are);
+          at_most = omega arith;
+          acts = map Opens h.opening;
+          later = map Opens (unanswered h.later);
+          are = sym (append-nil (map Opens all) ∙ map-append Opens h.opening (unanswered h.later));
+          made = fails_on t u v (Reads moment ∷ []) (opening_doings remote script.config me inc moment h.opening) (read_made t u moment at) h.made;
+          core_is = sym h.core;
+        };
+        hands = calls_hand remote script me inc moment s h.opening all [] h.attends;
+      }
+
+  pub left_begun : (remote : Bool) (script : Script) (me inc moment count : ℕ) (s : Running C) (t u v : Telling) (o : Option (NodeView (Hosted C))) (f : Stop) → o ≡ left_of (Err f) s.node → Did t u (Read moment ∷ []) → StopsBy v f
+      → (f ≡ stop.WriteFault → BeginFails (AttendWith P R votes) (AttendWith Q R votes) remote script me inc moment s u v) → IfSome o (λ node. LeftBy P R votes script me inc remote count (Err f) node t v)
+  left_begun remote script me inc moment count s t u v o f is at stops written = subst (λ (x : Option (NodeView (Hosted C))). IfSome x (λ node. LeftBy P R votes script me inc remote count (Err f) node t v)) (sym is) (by f stops written)
+    where
+      by : (f : Stop) → StopsBy v f → (f ≡ stop.WriteFault → BeginFails (AttendWith P R votes) (AttendWith Q R votes) remote script me inc moment s u v) → IfSome (left_of (Err f) s.node) (λ node. LeftBy P R votes script me inc remote count (Err f) node t v)
+      by stop.NoMemory stops written = tt
+      by stop.WriteFault stops written = begun_by_write remote script me inc moment count s t u v at (written refl)
+      by stop.LinkFault stops written = absurd stops
+      by stop.NoReply stops written = absurd stops
+      by stop.SessionLost stops written = absurd stops
+      by stop.DaemonFull stops written = absurd stops
+
+  pub left_served : (remote : Bool) (script : Script) (me inc moment count : ℕ) (s q : Running C) (t u v w : Telling) (o : Option (NodeView (Hosted C))) (end : Result (Unit {0}) Stop) → o ≡ left_of end q.node → Did t u (Read moment ∷ [])
+      → BeginsAs (AttendWith P R votes) (AttendWith Q R votes) remote script me inc moment s u v → IfErr end StopsDaemon → OnOk end (TurnsDone (Attend R votes) s q count v w) → (end ≡ Err stop.LinkFault → TurnsEnded (Attend R votes) s q count v w)
+      → IfErr end (λ f. f ≡ stop.WriteFault → TurnsFail (Attend R votes) s q count v w) → IfSome o (λ node. LeftBy P R votes script me inc remote count end node t w)
+  left_served remote script me inc moment count s q t u v w o end is at h stops done ended written =
+      subst (λ (x : Option (NodeView (Hosted C))). IfSome x (λ node. LeftBy P R votes script me inc remote count end node t w)) (sym is) (by end stops done ended written)
+    where
+      by : (end : Result (Unit {0}) Stop) → IfErr end StopsDaemon → OnOk end (TurnsDone (Attend R votes) s q count v w) → (end ≡ Err stop.LinkFault → TurnsEnded (Attend R votes) s q count v w) → IfErr end (λ f. f ≡ stop.WriteFault → TurnsFail (Attend R votes) s q count v w)
+          → IfSome (left_of end q.node) (λ node. LeftBy P R votes script me inc remote count end node t w)
+      by (Ok x) stops done ended written = left_by_all remote script me inc moment count s q t u v w at h done
+      by (Err stop.NoMemory) stops done ended written = tt
+      by (Err stop.WriteFault) stops done ended written = left_by_write remote script me inc moment count s q t u v w at h (written refl)
+      by (Err stop.LinkFault) stops done ended written = left_by_link remote script me inc moment count s q t u v w at h (ended refl)
+      by (Err stop.NoReply) stops done ended written = absurd stops
+      by (Err stop.SessionLost) stops done ended written = absurd stops
+      by (Err stop.DaemonFull) stops done ended written = absurd stops
 
 -- ---- the count of failures rose
 

@@ -1,3 +1,4 @@
+pub mod FailLaws
 pub mod WriteLaws
 pub mod GoesLaws
 pub mod HostLaws
@@ -8,4 +9,5 @@ pub mod TurnLaws
 pub mod ServeLaws
 pub mod CallLaws
 pub mod EndLaws
+pub mod FirstLaws
 pub mod RemoteLaws

@@ -23,8 +23,8 @@ use Rattle.daemon_run.specs.Hosting.{Known}
 use Rattle.daemon_run.specs.declared.hosted.Hosted.{Hosted}
 use Rattle.daemon_run.specs.declared.running.Running.{Running}
 use Rattle.daemon_run.specs.Audience.{Audience, StepHands, LineHands, BroughtHands, GivenHands}
-use Rattle.daemon_run.specs.Doing.{daemon_of, Comes, Goes, Breaks, Passes, Attends, StepsAs, StepBreaks, CallSteps, is_up_taken, down_exchanges, Sends, SendsFront, CallsKey, CallKeyBreaks, GivesAs, GiveBreaks}
-use Rattle.daemon_run.proofs.GoesLaws.{AddsCalls, goes_none, goes_as, goes_still, goes_more, breaks_none, breaks_as, breaks_late, breaks_on, breaks_more}
+use Rattle.daemon_run.specs.Doing.{daemon_of, Comes, Goes, Breaks, Passes, Attends, StepsAs, StepBreaks, StepFails, CallSteps, is_up_taken, down_exchanges, Sends, SendsFront, CallsKey, CallKeyBreaks, CallKeyFails, GivesAs, GiveBreaks, GiveFails}
+use Rattle.daemon_run.proofs.GoesLaws.{AddsCalls, goes_none, goes_as, goes_still, goes_more, breaks_none, breaks_as, breaks_late, breaks_on, breaks_more, fails_as, fails_late}
 use Rattle.daemon_run.proofs.StepLaws.{silent}
 
 -- what the sessions make of a step that was a call of the key
@@ -37,6 +37,10 @@ finished_adds key c refused d = record { calls = []; called = sym (append-nil d.
 down_adds : (key network : ℕ) (d : Daemon) → AddsCalls d (down_sent key network d)
 unfolding down_sent
 down_adds key network d = record { calls = map (said d.number) (message_calls d.me d.incarnation d.number 0 network (down_in d.sessions key)); called = refl; recorded = refl }
+
+down_core : (key network : ℕ) (d : Daemon) → (down_sent key network d).core ≡ d.core
+unfolding down_sent
+down_core key network d = refl
 
 -- the sessions took a message before
 with_called : (key : ℕ) (line message : List ℕ) (f : Answering) (d : Daemon) → Adds d (called_by key line f (with_up message d))
@@ -106,18 +110,21 @@ module _ {C : Type 0} where
       let one : called_by key line f d ≡ key_called key c (stepped f d.core (Calls c)) d = ap (λ (o : Option CallLine). line_carried key o f d) (sym some) in
       one ∙ ap (λ (x : Bool). with_finished key c x (left_for (Some key) d (stepped f d.core (Calls c)))) (sym is)
 
+  line_hands : (A : Known → List (Hosted C) → Audience → Type 0) (r s : Running C) (key : ℕ) (line : List ℕ) (c : CallLine) (f : Answering) → Some c ≡ call_in r.sessions r.outbox.me key line → Attends A A r s (λ d. StepHands f (Calls c) d.core)
+      → Attends A A r s (λ d. LineHands (call_in d.sessions d.me key line) f d.core)
+  line_hands A r s key line c f some h before noted z =
+      let a : (v : Audience) × StepHands f (Calls c) (at_work r.node.core) z v × Passes A A r.node.clients s.node.clients z v = h before noted z in
+      (a.0, subst (λ (o : Option CallLine). LineHands o f (at_work r.node.core) z a.0) some a.1, a.2)
+
   pub line_done : {A : Known → List (Hosted C) → Audience → Type 0} (r q s : Running C) (key : ℕ) (line : List ℕ) (c : CallLine) (refused : Bool) (t u : Telling) → Some c ≡ call_in r.sessions r.outbox.me key line → CallSteps A (Some key) r q refused t u c
       → s ≡ with_sessions q (option_map (finished key c (not refused)) q.sessions) → CallsKey A r s t u key line
   line_done {A = A} r q s key line c refused t u some h is = record {
     answers = h.answers;
     goes = goes_as r r s t u (called_by key line h.answers) (λ d. with_finished key c refused (stepped_for (Some key) h.answers (Calls c) d)) (line_is r key line c refused h.answers some h.was)
         (goes_still r q s t u (stepped_for (Some key) h.answers (Calls c)) (with_finished key c refused) h.goes (λ before noted. ap (λ (x : Running C). daemon_of x before noted) (sym is)));
-    attends = λ before noted z.
-        let a : (v : Audience) × StepHands h.answers (Calls c) (at_work r.node.core) z v × Passes A A r.node.clients q.node.clients z v = h.attends before noted z in (
-          a.0,
-          subst (λ (o : Option CallLine). LineHands o h.answers (at_work r.node.core) z a.0) some a.1,
-          λ known held. subst (λ (x : Running C). A known x.node.clients a.0) (sym is) (a.2 known held),
-        );
+    attends = line_hands A r s key line c h.answers some (λ before noted z.
+        let a : (v : Audience) × StepHands h.answers (Calls c) (at_work r.node.core) z v × Passes A A r.node.clients q.node.clients z v = h.attends before noted z in
+        (a.0, a.1, λ known held. subst (λ (x : Running C). A known x.node.clients a.0) (sym is) (a.2 known held)));
   }
 
   pub line_broke : (r : Running C) (key : ℕ) (line : List ℕ) (c : CallLine) (t u : Telling) → Some c ≡ call_in r.sessions r.outbox.me key line → StepBreaks (Some key) r t u (Calls c) → CallKeyBreaks r t u key line
@@ -127,6 +134,16 @@ module _ {C : Type 0} where
         (line_is r key line c (is_refused (stepped h.answers (at_work r.node.core) (Calls c)).records) h.answers some refl)
         (breaks_more r t u (stepped_for (Some key) h.answers (Calls c)) (with_finished key c (is_refused (stepped h.answers (at_work r.node.core) (Calls c)).records)) h.breaks
         (adds_step (Some key) h.answers (Calls c)) (finished_adds key c (is_refused (stepped h.answers (at_work r.node.core) (Calls c)).records)));
+  }
+
+  pub line_fails : {A : Known → List (Hosted C) → Audience → Type 0} (r s : Running C) (key : ℕ) (line : List ℕ) (c : CallLine) (t u : Telling) → Some c ≡ call_in r.sessions r.outbox.me key line → StepFails A A (Some key) r s t u (Calls c) → CallKeyFails A r s t u key line
+  line_fails {A = A} r s key line c t u some h = record {
+    answers = h.answers;
+    fails = fails_as r r s t u (called_by key line h.answers) (λ d. with_finished key c (is_refused (stepped h.answers (at_work r.node.core) (Calls c)).records) (stepped_for (Some key) h.answers (Calls c) d))
+        (line_is r key line c (is_refused (stepped h.answers (at_work r.node.core) (Calls c)).records) h.answers some refl)
+        (fails_late r s t u (stepped_for (Some key) h.answers (Calls c)) (with_finished key c (is_refused (stepped h.answers (at_work r.node.core) (Calls c)).records)) h.fails
+        (adds_step (Some key) h.answers (Calls c)) (finished_adds key c (is_refused (stepped h.answers (at_work r.node.core) (Calls c)).records)) (λ e. refl));
+    attends = line_hands A r s key line c h.answers some h.attends;
   }
 
   -- after its step there was no memory
@@ -217,6 +234,15 @@ module _ {C : Type 0} where
         breaks = breaks_as r r t u (given_on network (Some message) h.answers) (stepped_by h.answers (event_of message)) (brought_is r NotUp network message h.answers is) h.breaks;
       }
 
+  pub give_fails : {A : Known → List (Hosted C) → Audience → Type 0} (r q s : Running C) (network : ℕ) (message : List ℕ) (t u : Telling) → NotUp ≡ up_in r.sessions message → q ≡ is_up_taken r message → StepFails A A None q s t u (event_of message) → GiveFails A r s t u network message
+  unfolding brought given
+  give_fails {A = A} r q s network message t u is taken g =
+      let h : StepFails A A None r s t u (event_of message) = subst (λ (x : Running C). StepFails A A None x s t u (event_of message)) (taken ∙ not_taken r message is) g in record {
+        answers = h.answers;
+        fails = fails_as r r s t u (given_on network (Some message) h.answers) (stepped_by h.answers (event_of message)) (brought_is r NotUp network message h.answers is) h.fails;
+        attends = hands_as A r s NotUp message h.answers is h.attends;
+      }
+
   only_is : (r : Running C) (u : SeenUp) (key network : ℕ) (message : List ℕ) → up_only u key → u ≡ up_in r.sessions message → (before : List Exchange) (noted : List Happened)
       → given_on network (Some message) silent (daemon_of r before noted) ≡ down_sent key network (with_up message (daemon_of r before noted))
   only_is r u key network message only is before noted = brought_is r u network message silent is before noted ∙ only network message silent (daemon_of r before noted)
@@ -296,6 +322,18 @@ module _ {C : Type 0} where
             (breaks_more r t u (λ d. called_by key line h.answers (with_up message d)) (down_sent key network)
             (breaks_as r (is_up_taken r message) t u (λ d. called_by key line h.answers (with_up message d)) (called_by key line h.answers) (λ before noted. refl) h.breaks)
             (with_called key line message h.answers) (down_adds key network));
+      }
+
+  pub call_fails_in : {A : Known → List (Hosted C) → Audience → Type 0} (r p q : Running C) (key network : ℕ) (line message : List ℕ) (t u : Telling) → CallMade key line ≡ up_in r.sessions message → p ≡ is_up_taken r message → CallKeyFails A p q t u key line → GiveFails A r q t u network message
+  call_fails_in {A = A} r p q key network line message t u is taken c =
+      let h : CallKeyFails A (is_up_taken r message) q t u key line = subst (λ (x : Running C). CallKeyFails A x q t u key line) taken c in
+      record {
+        answers = h.answers;
+        fails = fails_as r r q t u (given_on network (Some message) h.answers) (λ d. down_sent key network (called_by key line h.answers (with_up message d))) (call_is r key network line message h.answers is)
+            (fails_late r q t u (λ d. called_by key line h.answers (with_up message d)) (down_sent key network)
+            (fails_as r (is_up_taken r message) q t u (λ d. called_by key line h.answers (with_up message d)) (called_by key line h.answers) (λ before noted. refl) h.fails)
+            (with_called key line message h.answers) (down_adds key network) (down_core key network));
+        attends = hands_as A r q (CallMade key line) message h.answers is (λ before noted z. h.attends before noted z);
       }
 
   pub down_broke : {A : Known → List (Hosted C) → Audience → Type 0} (r p q : Running C) (key network : ℕ) (line message : List ℕ) (t u v : Telling) → CallMade key line ≡ up_in r.sessions message → p ≡ is_up_taken r message → CallsKey A p q t u key line

@@ -20,8 +20,9 @@ use Rattle.daemon_run.specs.Hosting.{Known}
 use Rattle.daemon_run.specs.declared.hosted.Hosted.{Hosted}
 use Rattle.daemon_run.specs.declared.running.Running.{Running}
 use Rattle.daemon_run.specs.Audience.{Audience, StepHands}
-use Rattle.daemon_run.specs.Doing.{daemon_of, Passes, Goes, Breaks, left_doings, Settles, IsStep, StepsAs, StepBreaks, CallSteps}
-use Rattle.daemon_run.proofs.GoesLaws.{breaks_none}
+use Rattle.daemon_run.specs.Doing.{daemon_of, Passes, Goes, Breaks, WriteFails, Fails, left_doings, Settles, SettleFails, IsStep, StepsAs, StepBreaks, StepFails, CallSteps}
+use Rattle.daemon_run.proofs.FailLaws.{fails_more}
+use Rattle.daemon_run.proofs.GoesLaws.{breaks_none, fails_as}
 use Rattle.daemon_run.proofs.NodeLaws.{from_work}
 
 -- nobody answers
@@ -53,6 +54,14 @@ module _ {C : Type 0} where
   pub left_unwritten : (r : Running C) (records : List Happened) (t u : Telling) → records ≡ r.node.core.records → MadeFront t u (writes records) → MadeFront t u (left_doings r)
   left_unwritten r records t u recorded front =
       made_front_more t u (writes r.node.core.records) (map Exchanges (sent_calls r.outbox.me r.outbox.incarnation r.outbox.number r.node.core.sends)) (subst (λ (rs : List Happened). MadeFront t u (writes rs)) recorded front)
+
+  -- the write of its lines failed
+  pub left_fails : (r : Running C) (n m : NodeView (Hosted C)) (records : List Happened) (t u : Telling) → n ≡ record (r.node) { core = record (r.node.core) { sends = [] } } → m ≡ record n { core = record (n.core) { records = [] } } → records ≡ r.node.core.records
+      → WriteFails t u (writes records) → SettleFails r (record r { node = m }) t u
+  left_fails r n m records t u taken left recorded h = record {
+    node = left ∙ ap (λ (x : NodeView (Hosted C)). record x { core = record (x.core) { records = [] } }) taken;
+    made = fails_more t u (writes r.node.core.records) (sent_calls r.outbox.me r.outbox.incarnation r.outbox.number r.node.core.sends) (subst (λ (rs : List Happened). WriteFails t u (writes rs)) recorded h);
+  }
 
 module _ {C : Type 0} (calling : Option ℕ) where
   -- and the lines came to who is to hear them
@@ -91,6 +100,14 @@ module _ {C : Type 0} (calling : Option ℕ) where
   settled_breaks r t u h before noted =
       subst (MadeFront t u) (sym (since_is (daemon_of r before noted) (left_for calling (daemon_of r before noted) r.node.core) (sent_calls r.outbox.me r.outbox.incarnation r.outbox.number r.node.core.sends) r.node.core.records refl refl)) h
 
+  pub settled_fails : (r s : Running C) (t u : Telling) → SettleFails r s t u → Fails r s t u (λ d. left_for calling d r.node.core)
+  unfolding left_for
+  settled_fails r s t u h = record {
+    core = λ before noted. sym (ap (λ (n : NodeView (Hosted C)). at_work n.core) h.node);
+    made = λ before noted.
+        subst (WriteFails t u) (sym (since_is (daemon_of r before noted) (left_for calling (daemon_of r before noted) r.node.core) (sent_calls r.outbox.me r.outbox.incarnation r.outbox.number r.node.core.sends) r.node.core.records refl refl)) h.made;
+  }
+
   left_same : (r : Running C) (n : NodeView (Hosted C)) (before : List Exchange) (noted : List Happened) → left_for calling (daemon_of r before noted) n.core ≡ left_for calling (daemon_of (record r { node = n }) before noted) n.core
   unfolding left_for
   left_same r n before noted = refl
@@ -108,6 +125,10 @@ module _ {C : Type 0} (calling : Option ℕ) where
         subst (λ (d : Daemon). MadeFront t u (since (daemon_of (record r { node = n }) before noted) d)) (sym (step_is r f n.core e before noted core ∙ left_same r n before noted)) (settled_breaks (record r { node = n }) t u h before noted);
   }
 
+  fails_at : (r s : Running C) (n : NodeView (Hosted C)) (t u : Telling) (e : NodeEvent) (f : Answering) → n.core ≡ stepped f r.node.core e → SettleFails (record r { node = n }) s t u → Fails r s t u (stepped_for calling f e)
+  fails_at r s n t u e f core h =
+      fails_as r (record r { node = n }) s t u (stepped_for calling f e) (λ d. left_for calling d n.core) (λ before noted. step_is r f n.core e before noted core ∙ left_same r n before noted) (settled_fails (record r { node = n }) s t u h)
+
   -- what the node did is written and sent
   pub step_done : {A B : Known → List (Hosted C) → Audience → Type 0} (r q s : Running C) (t u : Telling) (e : NodeEvent) → IsStep A B r q e → Settles calling q s t u → StepsAs A B calling r s t u e
   step_done {A = A} {B = B} r q s t u e h g = record {
@@ -123,6 +144,18 @@ module _ {C : Type 0} (calling : Option ℕ) where
 
   pub step_broke : {A B : Known → List (Hosted C) → Audience → Type 0} (r q : Running C) (t u : Telling) (e : NodeEvent) → IsStep A B r q e → MadeFront t u (left_doings q) → StepBreaks calling r t u e
   step_broke r q t u e h g = broke_at r q.node t u e h.answers h.core (subst (λ (x : Running C). MadeFront t u (left_doings x)) h.is g)
+
+  pub step_fails : {A B : Known → List (Hosted C) → Audience → Type 0} (r q s : Running C) (t u : Telling) (e : NodeEvent) → IsStep A B r q e → SettleFails q s t u → StepFails A B calling r s t u e
+  step_fails {A = A} {B = B} r q s t u e h g = record {
+    answers = h.answers;
+    fails = fails_at r s q.node t u e h.answers h.core (subst (λ (x : Running C). SettleFails x s t u) h.is g);
+    attends = λ before noted z.
+        let a : (v : Audience) × StepHands h.answers e (at_work r.node.core) z v × Passes A B r.node.clients q.node.clients z v = h.attends z in (
+          a.0,
+          a.1,
+          λ known held. subst (λ (n : NodeView (Hosted C)). B known n.clients a.0) (sym g.node) (a.2 known held),
+        );
+  }
 
   -- any answers will do where the node had no memory for its step
   pub step_none : (r : Running C) (t : Telling) (e : NodeEvent) → StepBreaks calling r t t e

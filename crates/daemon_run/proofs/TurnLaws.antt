@@ -1,5 +1,5 @@
 -- The parts of a turn, and turns.
-use Rattle.std.proofs.Common.{◌≡◌, ℕ, ◌+◌, ◌-◌, ◌≤◌, ◌<◌, true, false, List, [], ◌∷◌, ◌++◌, Option, Some, None, refl, sym, ◌∙◌, ap, ap₂, subst, append_assoc, append-nil}
+use Rattle.std.proofs.Common.{◌≡◌, ℕ, ◌-◌, ◌≤◌, ◌<◌, true, false, List, [], ◌∷◌, ◌++◌, Option, Some, None, refl, sym, ◌∙◌, ap, ap₂, subst, append_assoc, append-nil}
 use Rattle.std.specs.Prelude.{option_map}
 use Rattle.std.proofs.lemmas.Bool.{le-leb, lt-leb}
 use Rattle.hags_io.specs.declared.link.LinkCall.{LinkCall}
@@ -27,8 +27,9 @@ use Rattle.daemon_run.specs.declared.hosted.Hosted.{Hosted}
 use Rattle.daemon_run.specs.declared.running.Running.{Running}
 use Rattle.remote_session.specs.Daemon.{SeenUp, NotUp, KeysFull, KnownKey, CallMade}
 use Rattle.daemon_run.specs.Audience.{Audience, StepHands, TickHands, BroughtHands, GivenHands, HeardHands}
-use Rattle.daemon_run.specs.Doing.{daemon_of, Comes, Acts, ActsBreak, Passes, StepsAs, StepBreaks, TicksAs, TickBreaks, GivesAs, GiveBreaks, HearsAs, HearBreaks, TurnsAs, TurnBreaks}
-use Rattle.daemon_run.proofs.GoesLaws.{goes_none, goes_as, since_comes, breaks_as, acts_on, acts_break_on, acts_break_more, attends_on}
+use Rattle.daemon_run.specs.Doing.{daemon_of, Comes, Acts, ActsBreak, Passes, Attends, WriteFails, ActsFail, StepsAs, StepBreaks, StepFails, TicksAs, TickBreaks, TickFails, GivesAs, GiveBreaks, GiveFails, HearsAs, HearBreaks, HearFails, TurnsAs, TurnBreaks, TurnFails}
+use Rattle.daemon_run.proofs.FailLaws.{fails_on}
+use Rattle.daemon_run.proofs.GoesLaws.{goes_none, goes_as, since_comes, breaks_as, fails_as, one_hands, acts_on, acts_break_on, acts_break_more, acts_fail_on}
 use Rattle.daemon_run.proofs.StepLaws.{silent}
 
 -- ---- when a tick is due
@@ -99,6 +100,9 @@ none_same : (m n : ℕ) (f : Answering) → given_on m None f ≡ given_on n Non
 unfolding given_on
 none_same m n f = refl
 
+given_at : (got : LinkCall) (network : ℕ) (message : List ℕ) (f : Answering) → network_of got ≡ network → given_on (network_of got) (Some message) f ≡ given_on network (Some message) f
+given_at got network message f same = ap (λ (n : ℕ). given_on n (Some message) f) same
+
 module _ {C : Type 0} where
   -- ---- a tick
 
@@ -106,20 +110,30 @@ module _ {C : Type 0} where
       → ticked moment f (daemon_of r before noted) ≡ stepped_by f Ticks (daemon_of (record r { last = moment }) before noted)
   tick_is r moment f le before noted = ap (λ q. ticked_if q moment f (daemon_of r before noted)) (due r.last moment le)
 
+  tick_hands : (A : Known → List (Hosted C) → Audience → Type 0) (r s : Running C) (moment : ℕ) (f : Answering) → 100 ≤ moment - r.last → Attends A A (record r { last = moment }) s (λ d. StepHands f Ticks d.core) → Attends A A r s (λ d. TickHands (is_due d.last moment) f d.core)
+  tick_hands A r s moment f le h before noted z =
+      let a : (v : Audience) × StepHands f Ticks (at_work r.node.core) z v × Passes A A r.node.clients s.node.clients z v = h before noted z in (
+        a.0,
+        subst (λ q. TickHands q f (at_work r.node.core) z a.0) (sym (due r.last moment le)) a.1,
+        a.2,
+      )
+
   pub tick_done : {A : Known → List (Hosted C) → Audience → Type 0} (r s : Running C) (moment : ℕ) (t u : Telling) → 100 ≤ moment - r.last → StepsAs A A None (record r { last = moment }) s t u Ticks → TicksAs A r s t u moment
   tick_done {A = A} r s moment t u le h = record {
     answers = h.answers;
     goes = goes_as r (record r { last = moment }) s t u (ticked moment h.answers) (stepped_by h.answers Ticks) (tick_is r moment h.answers le) h.goes;
-    attends = λ before noted z.
-        let a : (v : Audience) × StepHands h.answers Ticks (at_work r.node.core) z v × Passes A A r.node.clients s.node.clients z v = h.attends before noted z in (
-          a.0,
-          subst (λ q. TickHands q h.answers (at_work r.node.core) z a.0) (sym (due r.last moment le)) a.1,
-          a.2,
-        );
+    attends = tick_hands A r s moment h.answers le h.attends;
   }
 
   pub tick_broke : (r : Running C) (moment : ℕ) (t u : Telling) → 100 ≤ moment - r.last → StepBreaks None (record r { last = moment }) t u Ticks → TickBreaks r t u moment
   tick_broke r moment t u le h = record { answers = h.answers; breaks = breaks_as r (record r { last = moment }) t u (ticked moment h.answers) (stepped_by h.answers Ticks) (tick_is r moment h.answers le) h.breaks }
+
+  pub tick_fails : {A : Known → List (Hosted C) → Audience → Type 0} (r s : Running C) (moment : ℕ) (t u : Telling) → 100 ≤ moment - r.last → StepFails A A None (record r { last = moment }) s t u Ticks → TickFails A r s t u moment
+  tick_fails {A = A} r s moment t u le h = record {
+    answers = h.answers;
+    fails = fails_as r (record r { last = moment }) s t u (ticked moment h.answers) (stepped_by h.answers Ticks) (tick_is r moment h.answers le) h.fails;
+    attends = tick_hands A r s moment h.answers le h.attends;
+  }
 
   pub tick_not : {A : Known → List (Hosted C) → Audience → Type 0} (r : Running C) (moment : ℕ) (t : Telling) → moment - r.last < 100 → TicksAs A r r t t moment
   tick_not r moment t lt = record {
@@ -129,15 +143,16 @@ module _ {C : Type 0} where
   }
 
   -- the clock was read, and the node ticked where that was due
-  tick_acts : {A : Known → List (Hosted C) → Audience → Type 0} (r s : Running C) (moment : ℕ) (t u v : Telling) → Did t u (Read moment ∷ []) → (p : TicksAs A r s u v moment) → Acts r s t v (actions.Ticks moment p.answers ∷ [])
+  tick_acts : {A : Known → List (Hosted C) → Audience → Type 0} (r s : Running C) (moment : ℕ) (t u v : Telling) → Did t u (Read moment ∷ []) → (p : TicksAs A r s u v moment) → Acts A A r s t v (actions.Ticks moment p.answers ∷ [])
   unfolding did_all did doings_of doings
-  tick_acts r s moment t u v at p = record {
+  tick_acts {A = A} r s moment t u v at p = record {
     calls = p.goes.calls;
     records = p.goes.records;
     is = p.goes.is;
     done = Reads moment ∷ step_doings p.goes.records p.goes.calls;
     are = λ before noted. append-nil _ ∙ ap (λ x. Reads moment ∷ x) (since_comes r s (ticked moment p.answers) p.goes.calls p.goes.records p.goes.is before noted);
     made = made_on t u v (Reads moment ∷ []) (step_doings p.goes.records p.goes.calls) (read_made t u moment at) p.goes.made;
+    attends = one_hands A A r s (actions.Ticks moment p.answers) p.attends;
   }
 
   tick_acts_break : (r : Running C) (moment : ℕ) (t u v : Telling) → Did t u (Read moment ∷ []) → (p : TickBreaks r u v moment) → ActsBreak r t v (actions.Ticks moment p.answers ∷ [])
@@ -145,6 +160,16 @@ module _ {C : Type 0} where
   tick_acts_break r moment t u v at p before noted =
       subst (MadeFront t v) (sym (append-nil (Reads moment ∷ since (daemon_of r before noted) (ticked moment p.answers (daemon_of r before noted)))))
       (made_front_on t u v (Reads moment ∷ []) (since (daemon_of r before noted) (ticked moment p.answers (daemon_of r before noted))) (read_made t u moment at) (p.breaks before noted))
+
+  tick_acts_fail : {A : Known → List (Hosted C) → Audience → Type 0} (r s : Running C) (moment : ℕ) (t u v : Telling) → Did t u (Read moment ∷ []) → (p : TickFails A r s u v moment) → ActsFail A A r s t v (actions.Ticks moment p.answers ∷ [])
+  unfolding did_all did doings_of doings
+  tick_acts_fail {A = A} r s moment t u v at p = record {
+    core = p.fails.core;
+    made = λ before noted.
+        subst (WriteFails t v) (sym (append-nil (Reads moment ∷ since (daemon_of r before noted) (ticked moment p.answers (daemon_of r before noted)))))
+        (fails_on t u v (Reads moment ∷ []) (since (daemon_of r before noted) (ticked moment p.answers (daemon_of r before noted))) (read_made t u moment at) (p.fails.made before noted));
+    attends = one_hands A A r s (actions.Ticks moment p.answers) p.attends;
+  }
 
   -- ---- a receive
 
@@ -156,37 +181,40 @@ module _ {C : Type 0} where
   unfolding received
   received_is r got before noted = refl
 
-  -- what comes of the receive, by what is given then
-  heard_comes : (r s : Running C) (got : LinkCall) (network : ℕ) (m : Option (List ℕ)) (f : Answering) (cs : List Exchange) (rs : List Happened) → (joined_by got r.receiving.joiner).message ≡ m → given_on (network_of got) m f ≡ given_on network m f → Comes (after_receive r got) s (given_on network m f) cs rs → Comes r s (heard got f) (plain (as_sent got) ∷ cs) rs
+  -- what is heard is what is given then
+  heard_is : (r : Running C) (got : LinkCall) (network : ℕ) (m : Option (List ℕ)) (f : Answering) → (joined_by got r.receiving.joiner).message ≡ m → given_on (network_of got) m f ≡ given_on network m f → (before : List Exchange) (noted : List Happened)
+      → heard got f (daemon_of r before noted) ≡ given_on network m f (daemon_of (after_receive r got) (before ++ plain (as_sent got) ∷ []) noted)
   unfolding heard
-  heard_comes r s got network m f cs rs is same h before noted =
+  heard_is r got network m f is same before noted =
       let e : Daemon = daemon_of (after_receive r got) (before ++ plain (as_sent got) ∷ []) noted in
       ap (given_on (network_of got) (joined_by got r.receiving.joiner).message f) (received_is r got before noted)
-      ∙ (ap (λ (o : Option (List ℕ)). given_on (network_of got) o f e) is
-      ∙ (ap (λ (g : Daemon → Daemon). g e) same
-      ∙ (h (before ++ plain (as_sent got) ∷ []) noted ∙ ap (λ (x : List Exchange). daemon_of s x (noted ++ rs)) (append_assoc before (plain (as_sent got) ∷ []) cs))))
+      ∙ (ap (λ (o : Option (List ℕ)). given_on (network_of got) o f e) is ∙ ap (λ (g : Daemon → Daemon). g e) same)
 
-  hear_acts : (r s : Running C) (got : LinkCall) (f : Answering) (cs : List Exchange) (rs : List Happened) (t u v : Telling) → IsReceive got → Did t u (Exchanged got ∷ []) → Comes r s (heard got f) (plain (as_sent got) ∷ cs) rs
-      → ((before : List Exchange) (noted : List Happened) → since (received got (daemon_of r before noted)) (heard got f (daemon_of r before noted)) ≡ step_doings rs cs) → Made u v (step_doings rs cs) → Acts r s t v (Hears got f ∷ [])
+  since_is_heard : (r : Running C) (got : LinkCall) (network : ℕ) (m : Option (List ℕ)) (f : Answering) → (joined_by got r.receiving.joiner).message ≡ m → given_on (network_of got) m f ≡ given_on network m f → (before : List Exchange) (noted : List Happened)
+      → since (received got (daemon_of r before noted)) (heard got f (daemon_of r before noted)) ≡ since (daemon_of (after_receive r got) (before ++ plain (as_sent got) ∷ []) noted) (given_on network m f (daemon_of (after_receive r got) (before ++ plain (as_sent got) ∷ []) noted))
+  since_is_heard r got network m f is same before noted = ap₂ since (received_is r got before noted) (heard_is r got network m f is same before noted)
+
+  heard_comes : (r s : Running C) (got : LinkCall) (network : ℕ) (m : Option (List ℕ)) (f : Answering) (cs : List Exchange) (rs : List Happened) → (joined_by got r.receiving.joiner).message ≡ m → given_on (network_of got) m f ≡ given_on network m f → Comes (after_receive r got) s (given_on network m f) cs rs → Comes r s (heard got f) (plain (as_sent got) ∷ cs) rs
+  heard_comes r s got network m f cs rs is same h before noted =
+      heard_is r got network m f is same before noted ∙ (h (before ++ plain (as_sent got) ∷ []) noted ∙ ap (λ (x : List Exchange). daemon_of s x (noted ++ rs)) (append_assoc before (plain (as_sent got) ∷ []) cs))
+
+  hear_acts : {A : Known → List (Hosted C) → Audience → Type 0} (r s : Running C) (got : LinkCall) (f : Answering) (cs : List Exchange) (rs : List Happened) (t u v : Telling) → IsReceive got → Did t u (Exchanged got ∷ []) → Comes r s (heard got f) (plain (as_sent got) ∷ cs) rs
+      → ((before : List Exchange) (noted : List Happened) → since (received got (daemon_of r before noted)) (heard got f (daemon_of r before noted)) ≡ step_doings rs cs) → Made u v (step_doings rs cs) → Attends A A r s (HeardHands got f) → Acts A A r s t v (Hears got f ∷ [])
   unfolding did_all did doings_of doings
-  hear_acts r s got f cs rs t u v receive told is are made = record {
+  hear_acts {A = A} r s got f cs rs t u v receive told is are made hands = record {
     calls = plain (as_sent got) ∷ cs;
     records = rs;
     is = is;
     done = Exchanges (plain (as_sent got)) ∷ step_doings rs cs;
     are = λ before noted. append-nil _ ∙ ap (λ x. Exchanges (plain (as_sent got)) ∷ x) (are before noted);
     made = made_on t u v (Exchanges (plain (as_sent got)) ∷ []) (step_doings rs cs) (got_made t u got receive told) made;
+    attends = one_hands A A r s (Hears got f) hands;
   }
 
   since_heard : (r s : Running C) (got : LinkCall) (m : Option (List ℕ)) (network : ℕ) (f : Answering) (cs : List Exchange) (rs : List Happened) → (joined_by got r.receiving.joiner).message ≡ m → given_on (network_of got) m f ≡ given_on network m f
       → Comes (after_receive r got) s (given_on network m f) cs rs → (before : List Exchange) (noted : List Happened) → since (received got (daemon_of r before noted)) (heard got f (daemon_of r before noted)) ≡ step_doings rs cs
-  unfolding heard
   since_heard r s got m network f cs rs is same h before noted =
-      let e : Daemon = daemon_of (after_receive r got) (before ++ plain (as_sent got) ∷ []) noted in
-      ap (λ (d : Daemon). since d (given_on (network_of got) (joined_by got r.receiving.joiner).message f d)) (received_is r got before noted)
-      ∙ (ap (λ (o : Option (List ℕ)). since e (given_on (network_of got) o f e)) is
-      ∙ (ap (λ (g : Daemon → Daemon). since e (g e)) same
-      ∙ since_comes (after_receive r got) s (given_on network m f) cs rs h (before ++ plain (as_sent got) ∷ []) noted))
+      since_is_heard r got network m f is same before noted ∙ since_comes (after_receive r got) s (given_on network m f) cs rs h (before ++ plain (as_sent got) ∷ []) noted
 
   given_none : (q : Running C) (network : ℕ) (f : Answering) → Comes q q (given_on network None f) [] []
   unfolding given_on
@@ -197,41 +225,44 @@ module _ {C : Type 0} where
   hear_nothing {A = A} r q t u h =
       let none : (joined_by h.got r.receiving.joiner).message ≡ None = no_message h.got (joined_by h.got r.receiving.joiner).message h.whole_is in
       let s : Running C = after_receive r h.got in
-      let acts : Acts r s t u (Hears h.got silent ∷ []) =
+      let acts : Acts A A r s t u (Hears h.got silent ∷ []) =
       hear_acts r s h.got silent [] [] t u u h.receive h.told
       (heard_comes r s h.got 0 None silent [] [] none (none_same (network_of h.got) 0 silent) (given_none s 0 silent))
-      (since_heard r s h.got None 0 silent [] [] none (none_same (network_of h.got) 0 silent) (given_none s 0 silent)) (made_nothing u) in
+      (since_heard r s h.got None 0 silent [] [] none (none_same (network_of h.got) 0 silent) (given_none s 0 silent)) (made_nothing u)
+      (λ before noted z. (z, subst (λ (o : Option (List ℕ)). GivenHands o silent (daemon_of r before noted) z z) (sym none) refl, λ known held. held)) in
       record {
         got = h.got;
         answers = silent;
-        acts = subst (λ (x : Receiving). Acts r (record r { receiving = x }) t u (Hears h.got silent ∷ [])) (sym h.is) acts;
-        attends = λ before noted z. (z, subst (λ (o : Option (List ℕ)). GivenHands o silent (daemon_of r before noted) z z) (sym none) refl, λ known held. held);
+        acts = subst (λ (x : Receiving). Acts A A r (record r { receiving = x }) t u (Hears h.got silent ∷ [])) (sym h.is) acts;
       }
 
   -- a message is whole
+
+  heard_hands : (A : Known → List (Hosted C) → Audience → Type 0) (r s : Running C) (got : LinkCall) (message : List ℕ) (f : Answering) → (joined_by got r.receiving.joiner).message ≡ Some message → Attends A A (after_receive r got) s (GivenHands (Some message) f) → Attends A A r s (HeardHands got f)
+  heard_hands A r s got message f is h before noted z =
+      let a : (w : Audience) × GivenHands (Some message) f (daemon_of (after_receive r got) before noted) z w × Passes A A r.node.clients s.node.clients z w = h before noted z in (
+        a.0,
+        subst (λ (o : Option (List ℕ)). GivenHands o f (daemon_of r before noted) z a.0) (sym is)
+            (hands_alike (Some message) f (daemon_of r before noted) (received_by got r.receiving).joiner (received_by got r.receiving).failed before z a.0 a.1),
+        a.2,
+      )
+
   pub hear_done : {A : Known → List (Hosted C) → Audience → Type 0} (r s : Running C) (q : Receiving) (network : ℕ) (message : List ℕ) (t u v : Telling) → Receives r.receiving q (Some (network, message)) t u → GivesAs A (record r { receiving = q }) s u v network message
       → HearsAs A r s t v
   hear_done {A = A} r s q network message t u v h given =
       let whole : ((joined_by h.got r.receiving.joiner).message ≡ Some message) × (network_of h.got ≡ network) = whole_message h.got r.receiving.joiner network message (joined_by h.got r.receiving.joiner).message h.whole_is in
       let g : GivesAs A (after_receive r h.got) s u v network message = subst (λ (x : Receiving). GivesAs A (record r { receiving = x }) s u v network message) h.is given in
-      let same : given_on (network_of h.got) (Some message) g.answers ≡ given_on network (Some message) g.answers = ap (λ (n : ℕ). given_on n (Some message) g.answers) whole.1 in
       record {
         got = h.got;
         answers = g.answers;
         acts = hear_acts r s h.got g.answers g.goes.calls g.goes.records t u v h.receive h.told
-            (heard_comes r s h.got network (Some message) g.answers g.goes.calls g.goes.records whole.0 same g.goes.is)
-            (since_heard r s h.got (Some message) network g.answers g.goes.calls g.goes.records whole.0 same g.goes.is) g.goes.made;
-        attends = λ before noted z.
-            let a : (w : Audience) × GivenHands (Some message) g.answers (daemon_of (after_receive r h.got) before noted) z w × Passes A A r.node.clients s.node.clients z w = g.attends before noted z in (
-              a.0,
-              subst (λ (o : Option (List ℕ)). GivenHands o g.answers (daemon_of r before noted) z a.0) (sym whole.0)
-                  (hands_alike (Some message) g.answers (daemon_of r before noted) (received_by h.got r.receiving).joiner (received_by h.got r.receiving).failed before z a.0 a.1),
-              a.2,
-            );
+            (heard_comes r s h.got network (Some message) g.answers g.goes.calls g.goes.records whole.0 (given_at h.got network message g.answers whole.1) g.goes.is)
+            (since_heard r s h.got (Some message) network g.answers g.goes.calls g.goes.records whole.0 (given_at h.got network message g.answers whole.1) g.goes.is) g.goes.made
+            (heard_hands A r s h.got message g.answers whole.0 g.attends);
       }
 
   pub hear_broke : (r : Running C) (q : Receiving) (network : ℕ) (message : List ℕ) (t u v : Telling) → Receives r.receiving q (Some (network, message)) t u → GiveBreaks (record r { receiving = q }) u v network message → HearBreaks r t v
-  unfolding doings_of doings heard
+  unfolding doings_of doings
   hear_broke r q network message t u v h given =
       let whole : ((joined_by h.got r.receiving.joiner).message ≡ Some message) × (network_of h.got ≡ network) = whole_message h.got r.receiving.joiner network message (joined_by h.got r.receiving.joiner).message h.whole_is in
       let g : GiveBreaks (after_receive r h.got) u v network message = subst (λ (x : Receiving). GiveBreaks (record r { receiving = x }) u v network message) h.is given in
@@ -240,11 +271,28 @@ module _ {C : Type 0} where
         answers = g.answers;
         breaks = λ before noted.
             let e : Daemon = daemon_of (after_receive r h.got) (before ++ plain (as_sent h.got) ∷ []) noted in
-            let rest : since (received h.got (daemon_of r before noted)) (heard h.got g.answers (daemon_of r before noted)) ≡ since e (given_on network (Some message) g.answers e) =
-            ap (λ (d : Daemon). since d (given_on (network_of h.got) (joined_by h.got r.receiving.joiner).message g.answers d)) (received_is r h.got before noted)
-            ∙ (ap (λ (o : Option (List ℕ)). since e (given_on (network_of h.got) o g.answers e)) whole.0 ∙ ap (λ (n : ℕ). since e (given_on n (Some message) g.answers e)) whole.1) in
-            subst (MadeFront t v) (sym (append-nil _ ∙ ap (λ x. Exchanges (plain (as_sent h.got)) ∷ x) rest))
+            subst (MadeFront t v) (sym (append-nil _ ∙ ap (λ x. Exchanges (plain (as_sent h.got)) ∷ x) (since_is_heard r h.got network (Some message) g.answers whole.0 (given_at h.got network message g.answers whole.1) before noted)))
             (made_front_on t u v (Exchanges (plain (as_sent h.got)) ∷ []) (since e (given_on network (Some message) g.answers e)) (got_made t u h.got h.receive h.told) (g.breaks (before ++ plain (as_sent h.got) ∷ []) noted));
+      }
+
+  pub hear_fails : {A : Known → List (Hosted C) → Audience → Type 0} (r s : Running C) (q : Receiving) (network : ℕ) (message : List ℕ) (t u v : Telling) → Receives r.receiving q (Some (network, message)) t u → GiveFails A (record r { receiving = q }) s u v network message
+      → HearFails A r s t v
+  unfolding did_all did doings_of doings
+  hear_fails {A = A} r s q network message t u v h given =
+      let whole : ((joined_by h.got r.receiving.joiner).message ≡ Some message) × (network_of h.got ≡ network) = whole_message h.got r.receiving.joiner network message (joined_by h.got r.receiving.joiner).message h.whole_is in
+      let g : GiveFails A (after_receive r h.got) s u v network message = subst (λ (x : Receiving). GiveFails A (record r { receiving = x }) s u v network message) h.is given in
+      record {
+        got = h.got;
+        answers = g.answers;
+        fails = record {
+          core = λ before noted.
+              ap (λ (d : Daemon). d.core) (heard_is r h.got network (Some message) g.answers whole.0 (given_at h.got network message g.answers whole.1) before noted) ∙ g.fails.core (before ++ plain (as_sent h.got) ∷ []) noted;
+          made = λ before noted.
+              let e : Daemon = daemon_of (after_receive r h.got) (before ++ plain (as_sent h.got) ∷ []) noted in
+              subst (WriteFails t v) (sym (append-nil _ ∙ ap (λ x. Exchanges (plain (as_sent h.got)) ∷ x) (since_is_heard r h.got network (Some message) g.answers whole.0 (given_at h.got network message g.answers whole.1) before noted)))
+              (fails_on t u v (Exchanges (plain (as_sent h.got)) ∷ []) (since e (given_on network (Some message) g.answers e)) (got_made t u h.got h.receive h.told) (g.fails.made (before ++ plain (as_sent h.got) ∷ []) noted));
+          attends = one_hands A A r s (Hears h.got g.answers) (heard_hands A r s h.got message g.answers whole.0 g.attends);
+        };
       }
 
   -- a daemon that had no memory to receive
@@ -261,10 +309,9 @@ module _ {C : Type 0} where
   -- ---- a turn
 
   pub turn_done : {A : Known → List (Hosted C) → Audience → Type 0} (r q s : Running C) (moment : ℕ) (t u v w : Telling) → Did t u (Read moment ∷ []) → TicksAs A r q u v moment → HearsAs A q s v w → TurnsAs A r s t w
-  turn_done {A = A} r q s moment t u v w at p h = record {
+  turn_done r q s moment t u v w at p h = record {
     turn = record { moment = moment; tick = p.answers; got = h.got; answers = h.answers };
     acts = acts_on r q s t v w (actions.Ticks moment p.answers ∷ []) (Hears h.got h.answers ∷ []) (tick_acts r q moment t u v at p) h.acts;
-    attends = attends_on A A A r q s (ticked moment p.answers) p.goes.calls p.goes.records (λ d. TickHands (is_due d.last moment) p.answers d.core) (HeardHands h.got h.answers) p.goes.is p.attends h.attends;
   }
 
   pub turn_broke : {A : Known → List (Hosted C) → Audience → Type 0} (r q : Running C) (moment : ℕ) (t u v w : Telling) → Did t u (Read moment ∷ []) → TicksAs A r q u v moment → HearBreaks q v w → TurnBreaks r t w
@@ -277,4 +324,22 @@ module _ {C : Type 0} where
   turn_ends r moment t u v at p = record {
     turn = record { moment = moment; tick = p.answers; got = call.Quiet; answers = silent };
     breaks = acts_break_more r t v (actions.Ticks moment p.answers ∷ []) (Hears call.Quiet silent ∷ []) (tick_acts_break r moment t u v at p);
+  }
+
+  pub turn_fails : {A : Known → List (Hosted C) → Audience → Type 0} (r q s : Running C) (moment : ℕ) (t u v w : Telling) → Did t u (Read moment ∷ []) → TicksAs A r q u v moment → HearFails A q s v w → TurnFails A r s t w
+  turn_fails r q s moment t u v w at p h = record {
+    turn = record { moment = moment; tick = p.answers; got = h.got; answers = h.answers };
+    acts = actions.Ticks moment p.answers ∷ Hears h.got h.answers ∷ [];
+    later = [];
+    are = refl;
+    fails = acts_fail_on r q s t v w (actions.Ticks moment p.answers ∷ []) (Hears h.got h.answers ∷ []) (tick_acts r q moment t u v at p) h.fails;
+  }
+
+  pub turn_fails_at_tick : {A : Known → List (Hosted C) → Audience → Type 0} (r s : Running C) (moment : ℕ) (t u v : Telling) → Did t u (Read moment ∷ []) → TickFails A r s u v moment → TurnFails A r s t v
+  turn_fails_at_tick r s moment t u v at p = record {
+    turn = record { moment = moment; tick = p.answers; got = call.Quiet; answers = silent };
+    acts = actions.Ticks moment p.answers ∷ [];
+    later = Hears call.Quiet silent ∷ [];
+    are = refl;
+    fails = tick_acts_fail r s moment t u v at p;
   }

@@ -2,7 +2,6 @@
 use Rattle.std.specs.Prelude.{◌≡◌, ℕ, ◌+◌, Bool, true, false, List, [], ◌∷◌, ◌++◌, length, map, drop, get_or, is_none, is_some, Option, Some, None, option_map}
 use Rattle.std.specs.Str.{bytes_eq}
 use Rattle.hags_io.specs.declared.link.LinkCall.{LinkCall}
-use Rattle.piece_link.specs.Joining.{taken}
 use Rattle.client_callbacks.specs.declared.votes.VoteItem.{VoteItem}
 use Rattle.client_callbacks.specs.Handed.{Handed}
 use Rattle.session_state.specs.State.{client_token, client_place}
@@ -23,8 +22,9 @@ use Rattle.node_core.specs.Event.{called}
 use Rattle.world_model.specs.declared.script.Script.{Script}
 use Rattle.world_model.specs.Reading.{boxed_word}
 use Rattle.remote_session.specs.Daemon.{SeenUp, NotUp, KeysFull, KnownKey, CallMade}
-use Rattle.daemon_model.specs.Daemon.{Daemon, Opening, Turn, Life, is_due, ticked, joined_by, up_in, with_up, call_in, opened, turned, begun_for}
-use Rattle.daemon_model.specs.Lives.{first_of}
+use Rattle.daemon_model.specs.Daemon.{Daemon, Life, is_due, joined_by, up_in, with_up, call_in, begun_for}
+use Rattle.daemon_model.specs.Actions.{Action, did}
+use Rattle.daemon_model.specs.Actions as actions
 use Rattle.daemon_run.specs.declared.hosted.Hosted.{Hosted}
 use Rattle.daemon_run.specs.Hosting.{Known, StandWhere}
 
@@ -118,10 +118,6 @@ StepHands f e s old new = RowsHand (called s e) (stepped f s e) (attended s e ol
 
 -- ---- a life
 
-abbrev pub OpeningHands : Daemon → List Opening → Audience → Audience → Type 0
-OpeningHands d [] old new = new ≡ old
-OpeningHands d (o ∷ os) old new = (mid : Audience) × StepHands o.answers (Calls o.call) d.core old mid × OpeningHands (opened d o) os mid new
-
 abbrev pub TickHands : Bool → Answering → Core → Audience → Audience → Type 0
 TickHands true f s old new = StepHands f Ticks s old new
 TickHands false f s old new = new ≡ old
@@ -142,24 +138,23 @@ abbrev pub GivenHands : Option (List ℕ) → Answering → Daemon → Audience 
 GivenHands None f d old new = new ≡ old
 GivenHands (Some message) f d old new = BroughtHands (up_in d.sessions message) message f d old new
 
--- the bytes of a datagram are joined, and the message that is whole by it is given
-abbrev pub TakenHands : List ℕ → Answering → Daemon → Audience → Audience → Type 0
-TakenHands bytes f d old new = GivenHands (taken d.joining bytes).message f d old new
-
 abbrev pub HeardHands : LinkCall → Answering → Daemon → Audience → Audience → Type 0
 HeardHands got f d old new = GivenHands (joined_by got d.joining).message f d old new
 
-abbrev pub TurnHands : Daemon → Turn → Audience → Audience → Type 0
-TurnHands d t old new = (mid : Audience) × TickHands (is_due d.last t.moment) t.tick d.core old mid × HeardHands t.got t.answers (ticked t.moment t.tick d) mid new
+-- an act
+abbrev pub ActionHands : Daemon → Action → Audience → Audience → Type 0
+ActionHands d (actions.Opens o) old new = StepHands o.answers (Calls o.call) d.core old new
+ActionHands d (actions.Ticks moment f) old new = TickHands (is_due d.last moment) f d.core old new
+ActionHands d (actions.Hears got f) old new = HeardHands got f d old new
 
-abbrev pub TurnsHand : Daemon → List Turn → Audience → Audience → Type 0
-TurnsHand d [] old new = new ≡ old
-TurnsHand d (t ∷ ts) old new = (mid : Audience) × TurnHands d t old mid × TurnsHand (turned d t) ts mid new
+-- acts, one after another
+abbrev pub ActionsHand : Daemon → List Action → Audience → Audience → Type 0
+ActionsHand d [] old new = new ≡ old
+ActionsHand d (a ∷ acts) old new = (mid : Audience) × ActionHands d a old mid × ActionsHand (did d a) acts mid new
 
--- what a life hands, from its start on
-abbrev pub LifeHands : Script → ℕ → ℕ → Life → Audience → Audience → Type 0
-LifeHands script me incarnation life old new =
-    (mid : Audience) × OpeningHands (begun_for life.remote script.config me incarnation life.start) life.opening old mid × TurnsHand (first_of script me incarnation life) life.turns mid new
+-- the acts with which a life begins, or all of it: what they hand, from its start on
+abbrev pub LifeHands : Script → ℕ → ℕ → Life → List Action → Audience → Audience → Type 0
+LifeHands script me incarnation life acts old new = ActionsHand (begun_for life.remote script.config me incarnation life.start) acts old new
 
 -- ---- clients
 

@@ -4,7 +4,7 @@ use Rattle.hags_io.specs.Telling.{Telling}
 use Rattle.link_use.specs.Receiving.{nothing_received}
 use Rattle.node_state.specs.declared.call.CallLine.{CallLine}
 use Rattle.node_state.specs.declared.config.Config.{Config}
-use Rattle.node_state.specs.Step.{started}
+use Rattle.node_state.specs.Step.{at_work, started}
 use Rattle.world_model.specs.declared.script.Script.{Script}
 use Rattle.daemon_model.specs.Daemon.{Daemon, Opening, sessions_if, fresh, begun_for, own_calls}
 use Rattle.daemon_model.specs.Actions.{Opens, did_all}
@@ -12,8 +12,8 @@ use Rattle.daemon_model.specs.Doings.{Doing, since, doings_of, Made, MadeFront}
 use Rattle.daemon_run.specs.declared.hosted.Hosted.{Hosted}
 use Rattle.daemon_run.specs.declared.running.Running.{Running}
 use Rattle.daemon_run.specs.Hosting.{Known}
-use Rattle.daemon_run.specs.Audience.{Audience, OpeningHands}
-use Rattle.daemon_run.specs.Doing.{daemon_of, Acts, ActsBreak, Passes, Attends}
+use Rattle.daemon_run.specs.Audience.{Audience, ActionsHand}
+use Rattle.daemon_run.specs.Doing.{daemon_of, Acts, ActsBreak, Passes, WriteFails, ActsFail}
 
 abbrev pub calls_in : List Opening → List CallLine
 calls_in os = map (λ (o : Opening). o.call) os
@@ -22,14 +22,20 @@ calls_in os = map (λ (o : Opening). o.call) os
 pub record CallsAs {C : Type 0} (A B : Known → List (Hosted C) → Audience → Type 0) (r s : Running C) (calls : List CallLine) (old new : Telling) : Type 0 where
   pub opening : List Opening
   pub are : calls_in opening ≡ calls
-  pub acts : Acts r s old new (map Opens opening)
-  pub attends : Attends A B r s (λ d. OpeningHands d opening)
+  pub acts : Acts A B r s old new (map Opens opening)
 
 -- one of them broke off
 pub record CallsBreak {C : Type 0} (r : Running C) (calls : List CallLine) (old new : Telling) : Type 0 where
   pub opening : List Opening
   pub are : calls_in opening ≡ calls
   pub breaks : ActsBreak r old new (map Opens opening)
+
+-- in the last of those that were carried out a write failed
+pub record CallsFail {C : Type 0} (A B : Known → List (Hosted C) → Audience → Type 0) (r s : Running C) (calls : List CallLine) (old new : Telling) : Type 0 where
+  pub opening : List Opening
+  pub later : List CallLine
+  pub are : calls_in opening ++ later ≡ calls
+  pub fails : ActsFail A B r s old new (map Opens opening)
 
 -- ---- from the start on
 
@@ -52,6 +58,11 @@ opening_doings remote c me incarnation moment opening =
 abbrev pub opened_by : Bool → Config → ℕ → ℕ → ℕ → List Opening → Daemon
 opened_by remote c me incarnation moment opening = did_all (begun_for remote c me incarnation moment) (map Opens opening)
 
+-- from no clients what these calls hand, of a daemon that has just started, comes to those now
+abbrev pub BeginsWith : {C : Type 0} → (Known → List (Hosted C) → Audience → Type 0) → (Known → List (Hosted C) → Audience → Type 0) → Bool → Config → ℕ → ℕ → ℕ → Running C → List Opening → Type 0
+BeginsWith A B remote c me incarnation moment s opening =
+    (z : Audience) → (v : Audience) × ActionsHand (begun_for remote c me incarnation moment) (map Opens opening) z v × Passes A B [] s.node.clients z v
+
 -- the node started, and the calls of the settings are carried out
 pub record BeginsAs {C : Type 0} (A B : Known → List (Hosted C) → Audience → Type 0) (remote : Bool) (script : Script) (me incarnation moment : ℕ) (s : Running C) (old new : Telling) : Type 0 where
   pub opening : List Opening
@@ -59,9 +70,19 @@ pub record BeginsAs {C : Type 0} (A B : Known → List (Hosted C) → Audience �
   pub is : opened_by remote script.config me incarnation moment opening
       ≡ daemon_of s (opened_by remote script.config me incarnation moment opening).calls (opened_by remote script.config me incarnation moment opening).records
   pub made : Made old new (opening_doings remote script.config me incarnation moment opening)
-  pub attends : (z : Audience) → (v : Audience) × OpeningHands (begun_for remote script.config me incarnation moment) opening z v × Passes A B [] s.node.clients z v
+  pub attends : BeginsWith A B remote script.config me incarnation moment s opening
 
 pub record BeginBreaks (remote : Bool) (script : Script) (me incarnation moment : ℕ) (old new : Telling) : Type 0 where
   pub opening : List Opening
   pub are : calls_in opening ≡ own_calls me script.lines
   pub made : MadeFront old new (opening_doings remote script.config me incarnation moment opening)
+
+-- A write failed in the last of the calls that were carried out, or, where there is none, as the node started. Its clients
+-- have what they handed.
+pub record BeginFails {C : Type 0} (A B : Known → List (Hosted C) → Audience → Type 0) (remote : Bool) (script : Script) (me incarnation moment : ℕ) (s : Running C) (old new : Telling) : Type 0 where
+  pub opening : List Opening
+  pub later : List CallLine
+  pub are : calls_in opening ++ later ≡ own_calls me script.lines
+  pub core : (opened_by remote script.config me incarnation moment opening).core ≡ at_work s.node.core
+  pub made : WriteFails old new (opening_doings remote script.config me incarnation moment opening)
+  pub attends : BeginsWith A B remote script.config me incarnation moment s opening

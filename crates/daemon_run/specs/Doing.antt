@@ -1,6 +1,7 @@
 -- How a daemon that runs follows the one of the definitions.
-use Rattle.std.specs.Prelude.{◌≡◌, ℕ, Bool, List, [], ◌∷◌, ◌++◌, Option, Some, option_map, map}
-use Rattle.hags_io.specs.Telling.{Telling}
+use Rattle.std.specs.Prelude.{◌≡◌, ℕ, Bool, false, List, [], ◌∷◌, ◌++◌, Option, Some, option_map, map}
+use Rattle.hags_io.specs.Deeds.{Wrote}
+use Rattle.hags_io.specs.Telling.{Telling, Did}
 use Rattle.hags_io.specs.declared.link.LinkCall.{LinkCall}
 use Rattle.piece_link.specs.Pieces.{can_cut}
 use Rattle.node_state.specs.declared.happened.Happened.{Happened}
@@ -11,13 +12,13 @@ use Rattle.remote_session.specs.Daemon.{up_taken}
 use Rattle.remote_clients.specs.declared.sessions.Sessions.{Sessions}
 use Rattle.remote_clients.specs.Sessions.{noted_all, is_refused}
 use Rattle.daemon_model.specs.Sent.{Exchange, said, number_if, message_calls, sent_calls, number_after}
-use Rattle.daemon_model.specs.Daemon.{Daemon, Turn, stepped_for, is_due, ticked, call_in, called_by, given_on}
+use Rattle.daemon_model.specs.Daemon.{Daemon, Turn, stepped_for, is_due, ticked, call_in, called_by, given_on, records_text}
 use Rattle.daemon_model.specs.Actions.{Action, Hears, did_all, turn_actions}
-use Rattle.daemon_model.specs.Doings.{Doing, Exchanges, step_doings, since, doings_of, Made, MadeFront}
+use Rattle.daemon_model.specs.Doings.{Doing, Exchanges, Writes, step_doings, since, doings_of, Made, MadeFront}
 use Rattle.daemon_run.specs.declared.hosted.Hosted.{Hosted}
 use Rattle.daemon_run.specs.declared.running.Running.{Running}
 use Rattle.daemon_run.specs.Hosting.{Known}
-use Rattle.daemon_run.specs.Audience.{Audience, StepHands, TickHands, LineHands, GivenHands, HeardHands, TurnHands}
+use Rattle.daemon_run.specs.Audience.{Audience, StepHands, TickHands, LineHands, GivenHands, ActionsHand}
 
 -- the daemon that stands like this, and did this so far
 abbrev pub daemon_of : {C : Type 0} → Running C → List Exchange → List Happened → Daemon
@@ -49,18 +50,6 @@ pub record Goes {C : Type 0} (r s : Running C) (old new : Telling) (f : Daemon �
 abbrev pub Breaks : {C : Type 0} → Running C → Telling → Telling → (Daemon → Daemon) → Type 0
 Breaks r old new f = (before : List Exchange) (noted : List Happened) → MadeFront old new (since (daemon_of r before noted) (f (daemon_of r before noted)))
 
--- by these acts, with their doings
-pub record Acts {C : Type 0} (r s : Running C) (old new : Telling) (actions : List Action) : Type 0 where
-  pub calls : List Exchange
-  pub records : List Happened
-  pub is : Comes r s (λ d. did_all d actions) calls records
-  pub done : List Doing
-  pub are : (before : List Exchange) (noted : List Happened) → doings_of (daemon_of r before noted) actions ≡ done
-  pub made : Made old new done
-
-abbrev pub ActsBreak : {C : Type 0} → Running C → Telling → Telling → List Action → Type 0
-ActsBreak r old new actions = (before : List Exchange) (noted : List Happened) → MadeFront old new (doings_of (daemon_of r before noted) actions)
-
 -- where A held of clients with their audience, B holds of those now, whatever is known of the objects
 abbrev pub Passes : {C : Type 0} → (Known → List (Hosted C) → Audience → Type 0) → (Known → List (Hosted C) → Audience → Type 0) → List (Hosted C) → List (Hosted C) → Audience → Audience → Type 0
 Passes A B old new x y = (known : Known) → A known old x → B known new y
@@ -69,6 +58,43 @@ Passes A B old new x y = (known : Known) → A known old x → B known new y
 abbrev pub Attends : {C : Type 0} → (Known → List (Hosted C) → Audience → Type 0) → (Known → List (Hosted C) → Audience → Type 0) → Running C → Running C → (Daemon → Audience → Audience → Type 0) → Type 0
 Attends A B r s H =
     (before : List Exchange) (noted : List Happened) (x : Audience) → (y : Audience) × H (daemon_of r before noted) x y × Passes A B r.node.clients s.node.clients x y
+
+-- by these acts, with their doings, and with what they hand
+pub record Acts {C : Type 0} (A B : Known → List (Hosted C) → Audience → Type 0) (r s : Running C) (old new : Telling) (actions : List Action) : Type 0 where
+  pub calls : List Exchange
+  pub records : List Happened
+  pub is : Comes r s (λ d. did_all d actions) calls records
+  pub done : List Doing
+  pub are : (before : List Exchange) (noted : List Happened) → doings_of (daemon_of r before noted) actions ≡ done
+  pub made : Made old new done
+  pub attends : Attends A B r s (λ d. ActionsHand d actions)
+
+-- of their doings there is a front
+abbrev pub ActsBreak : {C : Type 0} → Running C → Telling → Telling → List Action → Type 0
+ActsBreak r old new actions = (before : List Exchange) (noted : List Happened) → MadeFront old new (doings_of (daemon_of r before noted) actions)
+
+-- ---- a write that failed
+
+-- All of this was done up to a write, which failed: and what is left of it are sends.
+pub record WriteFails (old new : Telling) (more : List Doing) : Type 0 where
+  pub before : List Doing
+  pub records : List Happened
+  pub sends : List Exchange
+  pub whole : before ++ Writes records ∷ map Exchanges sends ≡ more
+  pub reached : Telling
+  pub made : Made old reached before
+  pub failed : Did reached new (Wrote (records_text records) false ∷ [])
+
+-- A write failed on the way of the one that runs from r to s as f says. Its node has done its part, and nothing is left in it.
+pub record Fails {C : Type 0} (r s : Running C) (old new : Telling) (f : Daemon → Daemon) : Type 0 where
+  pub core : (before : List Exchange) (noted : List Happened) → (f (daemon_of r before noted)).core ≡ at_work s.node.core
+  pub made : (before : List Exchange) (noted : List Happened) → WriteFails old new (since (daemon_of r before noted) (f (daemon_of r before noted)))
+
+-- in the last of these acts; what they hand was handed
+pub record ActsFail {C : Type 0} (A B : Known → List (Hosted C) → Audience → Type 0) (r s : Running C) (old new : Telling) (actions : List Action) : Type 0 where
+  pub core : (before : List Exchange) (noted : List Happened) → (did_all (daemon_of r before noted) actions).core ≡ at_work s.node.core
+  pub made : (before : List Exchange) (noted : List Happened) → WriteFails old new (doings_of (daemon_of r before noted) actions)
+  pub attends : Attends A B r s (λ d. ActionsHand d actions)
 
 -- which node it is stays, and how many receives failed in a row
 abbrev pub IsSame : {C : Type 0} → Running C → Running C → Type 0
@@ -84,6 +110,11 @@ left_doings r = step_doings r.node.core.records (sent_calls r.outbox.me r.outbox
 pub record Settles {C : Type 0} (calling : Option ℕ) (r s : Running C) (old new : Telling) : Type 0 where
   pub is : s ≡ record r { node = record (r.node) { core = at_work r.node.core }; outbox = record (r.outbox) { number = number_after r.outbox.number r.node.core.sends }; sessions = option_map (noted_all calling r.node.core.records) r.sessions }
   pub made : Made old new (left_doings r)
+
+-- The write failed: the node did what it left, and has nothing left.
+pub record SettleFails {C : Type 0} (r s : Running C) (old new : Telling) : Type 0 where
+  pub node : s.node ≡ record (r.node) { core = at_work r.node.core }
+  pub made : WriteFails old new (left_doings r)
 
 -- the node did the event, with some answers of its clients, and nothing else changed
 pub record IsStep {C : Type 0} (A B : Known → List (Hosted C) → Audience → Type 0) (r s : Running C) (e : NodeEvent) : Type 0 where
@@ -102,6 +133,11 @@ pub record StepBreaks {C : Type 0} (calling : Option ℕ) (r : Running C) (old n
   pub answers : Answering
   pub breaks : Breaks r old new (stepped_for calling answers e)
 
+pub record StepFails {C : Type 0} (A B : Known → List (Hosted C) → Audience → Type 0) (calling : Option ℕ) (r s : Running C) (old new : Telling) (e : NodeEvent) : Type 0 where
+  pub answers : Answering
+  pub fails : Fails r s old new (stepped_for calling answers e)
+  pub attends : Attends A B r s (λ d. StepHands answers e d.core)
+
 -- a call, in which it was refused or taken
 pub record CallSteps {C : Type 0} (A : Known → List (Hosted C) → Audience → Type 0) (calling : Option ℕ) (r s : Running C) (refused : Bool) (old new : Telling) (c : CallLine) : Type 0 where
   pub answers : Answering
@@ -119,6 +155,11 @@ pub record TicksAs {C : Type 0} (A : Known → List (Hosted C) → Audience → 
 pub record TickBreaks {C : Type 0} (r : Running C) (old new : Telling) (moment : ℕ) : Type 0 where
   pub answers : Answering
   pub breaks : Breaks r old new (ticked moment answers)
+
+pub record TickFails {C : Type 0} (A : Known → List (Hosted C) → Audience → Type 0) (r s : Running C) (old new : Telling) (moment : ℕ) : Type 0 where
+  pub answers : Answering
+  pub fails : Fails r s old new (ticked moment answers)
+  pub attends : Attends A A r s (λ d. TickHands (is_due d.last moment) answers d.core)
 
 -- ---- clients on other machines
 
@@ -148,6 +189,11 @@ pub record CallKeyBreaks {C : Type 0} (r : Running C) (old new : Telling) (key :
   pub answers : Answering
   pub breaks : Breaks r old new (called_by key line answers)
 
+pub record CallKeyFails {C : Type 0} (A : Known → List (Hosted C) → Audience → Type 0) (r s : Running C) (old new : Telling) (key : ℕ) (line : List ℕ) : Type 0 where
+  pub answers : Answering
+  pub fails : Fails r s old new (called_by key line answers)
+  pub attends : Attends A A r s (λ d. LineHands (call_in d.sessions d.me key line) answers d.core)
+
 -- ---- a whole message, which came on this network
 
 pub record GivesAs {C : Type 0} (A : Known → List (Hosted C) → Audience → Type 0) (r s : Running C) (old new : Telling) (network : ℕ) (message : List ℕ) : Type 0 where
@@ -159,25 +205,41 @@ pub record GiveBreaks {C : Type 0} (r : Running C) (old new : Telling) (network 
   pub answers : Answering
   pub breaks : Breaks r old new (given_on network (Some message) answers)
 
+pub record GiveFails {C : Type 0} (A : Known → List (Hosted C) → Audience → Type 0) (r s : Running C) (old new : Telling) (network : ℕ) (message : List ℕ) : Type 0 where
+  pub answers : Answering
+  pub fails : Fails r s old new (given_on network (Some message) answers)
+  pub attends : Attends A A r s (GivenHands (Some message) answers)
+
 -- a receive, with what it brings
 pub record HearsAs {C : Type 0} (A : Known → List (Hosted C) → Audience → Type 0) (r s : Running C) (old new : Telling) : Type 0 where
   pub got : LinkCall
   pub answers : Answering
-  pub acts : Acts r s old new (Hears got answers ∷ [])
-  pub attends : Attends A A r s (HeardHands got answers)
+  pub acts : Acts A A r s old new (Hears got answers ∷ [])
 
 pub record HearBreaks {C : Type 0} (r : Running C) (old new : Telling) : Type 0 where
   pub got : LinkCall
   pub answers : Answering
   pub breaks : ActsBreak r old new (Hears got answers ∷ [])
 
+pub record HearFails {C : Type 0} (A : Known → List (Hosted C) → Audience → Type 0) (r s : Running C) (old new : Telling) : Type 0 where
+  pub got : LinkCall
+  pub answers : Answering
+  pub fails : ActsFail A A r s old new (Hears got answers ∷ [])
+
 -- ---- a turn
 
 pub record TurnsAs {C : Type 0} (A : Known → List (Hosted C) → Audience → Type 0) (r s : Running C) (old new : Telling) : Type 0 where
   pub turn : Turn
-  pub acts : Acts r s old new (turn_actions turn)
-  pub attends : Attends A A r s (λ d. TurnHands d turn)
+  pub acts : Acts A A r s old new (turn_actions turn)
 
 pub record TurnBreaks {C : Type 0} (r : Running C) (old new : Telling) : Type 0 where
   pub turn : Turn
   pub breaks : ActsBreak r old new (turn_actions turn)
+
+-- in the last of the acts that it did
+pub record TurnFails {C : Type 0} (A : Known → List (Hosted C) → Audience → Type 0) (r s : Running C) (old new : Telling) : Type 0 where
+  pub turn : Turn
+  pub acts : List Action
+  pub later : List Action
+  pub are : acts ++ later ≡ turn_actions turn
+  pub fails : ActsFail A A r s old new acts

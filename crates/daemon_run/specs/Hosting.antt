@@ -1,5 +1,5 @@
 -- What is said of one client, whatever is known of the others.
-use Rattle.std.specs.Prelude.{ℕ, zero, suc, Bool, true, false, List, [], ◌∷◌, Option, Some, None, IfSome}
+use Rattle.std.specs.Prelude.{ℕ, zero, Bool, true, false, List, [], ◌∷◌, Option, Some, None, IfSome}
 use Rattle.client_callbacks.specs.declared.told.Told.TheVariants as told
 use Rattle.client_callbacks.specs.declared.told.Why.TheVariants.{Dissolved}
 use Rattle.client_callbacks.specs.Handed.{Handed, Informed}

@@ -4,3 +4,4 @@ pub mod Doing
 pub mod Calling
 pub mod Serving
 pub mod Ends
+pub mod First

@@ -6,9 +6,9 @@ ghost use Rattle.node_state.specs.Step.{Calls};
 ghost use Rattle.daemon_model.specs.Daemon.{own_call, own_calls};
 ghost use Rattle.daemon_run.specs.Hosting.{Known, StandWhere};
 ghost use Rattle.daemon_run.specs.Audience.{is_boxed, first_for, left_for, Attend, AttendWith};
-ghost use Rattle.daemon_run.specs.Doing.{IsSame, IsStep, StepsAs, StepBreaks, CallSteps};
+ghost use Rattle.daemon_run.specs.Doing.{IsSame, IsStep, StepsAs, StepBreaks, StepFails, CallSteps};
 ghost use Rattle.remote_clients.specs.Clients.{IsPlain};
-ghost use Rattle.daemon_run.specs.Calling.{CallsAs, CallsBreak};
+ghost use Rattle.daemon_run.specs.Calling.{CallsAs, CallsBreak, CallsFail};
 
 use crate::hosted::Hosted;
 use crate::running::Running;
@@ -154,6 +154,13 @@ impl<C: Callbacks> Running<C> {
             (O.told outside.old) (O.told outside.new) call.now) }
         ensures broke { OnErr result (StepBreaks calling self.old (O.told outside.old)
             (O.told outside.new) (Calls call.now)) }
+        ensures unwritten { IfErr result (λ stop. stop ≡ Stop.WriteFault → StepFails
+            (AttendWith (H.stand hosts.old) C.stands_for C.script)
+            (AttendWith (H.stand hosts.new) C.stands_for C.script) calling self.old self.new
+            (O.told outside.old) (O.told outside.new) (Calls call.now)) }
+        ensures plain_unwritten { IsPlain call.now → IfErr result (λ stop. stop ≡ Stop.WriteFault
+            → StepFails (Attend C.stands_for C.script) (Attend C.stands_for C.script) calling
+            self.old self.new (O.told outside.old) (O.told outside.new) (Calls call.now)) }
         ensures same { IsSame self.old self.new }
         ensures fault { IfErr result (StopsBy (O.told outside.new)) }
     {
@@ -162,7 +169,7 @@ impl<C: Callbacks> Running<C> {
     }
 
     /// A line of the settings: a call of the own node's clients is carried out, and any other line is skipped.
-    #[tactic(auto, using(crate::proofs::CallLaws::call_done, crate::proofs::CallLaws::call_broke, crate::proofs::CallLaws::call_none))]
+    #[tactic(auto, using(crate::proofs::CallLaws::call_done, crate::proofs::CallLaws::call_broke, crate::proofs::CallLaws::call_fails, crate::proofs::CallLaws::call_none))]
     fn carry_line<H: Hosts<C>, O: Outside>(
         &mut self,
         alloc: Global,
@@ -176,6 +183,10 @@ impl<C: Callbacks> Running<C> {
             (own_call self.old.outbox.me line.now) (O.told outside.old) (O.told outside.new)) }
         ensures broke { OnErr result (CallsBreak self.old (own_call self.old.outbox.me line.now)
             (O.told outside.old) (O.told outside.new)) }
+        ensures unwritten { IfErr result (λ stop. stop ≡ Stop.WriteFault → CallsFail
+            (AttendWith (H.stand hosts.old) C.stands_for C.script)
+            (AttendWith (H.stand hosts.new) C.stands_for C.script) self.old self.new
+            (own_call self.old.outbox.me line.now) (O.told outside.old) (O.told outside.new)) }
         ensures same { IsSame self.old self.new }
         ensures fault { IfErr result (StopsBy (O.told outside.new)) }
     {
@@ -200,6 +211,10 @@ impl<C: Callbacks> Running<C> {
             (own_calls self.old.outbox.me lines.now) (O.told outside.old) (O.told outside.new)) }
         ensures broke { OnErr result (CallsBreak self.old (own_calls self.old.outbox.me lines.now)
             (O.told outside.old) (O.told outside.new)) }
+        ensures unwritten { IfErr result (λ stop. stop ≡ Stop.WriteFault → CallsFail
+            (AttendWith (H.stand hosts.old) C.stands_for C.script)
+            (AttendWith (H.stand hosts.new) C.stands_for C.script) self.old self.new
+            (own_calls self.old.outbox.me lines.now) (O.told outside.old) (O.told outside.new)) }
         ensures same { IsSame self.old self.new }
         ensures fault { IfErr result (StopsBy (O.told outside.new)) }
     {

@@ -2,6 +2,7 @@
 #![tactic(auto)]
 
 mod calls;
+mod first;
 mod hosted;
 mod remote;
 mod running;
@@ -10,5 +11,6 @@ mod turns;
 mod writing;
 
 pub use calls::{Hosts, Objects};
+pub use first::writes_its_start;
 pub use hosted::Hosted;
-pub use serving::{Serving, serve};
+pub use serving::{Outcome, Serving, serve};

@@ -6,7 +6,7 @@ ghost use Rattle.remote_clients.specs.Clients.{IsPlain};
 ghost use Rattle.remote_clients.specs.Sessions.{finished, turned_down};
 ghost use Rattle.daemon_model.specs.Daemon.{up_in, call_in, down_in};
 ghost use Rattle.daemon_run.specs.Audience.{Attend};
-ghost use Rattle.daemon_run.specs.Doing.{IsSame, is_up_taken, Sends, SendsFront, CallsKey, CallKeyBreaks, GivesAs, GiveBreaks};
+ghost use Rattle.daemon_run.specs.Doing.{IsSame, is_up_taken, Sends, SendsFront, CallsKey, CallKeyBreaks, CallKeyFails, GivesAs, GiveBreaks, GiveFails};
 
 use crate::calls::Hosts;
 use crate::running::Running;
@@ -75,7 +75,7 @@ impl<C: Callbacks> Running<C> {
     }
 
     /// The line of a key: a call of the node, or refused without a step.
-    #[tactic(auto, using(crate::proofs::RemoteLaws::line_refused, crate::proofs::RemoteLaws::line_done, crate::proofs::RemoteLaws::line_broke, crate::proofs::RemoteLaws::line_late, crate::proofs::RemoteLaws::line_none))]
+    #[tactic(auto, using(crate::proofs::RemoteLaws::line_refused, crate::proofs::RemoteLaws::line_done, crate::proofs::RemoteLaws::line_broke, crate::proofs::RemoteLaws::line_fails, crate::proofs::RemoteLaws::line_late, crate::proofs::RemoteLaws::line_none))]
     fn carry_key_line<H: Hosts<C>, O: Outside>(
         &mut self,
         alloc: Global,
@@ -88,6 +88,9 @@ impl<C: Callbacks> Running<C> {
         ensures done { OnOk result (CallsKey (Attend C.stands_for C.script) self.old self.new
             (O.told outside.old) (O.told outside.new) key line.now) }
         ensures broke { OnErr result (CallKeyBreaks self.old (O.told outside.old)
+            (O.told outside.new) key line.now) }
+        ensures unwritten { IfErr result (λ stop. stop ≡ Stop.WriteFault → CallKeyFails
+            (Attend C.stands_for C.script) self.old self.new (O.told outside.old)
             (O.told outside.new) key line.now) }
         ensures same { IsSame self.old self.new }
         ensures fault { IfErr result (StopsBy (O.told outside.new)) }
@@ -136,7 +139,7 @@ impl<C: Callbacks> Running<C> {
 
     /// A whole message that came on this network: an Up of a client on another machine, where those are served, after
     /// which its Down is sent; or one for the node.
-    #[tactic(auto, using(crate::proofs::RemoteLaws::give_done, crate::proofs::RemoteLaws::give_broke, crate::proofs::RemoteLaws::known_done, crate::proofs::RemoteLaws::full_done, crate::proofs::RemoteLaws::call_done, crate::proofs::RemoteLaws::call_broke_off, crate::proofs::RemoteLaws::give_none))]
+    #[tactic(auto, using(crate::proofs::RemoteLaws::give_done, crate::proofs::RemoteLaws::give_broke, crate::proofs::RemoteLaws::known_done, crate::proofs::RemoteLaws::full_done, crate::proofs::RemoteLaws::call_done, crate::proofs::RemoteLaws::call_broke_off, crate::proofs::RemoteLaws::give_fails, crate::proofs::RemoteLaws::call_fails_in, crate::proofs::RemoteLaws::give_none))]
     pub(crate) fn give<H: Hosts<C>, O: Outside>(
         &mut self,
         alloc: Global,
@@ -149,6 +152,9 @@ impl<C: Callbacks> Running<C> {
         ensures done { OnOk result (GivesAs (Attend C.stands_for C.script) self.old self.new
             (O.told outside.old) (O.told outside.new) network message.now) }
         ensures broke { OnErr result (GiveBreaks self.old (O.told outside.old)
+            (O.told outside.new) network message.now) }
+        ensures unwritten { IfErr result (λ stop. stop ≡ Stop.WriteFault → GiveFails
+            (Attend C.stands_for C.script) self.old self.new (O.told outside.old)
             (O.told outside.new) network message.now) }
         ensures same { IsSame self.old self.new }
         ensures fault { IfErr result (StopsBy (O.told outside.new)) }

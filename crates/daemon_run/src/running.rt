@@ -5,7 +5,7 @@ ghost use Rattle.node_core.specs.Event.{event_in, is_taken};
 ghost use Rattle.remote_clients.specs.Sessions.{noted_all, is_refused};
 ghost use Rattle.daemon_model.specs.Doings.{MadeFront};
 ghost use Rattle.daemon_run.specs.Audience.{Attend};
-ghost use Rattle.daemon_run.specs.Doing.{IsSame, left_doings, Settles, IsStep, StepsAs, StepBreaks};
+ghost use Rattle.daemon_run.specs.Doing.{IsSame, left_doings, Settles, SettleFails, IsStep, StepsAs, StepBreaks, StepFails};
 
 use crate::hosted::Hosted;
 use crate::writing::write_records;
@@ -66,6 +66,8 @@ impl<C: Callbacks> Running<C> {
             ≡ is_refused self.old.node.core.records) }
         ensures broke { OnErr result (MadeFront (O.told outside.old) (O.told outside.new)
             (left_doings self.old)) }
+        ensures unwritten { IfErr result (λ stop. stop ≡ Stop.WriteFault
+            → SettleFails self.old self.new (O.told outside.old) (O.told outside.new)) }
         ensures same { IsSame self.old self.new }
         ensures fault { IfErr result (StopsBy (O.told outside.new)) }
     {
@@ -91,7 +93,7 @@ impl<C: Callbacks> Running<C> {
     }
 
     /// An event happens to the node; its lines are written, and what that leaves is sent.
-    #[tactic(auto, using(crate::proofs::StepLaws::step_done, crate::proofs::StepLaws::step_none))]
+    #[tactic(auto, using(crate::proofs::StepLaws::step_done, crate::proofs::StepLaws::step_none, crate::proofs::StepLaws::step_fails))]
     pub fn step<O: Outside>(
         &mut self,
         alloc: Global,
@@ -105,6 +107,9 @@ impl<C: Callbacks> Running<C> {
             (O.told outside.new) (event_in event.entry)) }
         ensures broke { OnErr result (StepBreaks None self.old (O.told outside.old)
             (O.told outside.new) (event_in event.entry)) }
+        ensures unwritten { IfErr result (λ stop. stop ≡ Stop.WriteFault → StepFails
+            (Attend C.stands_for C.script) (Attend C.stands_for C.script) None self.old self.new
+            (O.told outside.old) (O.told outside.new) (event_in event.entry)) }
         ensures same { IsSame self.old self.new }
         ensures fault { IfErr result (StopsBy (O.told outside.new)) }
     {

@@ -1,15 +1,17 @@
 //! A daemon: its start, the calls of its settings, and its turns.
-ghost use Rattle.std.specs.Prelude.{◌≡◌, ◌≤◌, ◌+◌, IfOk, IfErr, OnErr, Err};
+ghost use Rattle.std.specs.Prelude.{◌≡◌, ◌≤◌, ◌+◌, ◌⊎◌, false, None, IfOk, IfErr, IfSome, IsSomeAnd, OnOk, OnErr, Err};
 ghost use Rattle.hags_io.specs.Edges.{Rose};
 ghost use Rattle.hags_io.specs.Fronts.{EndsByWrite, EndsByReceive};
+ghost use Rattle.hags_io.specs.Telling.{Did};
 ghost use Rattle.link_use.specs.Stops.{StopsBy, StopsDaemon};
 ghost use Rattle.node_state.specs.Step.{at_work};
 ghost use Rattle.daemon_model.specs.Daemon.{sessions_if};
-ghost use Rattle.daemon_model.specs.Settings.{OverLink, OverLinkIf};
+ghost use Rattle.daemon_model.specs.Settings.{openings, OverLink, OverLinkIf};
 ghost use Rattle.daemon_model.specs.Lives.{ServesAs, ServesTo, ServesFront};
-ghost use Rattle.daemon_run.specs.Calling.{BeginsAs, BeginBreaks, fresh_running};
+ghost use Rattle.daemon_run.specs.Doing.{IsSame};
+ghost use Rattle.daemon_run.specs.Calling.{BeginsAs, BeginBreaks, BeginFails, fresh_running};
 ghost use Rattle.daemon_run.specs.Audience.{AttendWith};
-ghost use Rattle.daemon_run.specs.Ends.{HandsOver};
+ghost use Rattle.daemon_run.specs.Ends.{LeftBy, left_of};
 
 use crate::calls::Hosts;
 use crate::hosted::Hosted;
@@ -31,6 +33,14 @@ pub struct Serving {
     pub incarnation: u32,
     pub turns: u32,
     pub remote: bool,
+}
+
+/// How a daemon ended, and what is left of it: its node with its clients. There is none where the link could not be opened
+/// or memory ran out: what clients of a node had heard that had no memory in the middle of a step is not known.
+#[derive(Drop)]
+pub struct Outcome<C: Callbacks> {
+    pub node: Option<Node<Hosted<C>>>,
+    pub end: Result<(), Stop>,
 }
 
 /// The sessions of clients on other machines, where they are served.
@@ -67,62 +77,98 @@ fn started<C: Callbacks>(
     })
 }
 
-/// The start of the node, and the calls of the settings.
-#[tactic(auto, using(crate::proofs::CallLaws::begins_done, crate::proofs::CallLaws::begins_none))]
-fn begin<C: Callbacks, H: Hosts<C>, O: Outside>(
-    alloc: Global,
-    script: &Script,
-    serving: Serving,
-    moment: u64,
-    hosts: &mut H,
-    outside: &mut O,
-) -> Result<Running<C>, Stop>
-    requires { serving.me ≤ 32 }
-    ensures done { IfOk result (λ r. BeginsAs
-        (AttendWith (H.stand hosts.old) C.stands_for C.script)
-        (AttendWith (H.stand hosts.new) C.stands_for C.script) serving.remote script.now serving.me
-        serving.incarnation moment r (O.told outside.old) (O.told outside.new)) }
-    ensures broke { OnErr result (BeginBreaks serving.remote script.now serving.me
-        serving.incarnation moment (O.told outside.old) (O.told outside.new)) }
-    ensures within { IfOk result (λ r. r.outbox.me ≤ 32) }
-    ensures fault { IfErr result (StopsBy (O.told outside.new)) }
-{
-    let mut running = started::<C>(alloc, script, serving, moment)?;
-    let _refused = running.settle(alloc, None, outside)?;
-    running.carry_lines(alloc, script.lines.as_slice(), hosts, outside)?;
-    Ok(running)
+impl<C: Callbacks> Running<C> {
+    /// What the node recorded at its start is written, and the calls of the settings are carried out.
+    fn begin<H: Hosts<C>, O: Outside>(
+        &mut self,
+        alloc: Global,
+        script: &Script,
+        serving: Serving,
+        hosts: &mut H,
+        outside: &mut O,
+    ) -> Result<(), Stop>
+        requires within { self.old.outbox.me ≤ 32 }
+        requires fresh { self.old ≡ fresh_running serving.remote script.now.config serving.me
+            serving.incarnation self.old.last }
+        ensures done { OnOk result (BeginsAs
+            (AttendWith (H.stand hosts.old) C.stands_for C.script)
+            (AttendWith (H.stand hosts.new) C.stands_for C.script) serving.remote script.now
+            serving.me serving.incarnation self.old.last self.new (O.told outside.old)
+            (O.told outside.new)) }
+        ensures broke { OnErr result (BeginBreaks serving.remote script.now serving.me
+            serving.incarnation self.old.last (O.told outside.old) (O.told outside.new)) }
+        ensures unwritten { IfErr result (λ stop. stop ≡ Stop.WriteFault → BeginFails
+            (AttendWith (H.stand hosts.old) C.stands_for C.script)
+            (AttendWith (H.stand hosts.new) C.stands_for C.script) serving.remote script.now
+            serving.me serving.incarnation self.old.last self.new (O.told outside.old)
+            (O.told outside.new)) }
+        ensures same { IsSame self.old self.new }
+        ensures fault { IfErr result (StopsBy (O.told outside.new)) }
+    {
+        let _refused = self.settle(alloc, None, outside)?;
+        self.carry_lines(alloc, script.lines.as_slice(), hosts, outside)
+    }
+
+    /// Its node, where it ended so. Where memory ran out the node is let go.
+    fn left(self, end: Result<(), Stop>) -> Option<Node<Hosted<C>>>
+        ensures { result ≡ left_of end self.node }
+    {
+        let Running { node, .. } = self;
+        match end {
+            Err(Stop::NoMemory) => None,
+            _ => Some(node),
+        }
+    }
 }
 
 /// The whole life of a daemon whose link is open.
-#[tactic(auto, using(crate::proofs::EndLaws::serves_begun, crate::proofs::EndLaws::serves_all, crate::proofs::EndLaws::hands_over, crate::proofs::EndLaws::serves_to, crate::proofs::EndLaws::serves_front, link_use::proofs::StopLaws::stops_daemon))]
+#[tactic(auto, using(crate::proofs::EndLaws::fresh_at, crate::proofs::EndLaws::read_at, crate::proofs::CallLaws::begins_none, crate::proofs::EndLaws::serves_begun, crate::proofs::EndLaws::serves_to, crate::proofs::EndLaws::serves_front, crate::proofs::EndLaws::left_none, link_use::proofs::StopLaws::stops_daemon))]
 fn live<C: Callbacks, H: Hosts<C>, O: Outside>(
     alloc: Global,
     script: &Script,
     serving: Serving,
     hosts: &mut H,
     outside: &mut O,
-) -> Result<Node<Hosted<C>>, Stop>
+) -> Outcome<C>
     requires { serving.me ≤ 32 }
-    ensures done { IfOk result (λ node. ServesAs script.now serving.me serving.incarnation
-        serving.remote serving.turns (at_work node.core) (O.told outside.old)
-        (O.told outside.new)) }
-    ensures hands { IfOk result (λ node. HandsOver (H.stand hosts.old)
-        C.stands_for C.script script.now serving.me serving.incarnation serving.remote
-        serving.turns node (O.told outside.old) (O.told outside.new)) }
-    ensures ended { result ≡ Err Stop.LinkFault → ServesTo script.now serving.me
+    ensures served { OnOk result.end (IsSomeAnd result.node (λ node. ServesAs script.now serving.me
+        serving.incarnation serving.remote serving.turns (at_work node.core) (O.told outside.old)
+        (O.told outside.new))) }
+    ensures left { IfSome result.node (λ node. LeftBy (H.stand hosts.old) C.stands_for C.script
+        script.now serving.me serving.incarnation serving.remote serving.turns result.end node
+        (O.told outside.old) (O.told outside.new)) }
+    ensures kept { result.node ≡ None → result.end ≡ Err Stop.NoMemory }
+    ensures ended { result.end ≡ Err Stop.LinkFault → ServesTo script.now serving.me
         serving.incarnation serving.remote serving.turns (O.told outside.old)
         (O.told outside.new) }
     ensures ever { ServesFront script.now serving.me serving.incarnation serving.remote
         serving.turns (O.told outside.old) (O.told outside.new) }
-    ensures written { result ≡ Err Stop.WriteFault → EndsByWrite (O.told outside.new) }
-    ensures failed { result ≡ Err Stop.LinkFault → EndsByReceive (O.told outside.new) }
-    ensures stops { IfErr result StopsDaemon }
+    ensures written { result.end ≡ Err Stop.WriteFault → EndsByWrite (O.told outside.new) }
+    ensures failed { result.end ≡ Err Stop.LinkFault → EndsByReceive (O.told outside.new) }
+    ensures stops { IfErr result.end StopsDaemon }
 {
     let moment = outside.now();
-    let mut running = begin::<C, H, O>(alloc, script, serving, moment, hosts, outside)?;
-    running.serve_turns(alloc, serving.turns, hosts, outside)?;
-    let Running { node, .. } = running;
-    Ok(node)
+    let Ok(mut running) = started::<C>(alloc, script, serving, moment) else {
+        return Outcome {
+            node: None,
+            end: Err(Stop::NoMemory),
+        };
+    };
+    match running.begin(alloc, script, serving, hosts, outside) {
+        Ok(()) => {
+            let end = running.serve_turns(alloc, serving.turns, hosts, outside);
+            Outcome {
+                node: running.left(end),
+                end,
+            }
+        }
+        Err(stop) => {
+            Outcome {
+                node: running.left(Err(stop)),
+                end: Err(stop),
+            }
+        }
+    }
 }
 
 /// Runs a daemon of the node `serving.me` for `serving.turns` turns. It tells the link where all adapters of the
@@ -133,16 +179,19 @@ fn live<C: Callbacks, H: Hosts<C>, O: Outside>(
 /// line of each record is written first; then what the node sends goes out in pieces, and a send that fails is a lost
 /// packet.
 ///
-/// `LinkFault` where the link could not be opened, or 16 receives in a row failed; `WriteFault` where a write failed; and
-/// `NoMemory` where memory has run out; it ends by no other `Stop` (`stops`). However it ends, what was done is a front of
-/// the doings of a life (`crates/daemon_model`), in their order; after all turns, or at `LinkFault`, all of them (`ever`,
-/// `served`, `link`).
+/// It ends (`end`) by `LinkFault` where the link could not be opened, or 16 receives in a row failed; by `WriteFault` where
+/// a write failed; and by `NoMemory` where memory has run out; and by no other `Stop` (`stops`). However it ends, what was
+/// done is a front of the doings of a life (`crates/daemon_model`), in their order; after all turns, or at `LinkFault`, all
+/// of them (`ever`, `served`, `link`).
 ///
-/// After all turns each client of the node's sessions stands for its own list (`hands`): that of the k-th line whose
-/// word is `boxed` for the list for which the k-th object of `hosts` stood, whatever the others stood for, and any other for
-/// an empty one; each with the notices and tellings behind it that the run handed to that client, in order, and the ballots
-/// that it filled. Of an object of which no list is known nothing is said. Just the clients of those lines vote by no items,
-/// so that no other client stands in place of an object.
+/// It gives its node back where it did all its turns or broke off by a fault of the output or of receives (`kept`). Each
+/// client of the node's sessions stands for its own list then (`left`): that of the k-th line whose word is `boxed` for the
+/// list for which the k-th object of `hosts` stood, whatever the others stood for, and any other for an empty one; each with
+/// the notices and tellings behind it that the run handed to that client up to there, in order, and the ballots that it
+/// filled. At `WriteFault` these are those of all acts up to the one whose lines could not be written, and of that act too:
+/// it has happened to the node. Of an object of which no list is known nothing is said. Just the clients of those lines vote
+/// by no items, so that no other client stands in place of an object. At `NoMemory` nothing is said of what clients heard,
+/// and the node is let go.
 #[tactic(auto, using(link_use::proofs::OpenLaws::over_link, link_use::proofs::OpenLaws::not_opened, link_use::proofs::OpenLaws::ran, link_use::proofs::OpenLaws::rose_closed))]
 pub fn serve<C: Callbacks, H: Hosts<C>, O: Outside>(
     alloc: Global,
@@ -150,41 +199,47 @@ pub fn serve<C: Callbacks, H: Hosts<C>, O: Outside>(
     serving: Serving,
     hosts: &mut H,
     outside: &mut O,
-) -> Result<Node<Hosted<C>>, Stop>
+) -> Outcome<C>
     requires node { serving.me ≤ 32 }
     requires ports { script.now.config.port + 32 ≤ 65535 }
-    ensures served { IfOk result (λ node. OverLink script.now.config
+    ensures served { OnOk result.end (IsSomeAnd result.node (λ node. OverLink script.now.config
         (script.now.config.port + serving.me) (O.told outside.old) (λ opened. ServesAs script.now
         serving.me serving.incarnation serving.remote serving.turns (at_work node.core) opened
-        (O.told outside.new))) }
-    ensures hands { IfOk result (λ node. OverLink script.now.config
-        (script.now.config.port + serving.me) (O.told outside.old) (λ opened. HandsOver
+        (O.told outside.new)))) }
+    ensures left { IfSome result.node (λ node. OverLink script.now.config
+        (script.now.config.port + serving.me) (O.told outside.old) (λ opened. LeftBy
         (H.stand hosts.old) C.stands_for C.script script.now serving.me serving.incarnation
-        serving.remote serving.turns node opened (O.told outside.new))) }
-    ensures link { result ≡ Err Stop.LinkFault → OverLinkIf script.now.config
+        serving.remote serving.turns result.end node opened (O.told outside.new))) }
+    ensures kept { result.node ≡ None → (result.end ≡ Err Stop.NoMemory)
+        ⊎ ((result.end ≡ Err Stop.LinkFault) × Did (O.told outside.old) (O.told outside.new)
+        (openings script.now.config (script.now.config.port + serving.me) false)) }
+    ensures link { result.end ≡ Err Stop.LinkFault → OverLinkIf script.now.config
         (script.now.config.port + serving.me) (O.told outside.old) (O.told outside.new)
         (λ opened. ServesTo script.now serving.me serving.incarnation serving.remote
         serving.turns opened (O.told outside.new)) }
     ensures ever { OverLinkIf script.now.config (script.now.config.port + serving.me)
         (O.told outside.old) (O.told outside.new) (λ opened. ServesFront script.now serving.me
         serving.incarnation serving.remote serving.turns opened (O.told outside.new)) }
-    ensures memory { result ≡ Err Stop.NoMemory → OverLink script.now.config
+    ensures memory { result.end ≡ Err Stop.NoMemory → OverLink script.now.config
         (script.now.config.port + serving.me) (O.told outside.old) (λ opened. ServesFront
         script.now serving.me serving.incarnation serving.remote serving.turns opened
         (O.told outside.new)) }
-    ensures written { result ≡ Err Stop.WriteFault → OverLink script.now.config
+    ensures written { result.end ≡ Err Stop.WriteFault → OverLink script.now.config
         (script.now.config.port + serving.me) (O.told outside.old) (λ opened. ServesFront
         script.now serving.me serving.incarnation serving.remote serving.turns opened
         (O.told outside.new)) }
-    ensures write_fault { result ≡ Err Stop.WriteFault
+    ensures write_fault { result.end ≡ Err Stop.WriteFault
         → Rose (O.told outside.old).write_faults (O.told outside.new).write_faults }
-    ensures link_fault { result ≡ Err Stop.LinkFault
+    ensures link_fault { result.end ≡ Err Stop.LinkFault
         → Rose (O.told outside.old).link_faults (O.told outside.new).link_faults }
-    ensures stops { IfErr result StopsDaemon }
+    ensures stops { IfErr result.end StopsDaemon }
 {
     let port = script.config.port + u16::from(serving.me);
     if !open_link(outside, &script.config, port) {
-        return Err(Stop::LinkFault);
+        return Outcome {
+            node: None,
+            end: Err(Stop::LinkFault),
+        };
     }
     live::<C, H, O>(alloc, script, serving, hosts, outside)
 }

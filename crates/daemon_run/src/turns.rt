@@ -3,8 +3,8 @@ ghost use Rattle.std.specs.Prelude.{◌≡◌, ◌≤◌, ◌<◌, OnOk, OnErr, 
 ghost use Rattle.hags_io.specs.Fronts.{EndsByWrite, EndsByReceive};
 ghost use Rattle.link_use.specs.Stops.{StopsBy, StopsDaemon};
 ghost use Rattle.daemon_run.specs.Audience.{Attend};
-ghost use Rattle.daemon_run.specs.Doing.{IsSame, TicksAs, TickBreaks, HearsAs, HearBreaks, TurnsAs, TurnBreaks};
-ghost use Rattle.daemon_run.specs.Serving.{TurnsDone, TurnsEnded, TurnsFront};
+ghost use Rattle.daemon_run.specs.Doing.{IsSame, TicksAs, TickBreaks, TickFails, HearsAs, HearBreaks, HearFails, TurnsAs, TurnBreaks, TurnFails};
+ghost use Rattle.daemon_run.specs.Serving.{TurnsDone, TurnsEnded, TurnsFront, TurnsFail};
 
 use crate::calls::Hosts;
 use crate::running::Running;
@@ -19,7 +19,7 @@ const TICK: u64 = 100;
 
 impl<C: Callbacks> Running<C> {
     /// A tick, where it is due.
-    #[tactic(auto, using(crate::proofs::TurnLaws::tick_done, crate::proofs::TurnLaws::tick_not, crate::proofs::TurnLaws::tick_broke))]
+    #[tactic(auto, using(crate::proofs::TurnLaws::tick_done, crate::proofs::TurnLaws::tick_not, crate::proofs::TurnLaws::tick_broke, crate::proofs::TurnLaws::tick_fails))]
     fn tick_if_due<O: Outside>(
         &mut self,
         alloc: Global,
@@ -30,6 +30,9 @@ impl<C: Callbacks> Running<C> {
         ensures done { OnOk result (TicksAs (Attend C.stands_for C.script) self.old self.new
             (O.told outside.old) (O.told outside.new) moment) }
         ensures broke { OnErr result (TickBreaks self.old (O.told outside.old)
+            (O.told outside.new) moment) }
+        ensures unwritten { IfErr result (λ stop. stop ≡ Stop.WriteFault → TickFails
+            (Attend C.stands_for C.script) self.old self.new (O.told outside.old)
             (O.told outside.new) moment) }
         ensures same { IsSame self.old self.new }
         ensures fault { IfErr result (StopsBy (O.told outside.new)) }
@@ -56,6 +59,9 @@ impl<C: Callbacks> Running<C> {
             (O.told outside.old) (O.told outside.new)) }
         ensures broke { OnErr result (HearBreaks self.old (O.told outside.old)
             (O.told outside.new)) }
+        ensures unwritten { IfErr result (λ stop. stop ≡ Stop.WriteFault → HearFails
+            (Attend C.stands_for C.script) self.old self.new (O.told outside.old)
+            (O.told outside.new)) }
         ensures same { self.new.outbox.me ≡ self.old.outbox.me }
         ensures failed { OnOk result (0 < self.new.receiving.failed
             → EndsByReceive (O.told outside.new)) }
@@ -77,7 +83,7 @@ impl<C: Callbacks> Running<C> {
     }
 
     /// A turn: the clock is read, the node ticks where it is due, and one receive.
-    #[tactic(auto, using(crate::proofs::TurnLaws::turn_done, crate::proofs::TurnLaws::turn_broke, crate::proofs::TurnLaws::turn_ends))]
+    #[tactic(auto, using(crate::proofs::TurnLaws::turn_done, crate::proofs::TurnLaws::turn_broke, crate::proofs::TurnLaws::turn_ends, crate::proofs::TurnLaws::turn_fails, crate::proofs::TurnLaws::turn_fails_at_tick))]
     fn turn<H: Hosts<C>, O: Outside>(
         &mut self,
         alloc: Global,
@@ -91,6 +97,9 @@ impl<C: Callbacks> Running<C> {
             (O.told outside.old) (O.told outside.new)) }
         ensures broke { OnErr result (TurnBreaks self.old (O.told outside.old)
             (O.told outside.new)) }
+        ensures unwritten { IfErr result (λ stop. stop ≡ Stop.WriteFault → TurnFails
+            (Attend C.stands_for C.script) self.old self.new (O.told outside.old)
+            (O.told outside.new)) }
         ensures same { self.new.outbox.me ≡ self.old.outbox.me }
         ensures failed { OnOk result (0 < self.new.receiving.failed
             → EndsByReceive (O.told outside.new)) }
@@ -103,7 +112,7 @@ impl<C: Callbacks> Running<C> {
     }
 
     /// So many turns; fewer where 16 receives fail in a row.
-    #[tactic(auto, using(crate::proofs::ServeLaws::turns_none, crate::proofs::ServeLaws::turns_unbegun, crate::proofs::ServeLaws::turns_next, crate::proofs::ServeLaws::turns_all, link_use::proofs::StopLaws::stops_daemon))]
+    #[tactic(auto, using(crate::proofs::ServeLaws::turns_none, crate::proofs::ServeLaws::turns_unbegun, crate::proofs::ServeLaws::turns_next, crate::proofs::ServeLaws::turns_all, crate::proofs::ServeLaws::turns_fail, link_use::proofs::StopLaws::stops_daemon))]
     pub fn serve_turns<H: Hosts<C>, O: Outside>(
         &mut self,
         alloc: Global,
@@ -114,8 +123,11 @@ impl<C: Callbacks> Running<C> {
         requires { self.old.outbox.me ≤ 32 }
         ensures done { OnOk result (TurnsDone (Attend C.stands_for C.script) self.old self.new
             turns (O.told outside.old) (O.told outside.new)) }
-        ensures ended { result ≡ Err Stop.LinkFault → TurnsEnded self.old self.new turns
-            (O.told outside.old) (O.told outside.new) }
+        ensures ended { result ≡ Err Stop.LinkFault → TurnsEnded (Attend C.stands_for C.script)
+            self.old self.new turns (O.told outside.old) (O.told outside.new) }
+        ensures unwritten { IfErr result (λ stop. stop ≡ Stop.WriteFault → TurnsFail
+            (Attend C.stands_for C.script) self.old self.new turns (O.told outside.old)
+            (O.told outside.new)) }
         ensures ever { TurnsFront self.old turns (O.told outside.old) (O.told outside.new) }
         ensures written { result ≡ Err Stop.WriteFault → EndsByWrite (O.told outside.new) }
         ensures failed { result ≡ Err Stop.LinkFault → EndsByReceive (O.told outside.new) }

@@ -3,6 +3,7 @@ ghost use Rattle.std.specs.Prelude.{◌≡◌, OnOk, OnErr, IfOk, IfErr};
 ghost use Rattle.link_use.specs.Stops.{StopsBy};
 ghost use Rattle.daemon_model.specs.Daemon.{records_text};
 ghost use Rattle.daemon_model.specs.Doings.{writes, Made, MadeFront};
+ghost use Rattle.daemon_run.specs.Doing.{WriteFails};
 
 use hags_io::{Outside, Put};
 use link_use::Stop;
@@ -25,7 +26,7 @@ fn text_of(alloc: Global, records: &[Happened]) -> Result<Vec<u8>, NoMemory>
 }
 
 /// Writes the lines of what a step recorded, all at once; nothing where it recorded nothing.
-#[tactic(auto, using(crate::proofs::WriteLaws::none_written, crate::proofs::WriteLaws::all_written, crate::proofs::WriteLaws::front_written, crate::proofs::WriteLaws::still_written, daemon_model::proofs::MadeLaws::none_made, hags_io::proofs::FrontLaws::ends_by_write))]
+#[tactic(auto, using(crate::proofs::WriteLaws::none_written, crate::proofs::WriteLaws::all_written, crate::proofs::WriteLaws::front_written, crate::proofs::WriteLaws::still_written, crate::proofs::FailLaws::write_fails, daemon_model::proofs::MadeLaws::none_made, hags_io::proofs::FrontLaws::ends_by_write))]
 pub fn write_records<O: Outside>(
     alloc: Global,
     records: &[Happened],
@@ -35,6 +36,8 @@ pub fn write_records<O: Outside>(
         (writes records.now)) }
     ensures broke { OnErr result (MadeFront (O.told outside.old) (O.told outside.new)
         (writes records.now)) }
+    ensures unwritten { IfErr result (λ stop. stop ≡ Stop.WriteFault
+        → WriteFails (O.told outside.old) (O.told outside.new) (writes records.now)) }
     ensures fault { IfErr result (StopsBy (O.told outside.new)) }
 {
     if records.is_empty() {

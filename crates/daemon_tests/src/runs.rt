@@ -191,8 +191,8 @@ pub(crate) fn ended<C: Callbacks, H: Hosts<C>, O: Outside>(
     requires node { serving.me ≤ 32 }
     requires ports { script.now.config.port + 32 ≤ 65535 }
 {
-    let _node = serve::<C, H, O>(alloc, script, serving, hosts, outside)?;
-    Ok(())
+    let outcome = serve::<C, H, O>(alloc, script, serving, hosts, outside);
+    outcome.end
 }
 
 /// How the daemon of these settings ends after so many turns, where these objects are handed to it.

@@ -1,5 +1,5 @@
 -- How the commands that take settings end.
-use Rattle.std.proofs.Common.{◌≡◌, ℕ, ◌+◌, ◌-◌, ◌^◌, min, List, [], ◌∷◌, Option, Some, None, IfSome, IsErr, IsErrAnd, refl, sym, subst, inr, arith}
+use Rattle.std.proofs.Common.{◌≡◌, ℕ, ◌+◌, ◌-◌, ◌^◌, min, List, [], ◌∷◌, Option, Some, None, IfSome, IsSomeAnd, IsErr, IsErrAnd, refl, sym, subst, inr, arith}
 use Rattle.std.specs.Prelude.{Result, Ok, Err}
 use Rattle.std.specs.Io.KnownBytes.{IsAtEnd}
 use Rattle.std.proofs.KnownBytes.{Keeps-trans}
@@ -125,8 +125,9 @@ module _ (s : Service) (objects n : ℕ) (x : Seen) (script : Script) (incarnati
     holds = h;
   }
 
-  pub serves_done : (core : Core) → IsAtEnd x.rest → OverLink script.config (script.config.port + s.node) start (λ opened. ServesAs script s.node incarnation s.remote s.turns core opened x.now) → EndsAs (Ok tt) (Some (serves s objects)) x
-  serves_done core end h = (runs (ServesAll x s) (record { opened = h.opened; did = h.did; holds = record { core = core; serves = h.holds } }), end)
+  pub serves_done : {N : Type 0} (node : Option N) (core : N → Core) → IsAtEnd x.rest → IsSomeAnd node (λ n. OverLink script.config (script.config.port + s.node) start (λ opened. ServesAs script s.node incarnation s.remote s.turns (core n) opened x.now)) → EndsAs (Ok tt) (Some (serves s objects)) x
+  serves_done None core end h = absurd h
+  serves_done (Some n) core end h = (runs (ServesAll x s) (record { opened = h.opened; did = h.did; holds = record { core = core n; serves = h.holds } }), end)
 
   -- whatever stopped it
   pub serves_stop : (r : Result (Unit {0}) Ending) (f : Stop) → IsErr r × IsErrAnd r (λ e. e ≡ ending.Stop f) → StopsDaemon f → (f ≡ stop.NoMemory → OverLink script.config (script.config.port + s.node) start (λ opened. ServesFront script s.node incarnation s.remote s.turns opened x.now))

@@ -63,7 +63,8 @@ fn serve_with<C: Callbacks, H: Hosts<C>, S: Source, O: Outside>(
         turns: service.turns,
         remote: service.remote,
     };
-    let _node = serve::<C, H, O>(alloc, &script, serving, hosts, &mut edges.output.outside)?;
+    let outcome = serve::<C, H, O>(alloc, &script, serving, hosts, &mut edges.output.outside);
+    outcome.end?;
     Ok(())
 }
 

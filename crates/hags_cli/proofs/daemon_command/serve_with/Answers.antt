@@ -1,23 +1,26 @@
 -- A daemon that did all its turns, and one that stopped.
-use Rattle.std.proofs.Common.{◌≡◌, ap, rules}
+use Rattle.std.proofs.Common.{◌≡◌, ◌∙◌, ap, rules}
+use Rattle.std.proofs.lemmas.Result.{IfOk-at_ok, IfErr-at_err}
 use Rattle.std.specs.Prelude.{Err}
+use Rattle.link_use.specs.Stops.{StopsDaemon}
+use Rattle.node_state.specs.Step.{at_work}
 use Rattle.hags_cli.specs.Tasks.{counted}
 use Rattle.hags_cli.proofs.CommandLaws.{serves_done, serves_stop}
 use Rattle.hags_cli.proofs.daemon_command.serve_with.Goals as goal
 
-pub returns-in_err-_node : goal.returns-in_err-_node
-returns-in_err-_node g c =
+pub returns-in_err-outcome : goal.returns-in_err-outcome
+returns-in_err-outcome g c =
     let count : c.count_of-count.result ≡ counted c.args.objects = search rules in
     serves_stop c.args.service c.args.objects c.count_of-count.result _ c.in_ok-script.script c.incarnation_of.result (g.O.Outside.told c.incarnation_of.new.outside) count c.incarnation_of.ensures c.in_ok-script.ensures.read
-    c.from_residual-in_err-_node.result c.in_err-_node.field-0.0 c.from_residual-in_err-_node.ensures c.in_err-_node.ensures.stops
-    (λ e. c.in_err-_node.ensures.memory (ap Err e))
-    (λ e. c.in_err-_node.ensures.written (ap Err e))
-    (λ e. c.in_err-_node.ensures.link (ap Err e))
-    (λ e. c.in_err-_node.ensures.write_fault (ap Err e))
-    (λ e. c.in_err-_node.ensures.link_fault (ap Err e))
+    c.from_residual-in_err-outcome.result c.in_err-outcome.field-0.0 c.from_residual-in_err-outcome.ensures (IfErr-at_err StopsDaemon c.in_err-outcome.was c.serve-outcome.ensures.stops)
+    (λ e. c.serve-outcome.ensures.memory (c.in_err-outcome.was ∙ ap Err e))
+    (λ e. c.serve-outcome.ensures.written (c.in_err-outcome.was ∙ ap Err e))
+    (λ e. c.serve-outcome.ensures.link (c.in_err-outcome.was ∙ ap Err e))
+    (λ e. c.serve-outcome.ensures.write_fault (c.in_err-outcome.was ∙ ap Err e))
+    (λ e. c.serve-outcome.ensures.link_fault (c.in_err-outcome.was ∙ ap Err e))
 
 pub returns : goal.returns
 returns g c =
     let count : c.count_of-count.result ≡ counted c.args.objects = search rules in
-    serves_done c.args.service c.args.objects c.count_of-count.result _ c.in_ok-script.script c.incarnation_of.result (g.O.Outside.told c.incarnation_of.new.outside) count c.incarnation_of.ensures c.in_ok-script.ensures.read _
-    c.in_ok-script.ensures.end c.in_ok-_node.ensures.served
+    serves_done c.args.service c.args.objects c.count_of-count.result _ c.in_ok-script.script c.incarnation_of.result (g.O.Outside.told c.incarnation_of.new.outside) count c.incarnation_of.ensures c.in_ok-script.ensures.read
+    c.serve-outcome.result.node (λ node. at_work node.core) c.in_ok-script.ensures.end (IfOk-at_ok _ c.in_ok-outcome.was c.serve-outcome.ensures.served)

@@ -1,9 +1,15 @@
 -- A turn broke off, too many receives in a row failed, or all turns were done.
-use Rattle.daemon_run.proofs.ServeLaws.{turns_ended, turns_broken, turns_front, ended_front}
+use Rattle.daemon_run.proofs.FailLaws.{unwritten_by}
+use Rattle.daemon_run.proofs.ServeLaws.{turns_ended, turns_broken, turns_fail, turns_front, ended_front}
 use Rattle.daemon_run.proofs.running.Running.serve_turns.Goals as goal
 
 pub returns-in_err-turn-clause-ever : goal.returns-in_err-turn-clause-ever
 returns-in_err-turn-clause-ever g c = turns_broken c.args.self.now c.loop.self c.loop.counter c.args.turns _ _ _ c.loop-test.true c.loop.invariant.done c.in_err-turn.ensures.broke
+
+pub returns-in_err-turn-clause-unwritten : goal.returns-in_err-turn-clause-unwritten
+returns-in_err-turn-clause-unwritten g c =
+    unwritten_by c.from_residual-in_err-turn.result _ c.from_residual-in_err-turn.ensures
+    (λ e. turns_fail c.args.self.now c.loop.self c.turn.new.self c.loop.counter c.args.turns _ _ _ c.loop-test.true c.loop.invariant.done (c.in_err-turn.ensures.unwritten e))
 
 pub returns-then-self-ge-MOST_FAILED-clause-ended :
     goal.returns-then-self-ge-MOST_FAILED-clause-ended

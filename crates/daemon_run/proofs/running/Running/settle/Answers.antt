@@ -4,13 +4,20 @@ use Rattle.link_use.proofs.SendLaws.{on_err}
 use Rattle.daemon_model.specs.Doings.{Made}
 use Rattle.daemon_model.proofs.MadeLaws.{all_made}
 use Rattle.daemon_run.specs.Doing.{left_doings}
-use Rattle.daemon_run.proofs.StepLaws.{records_left, left_made, left_unsent, left_unwritten, settles}
+use Rattle.daemon_run.proofs.FailLaws.{unwritten_by}
+use Rattle.daemon_run.proofs.StepLaws.{records_left, left_made, left_unsent, left_unwritten, left_fails, settles}
 use Rattle.daemon_run.proofs.running.Running.settle.Goals as goal
 
 pub returns-in_err-write_records-clause-broke : goal.returns-in_err-write_records-clause-broke
 returns-in_err-write_records-clause-broke g c =
     let recorded : c.as_slice.result.now ≡ c.args.self.now.node.core.records = c.as_slice.ensures ∙ records_left c.args.self.now c.take_sends-sends.new.self c.take_records-records.result c.take_sends-sends.ensures.left c.take_records-records.ensures.taken in
     on_err c.from_residual.result (left_unwritten c.args.self.now c.as_slice.result.now _ _ recorded c.in_err-write_records.ensures.broke)
+
+pub returns-in_err-write_records-clause-unwritten : goal.returns-in_err-write_records-clause-unwritten
+returns-in_err-write_records-clause-unwritten g c =
+    let recorded : c.as_slice.result.now ≡ c.args.self.now.node.core.records = c.as_slice.ensures ∙ records_left c.args.self.now c.take_sends-sends.new.self c.take_records-records.result c.take_sends-sends.ensures.left c.take_records-records.ensures.taken in
+    unwritten_by c.from_residual.result _ c.from_residual.ensures
+    (λ e. left_fails c.args.self.now c.take_sends-sends.new.self c.take_records-records.new.self c.as_slice.result.now _ _ c.take_sends-sends.ensures.left c.take_records-records.ensures.left recorded (c.in_err-write_records.ensures.unwritten e))
 
 pub returns-in_err-send_packets-clause-broke : goal.returns-in_err-send_packets-clause-broke
 returns-in_err-send_packets-clause-broke g c =
