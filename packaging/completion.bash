@@ -7,13 +7,13 @@ _hags() {
         case $before in
             --kinds) words='up down ring in base put heard cast asked told noted refused show' ;;
             --node) words=$(seq 1 32) ;;
-            --inc | --turns) return ;;
+            --inc | --turns | --key) return ;;
             *)
                 case $command in
                     run) words='--kinds' ;;
-                    daemon) words='--node --inc --turns --remote' ;;
+                    daemon) words='--node --inc --turns --lasting --remote' ;;
                     status) words='hats hagsns hagsgr hagsvote --node --turns' ;;
-                    client) words='--node --turns' ;;
+                    client) words='--node --turns --key' ;;
                 esac
                 [ "$COMP_CWORD" != 2 ] || words="$words --help --version"
                 ;;

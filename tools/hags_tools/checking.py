@@ -11,11 +11,12 @@ from hags_tools import asking, reading, sockets
 COMMANDS = ("run", "load", "daemon", "status", "client")
 KINDS = ("up", "down", "ring", "in", "base", "put", "heard", "cast", "asked", "told", "noted", "refused", "show")
 STATUSES = ("hats", "hagsns", "hagsgr", "hagsvote")
-RANGES = {"--node": (1, 32), "--inc": (1, 4_294_967_295), "--turns": (1, 4_294_967_295)}
+RANGES = {"--node": (1, 32), "--inc": (1, 4_294_967_295), "--turns": (1, 4_294_967_295), "--key": (1, 4_294_967_295)}
 OPTIONS = {
     "run": ("--kinds",), "load": (), "daemon": ("--node", "--inc", "--turns"), "status": ("--node", "--turns"),
-    "client": ("--node", "--turns"),
+    "client": ("--node", "--turns", "--key"),
 }
+FLAGS = {"daemon": ("--lasting", "--remote")}  # they have no value
 MODES = {"run": reading.SCRIPT, "daemon": reading.DAEMON, "status": reading.STATUS, "client": reading.CLIENT}
 PATIENCE = 2  # seconds until standard input is taken for one that never ends
 FIRST_FREE_PORT = 1024
@@ -66,16 +67,17 @@ class Words:
 
     def _of_option(self, word, words):
         name, equals, value = word.partition("=")
-        known = OPTIONS[self.command] + ("--remote",) * (self.command == "daemon")
+        flags = FLAGS.get(self.command, ())
+        known = OPTIONS[self.command] + flags
         if name in ("--help", "--version"):
             return f"`{name}` stands alone: `hags {self.command} {name}`."
         if name not in known:
             return self._of_unknown_option(name, known)
         if name in self.given:
             return f"`{name}` stands twice. Give it once."
-        if name == "--remote":
+        if name in flags:
             self.given[name] = True
-            return f"`--remote` has no value. Write it alone." if equals else ""
+            return f"`{name}` has no value. Write it alone." if equals else ""
         if not equals:
             if not words or words[0].startswith("-"):
                 return f"`{name}` wants a value behind it: {self._good(name)}."
@@ -128,6 +130,8 @@ class Words:
     def _of_missing(self):
         if self.command in ("daemon", "status", "client") and "--node" not in self.given:
             return f"The node is not said. Write `--node N`, N being its number in the settings, from 1 to 32."
+        if {"--lasting", "--turns"} <= self.given.keys():
+            return "`--lasting` and `--turns` both say how long the daemon is to run. Give one of them."
         return ""
 
 

@@ -106,7 +106,11 @@ fn ends(
         history: History::new(),
     };
     let lines = one_call(alloc, b"client 1 a -")?;
-    let usage = Usage { node: 1, turns };
+    let usage = Usage {
+        node: 1,
+        turns,
+        key: None,
+    };
     let ended = use_daemon(alloc, &settings(), &lines, usage, &mut outside);
     Ok((ended, outside.out.held() == want))
 }

@@ -1,8 +1,7 @@
 -- How a daemon's whole life comes together.
-use Rattle.std.proofs.Common.{◌≡◌, ℕ, ◌≤◌, Bool, List, [], ◌∷◌, ◌++◌, map, Option, None, IfSome, IsSomeAnd, refl, sym, ◌∙◌, ap, subst, append_assoc, append-nil, arith}
+use Rattle.std.proofs.Common.{◌≡◌, ℕ, ◌≤◌, Bool, List, [], ◌∷◌, ◌++◌, map, Option, IfSome, IsSomeAnd, refl, sym, ◌∙◌, ap, subst, append_assoc, append-nil, arith}
 use Rattle.std.specs.Prelude.{Result, Ok, Err, OnOk, IfErr}
 use Rattle.std.proofs.lemmas.List.{map-append}
-use Rattle.std.proofs.lemmas.Option.{none-some}
 use Rattle.hags_io.specs.Deeds.{Read, Opened}
 use Rattle.hags_io.specs.Edges.{Rose}
 use Rattle.hags_io.specs.Telling.{Telling, Did}
@@ -145,16 +144,6 @@ serves_begun remote script me inc moment count t u v at h = record {
 }
 
 -- ---- the node that is left
-
--- a node that is not given back had no memory
-pub left_none : {C : Type 0} (end : Result (Unit {0}) Stop) (node : NodeView (Hosted C)) (o : Option (NodeView (Hosted C))) → o ≡ left_of end node → o ≡ None → end ≡ Err stop.NoMemory
-left_none (Ok u) node o is none = absurd (none-some node (sym none ∙ is))
-left_none (Err stop.NoMemory) node o is none = refl
-left_none (Err stop.WriteFault) node o is none = absurd (none-some node (sym none ∙ is))
-left_none (Err stop.LinkFault) node o is none = absurd (none-some node (sym none ∙ is))
-left_none (Err stop.NoReply) node o is none = absurd (none-some node (sym none ∙ is))
-left_none (Err stop.SessionLost) node o is none = absurd (none-some node (sym none ∙ is))
-left_none (Err stop.DaemonFull) node o is none = absurd (none-some node (sym none ∙ is))
 
 -- after all turns it is given back
 pub serves_left : {C : Type 0} {A B : Known → List (Hosted C) → Audience → Type 0} (D : Known → List (Hosted C) → Audience → Type 0) (remote : Bool) (script : Script) (me inc moment count : ℕ) (s q : Running C) (t u v w : Telling) (o : Option (NodeView (Hosted C))) (end : Result (Unit {0}) Stop) → o ≡ left_of end q.node → Did t u (Read moment ∷ [])

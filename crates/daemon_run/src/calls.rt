@@ -43,7 +43,8 @@ pub struct Objects {
 }
 
 impl Hosts<DaemonClient> for Objects {
-    ghost stand = { λ o known. StandWhere (λ (b : _) (h : _). (Callbacks-box b).stands_for b.value h) o.left.items known };
+    ghost stand = { λ o known. StandWhere
+        (λ (b : _) (h : _). (Callbacks-box b).stands_for b.value h) o.left.items known };
 
     /// The client of a votes word: for `boxed` it is the next of the objects, and else one that votes as the word says.
     /// That no object is left, or that it is no votes word, counts as want of memory: good settings have neither.

@@ -31,7 +31,7 @@ use world_model::Script;
 pub struct Serving {
     pub me: u8,
     pub incarnation: u32,
-    pub turns: u32,
+    pub turns: u64,
     pub remote: bool,
 }
 
@@ -122,7 +122,7 @@ impl<C: Callbacks> Running<C> {
 }
 
 /// The whole life of a daemon whose link is open.
-#[tactic(auto, using(crate::proofs::EndLaws::fresh_at, crate::proofs::EndLaws::read_at, crate::proofs::CallLaws::begins_none, crate::proofs::EndLaws::serves_begun, crate::proofs::EndLaws::serves_to, crate::proofs::EndLaws::serves_front, crate::proofs::EndLaws::left_none, link_use::proofs::StopLaws::stops_daemon))]
+#[tactic(auto, using(crate::proofs::EndLaws::fresh_at, crate::proofs::EndLaws::read_at, crate::proofs::CallLaws::begins_none, crate::proofs::EndLaws::serves_begun, crate::proofs::EndLaws::serves_to, crate::proofs::EndLaws::serves_front, link_use::proofs::StopLaws::stops_daemon))]
 fn live<C: Callbacks, H: Hosts<C>, O: Outside>(
     alloc: Global,
     script: &Script,

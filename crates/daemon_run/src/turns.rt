@@ -116,7 +116,7 @@ impl<C: Callbacks> Running<C> {
     pub fn serve_turns<H: Hosts<C>, O: Outside>(
         &mut self,
         alloc: Global,
-        turns: u32,
+        turns: u64,
         hosts: &mut H,
         outside: &mut O,
     ) -> Result<(), Stop>

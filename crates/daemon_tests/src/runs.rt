@@ -175,7 +175,7 @@ pub(crate) fn serving(turns: u32, remote: bool) -> Serving
     Serving {
         me: 1,
         incarnation: 5,
-        turns,
+        turns: u64::from(turns),
         remote,
     }
 }

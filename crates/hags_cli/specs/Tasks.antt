@@ -80,7 +80,7 @@ task_for objects (command.Help about) = Some (tells (help_of about))
 task_for objects command.Version = Some (tells VERSION.now)
 task_for objects (command.Daemon node incarnation turns remote) = Some (serves (record { node = node; incarnation = incarnation; turns = turns; remote = remote }) objects)
 task_for objects (command.Status what node turns) = Some (asks (record { what = what; node = node; turns = turns }))
-task_for objects (command.Client node turns) = Some (uses (record { node = node; turns = turns }))
+task_for objects (command.Client node turns key) = Some (uses (record { node = node; turns = turns; key = key }))
 
 abbrev pub task_asked : ℕ → Option Command → Option Task
 task_asked objects None = None
@@ -271,9 +271,9 @@ pub record UsesBy (x : Seen) (u : Usage) (P : Script → Type 0) : Type 0 where
   pub spelled : IfSome x.left (λ b. client_script u.node b ≡ IsScript script)
   pub holds : P script
 
--- the link was opened, the clock gave a key, and a client with that key did this from what was told by then
+-- the link was opened, the words or the clock gave a key, and a client with that key did this from what was told by then
 abbrev pub UsesOver : Seen → Usage → (List (List ℕ) → Client → Telling → Type 0) → Script → Type 0
-UsesOver x u P s = OverLink s.config 0 x.before (λ opened. Keyed s.config u.node opened (P s.texts))
+UsesOver x u P s = OverLink s.config 0 x.before (λ opened. Keyed s.config u opened (P s.texts))
 
 -- all its turns, and each call has its answer
 abbrev pub UsesAll : Seen → Usage → List (List ℕ) → Client → Telling → Type 0
@@ -299,7 +299,7 @@ BreaksOff x u lines c start = used.Front lines c u.turns start x.now
 
 -- the link could not be opened, and nothing more was done; or this
 abbrev pub UsesOr : Seen → Usage → (List (List ℕ) → Client → Telling → Type 0) → Script → Type 0
-UsesOr x u P s = OverLinkIf s.config 0 x.before x.now (λ opened. Keyed s.config u.node opened (P s.texts))
+UsesOr x u P s = OverLinkIf s.config 0 x.before x.now (λ opened. Keyed s.config u opened (P s.texts))
 
 -- it broke off
 abbrev pub UsesPart : Seen → Usage → Script → Type 0

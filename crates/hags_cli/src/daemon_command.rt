@@ -17,7 +17,7 @@ use world_model::Script;
 pub struct Service {
     pub node: u8,
     pub incarnation: Option<u32>,
-    pub turns: u32,
+    pub turns: u64,
     pub remote: bool,
 }
 

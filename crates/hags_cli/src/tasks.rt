@@ -72,8 +72,8 @@ fn perform<S: Source, O: Outside>(
             let asking = Asking { what, node, turns };
             ask_node(alloc, asking, edges)
         }
-        Some(Command::Client { node, turns }) => {
-            let usage = Usage { node, turns };
+        Some(Command::Client { node, turns, key }) => {
+            let usage = Usage { node, turns, key };
             use_node(alloc, usage, edges)
         }
         Some(Command::Help { about }) => tell(help_text(about), &mut edges.output),

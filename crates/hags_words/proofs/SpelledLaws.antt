@@ -1,6 +1,6 @@
 -- Words as one writes them give what they say.
 use Rattle.std.proofs.Common.{◌≡◌, ℕ, Bool, true, false, List, [], ◌∷◌, ◌++◌, Option, Some, None, refl, sym, ◌∙◌, ap, append-nil, append_assoc, if◌then◌else◌}
-use Rattle.hags_words.specs.Options.{Argument, operand, kinds, node, inc, turns, Values, is_given, Given, with_value, with_plain, after_word, given_from, given_of, ◌>>=◌}
+use Rattle.hags_words.specs.Options.{Argument, operand, kinds, node, inc, turns, key, Values, is_given, Given, with_value, with_plain, after_word, given_from, given_of, ◌>>=◌}
 use Rattle.hags_words.specs.Spelled.{Form, joined, apart, Use, use_words, IsPlain, IsUse, words_of, values_of, AreUses}
 
 abbrev at : Values → Option Argument → Given
@@ -35,10 +35,12 @@ use_step values kinds joined value words e h = value_step values None kinds valu
 use_step values node joined value words e h = value_step values None node value words e
 use_step values inc joined value words e h = value_step values None inc value words e
 use_step values turns joined value words e h = value_step values None turns value words e
+use_step values key joined value words e h = value_step values None key value words e
 use_step values kinds apart value words e h = waiting_step values kinds value words e h
 use_step values node apart value words e h = waiting_step values node value words e h
 use_step values inc apart value words e h = waiting_step values inc value words e h
 use_step values turns apart value words e h = waiting_step values turns value words e h
+use_step values key apart value words e h = waiting_step values key value words e h
 
 end_is : (values : Values) → given_from (at values None) [] ≡ Some values
 unfolding given_from

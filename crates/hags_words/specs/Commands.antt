@@ -1,10 +1,11 @@
 -- The command that the words of a command line spell.
-use Rattle.std.specs.Prelude.{ℕ, Bool, false, ◌≤◌, IfSome, List, [], ◌∷◌, codes, Option, Some, None, is_some, ◌||◌, if◌then◌else◌, unwrap_or}
+use Rattle.std.specs.Prelude.{ℕ, Bool, true, false, ◌≤◌, IfSome, List, [], ◌∷◌, codes, Option, Some, None, is_some, ◌||◌, if◌then◌else◌, unwrap_or}
 use Rattle.std.specs.Str.{bytes_eq}
 use Rattle.packet_bodies.specs.declared.body.What.{What}
 use Rattle.packet_bodies.specs.declared.body.What.TheVariants as what
 use Rattle.hags_words.specs.Options.{◌>>=◌, given_of}
-use Rattle.hags_words.specs.Flags.{Split, flag_of}
+use Rattle.hags_words.specs.Flags.{Split, no_flags, flag_of}
+use Rattle.hags_words.specs.declared.flags.Flags.{Flags}
 use Rattle.hags_words.specs.Texts.{Texts, texts_in}
 use Rattle.hags_words.specs.Numbers.{number_of, number_if_any}
 use Rattle.hags_words.specs.declared.command.Command.{Command}
@@ -14,6 +15,9 @@ use Rattle.hags_words.specs.declared.command.CommandName.TheVariants as name
 
 abbrev pub last_u32 : ℕ
 last_u32 = 4294967295
+
+abbrev pub last_u64 : ℕ
+last_u64 = 18446744073709551615
 
 -- the word of a command
 unfoldable pub name_of : List ℕ → Option CommandName
@@ -32,30 +36,37 @@ what_of word = if bytes_eq word (codes "hats") then Some what.Hats
 
 -- `run [--kinds LIST]`
 unfoldable pub run_of : Texts → Option Command
-run_of t = if is_some t.of_operand || (is_some t.of_node || (is_some t.of_inc || is_some t.of_turns)) then None
+run_of t = if is_some t.of_operand || (is_some t.of_node || (is_some t.of_inc || (is_some t.of_turns || is_some t.of_key))) then None
     else Some (command.Run t.of_kinds)
 
 -- `load N`
 unfoldable pub load_of : Texts → Option Command
-load_of t = if is_some t.of_kinds || (is_some t.of_node || (is_some t.of_inc || is_some t.of_turns)) then None
+load_of t = if is_some t.of_kinds || (is_some t.of_node || (is_some t.of_inc || (is_some t.of_turns || is_some t.of_key))) then None
     else (do
       text ← t.of_operand
       views ← number_of 1 2000 text
       Some (command.Load views))
 
--- `daemon --node N [--inc I] [--turns T] [--remote]`
-unfoldable pub daemon_of : Bool → Texts → Option Command
-daemon_of remote t = if is_some t.of_operand || is_some t.of_kinds then None
+-- how many turns a daemon does, by whether it is to last and what is told; both together are faulty
+unfoldable pub turns_for : Bool → Option ℕ → Option ℕ
+turns_for false told = Some (unwrap_or told last_u32)
+turns_for true None = Some last_u64
+turns_for true (Some told) = None
+
+-- `daemon --node N [--inc I] [--turns T | --lasting] [--remote]`
+unfoldable pub daemon_of : Flags → Texts → Option Command
+daemon_of flags t = if is_some t.of_operand || (is_some t.of_kinds || is_some t.of_key) then None
     else (do
       text ← t.of_node
       node ← number_of 1 32 text
       incarnation ← number_if_any 1 last_u32 t.of_inc
-      turns ← number_if_any 1 last_u32 t.of_turns
-      Some (command.Daemon node incarnation (unwrap_or turns last_u32) remote))
+      told ← number_if_any 1 last_u32 t.of_turns
+      turns ← turns_for flags.lasting told
+      Some (command.Daemon node incarnation turns flags.remote))
 
 -- `status WHAT --node N [--turns T]`
 unfoldable pub status_of : Texts → Option Command
-status_of t = if is_some t.of_kinds || is_some t.of_inc then None
+status_of t = if is_some t.of_kinds || (is_some t.of_inc || is_some t.of_key) then None
     else (do
       word ← t.of_operand
       what ← what_of word
@@ -64,20 +75,21 @@ status_of t = if is_some t.of_kinds || is_some t.of_inc then None
       turns ← number_if_any 1 last_u32 t.of_turns
       Some (command.Status what node (unwrap_or turns 1000)))
 
--- `client --node N [--turns T]`
+-- `client --node N [--turns T] [--key K]`
 unfoldable pub client_of : Texts → Option Command
 client_of t = if is_some t.of_operand || (is_some t.of_kinds || is_some t.of_inc) then None
     else (do
       text ← t.of_node
       node ← number_of 1 32 text
       turns ← number_if_any 1 last_u32 t.of_turns
-      Some (command.Client node (unwrap_or turns 1000)))
+      key ← number_if_any 1 last_u32 t.of_key
+      Some (command.Client node (unwrap_or turns 1000) key))
 
--- a daemon has its own words, since it alone has a flag
+-- a daemon has its own words, since it alone has flags
 unfoldable pub command_with : CommandName → Texts → Option Command
 command_with name.Run t = run_of t
 command_with name.Load t = load_of t
-command_with name.Daemon t = daemon_of false t
+command_with name.Daemon t = daemon_of no_flags t
 command_with name.Status t = status_of t
 command_with name.Client t = client_of t
 
@@ -94,7 +106,7 @@ or_else None y = y
 -- the words after `daemon`
 abbrev pub daemon_split : Option Split → Option Command
 daemon_split None = None
-daemon_split (Some s) = given_of s.left >>= λ values. daemon_of s.given (texts_in values)
+daemon_split (Some s) = given_of s.left >>= λ values. daemon_of s.flags (texts_in values)
 
 unfoldable pub daemon_after : List (List ℕ) → Option Command
 daemon_after words = daemon_split (flag_of words)
@@ -121,5 +133,5 @@ abbrev pub IsWithin : Command → Type 0
 IsWithin (command.Load views) = (1 ≤ views) × (views ≤ 2000)
 IsWithin (command.Daemon node incarnation turns remote) = (1 ≤ node) × (node ≤ 32) × IfSome incarnation (λ i. 1 ≤ i) × (1 ≤ turns)
 IsWithin (command.Status what node turns) = (1 ≤ node) × (node ≤ 32) × (1 ≤ turns)
-IsWithin (command.Client node turns) = (1 ≤ node) × (node ≤ 32) × (1 ≤ turns)
+IsWithin (command.Client node turns key) = (1 ≤ node) × (node ≤ 32) × (1 ≤ turns) × IfSome key (λ k. 1 ≤ k)
 IsWithin _ = Unit {0}

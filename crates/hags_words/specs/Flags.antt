@@ -1,21 +1,37 @@
--- The flag `--remote` among the words after a command.
+-- The flags among the words after a command: `--remote` and `--lasting`, which have no value.
 use Rattle.std.specs.Prelude.{ℕ, Bool, true, false, not, ◌&&◌, ◌||◌, ◌==◌, List, [], ◌∷◌, ◌++◌, codes, Option, Some, None, if◌then◌else◌}
 use Rattle.std.specs.List.{list_any}
 use Rattle.std.specs.Str.{bytes_eq}
 use Rattle.hags_words.specs.Options.{◌>>=◌, is_end}
+use Rattle.hags_words.specs.declared.flags.Flag.{Flag}
+use Rattle.hags_words.specs.declared.flags.Flag.TheVariants as flag
+use Rattle.hags_words.specs.declared.flags.Flags.{Flags}
 
--- whether it came, whether the last word is an option whose value is the next one, whether `--` came, and the other words
+abbrev pub no_flags : Flags
+no_flags = record { remote = false; lasting = false }
+
+abbrev pub has_flag : Flags → Flag → Bool
+has_flag fs flag.Remote = fs.remote
+has_flag fs flag.Lasting = fs.lasting
+
+abbrev pub with_flag : Flags → Flag → Flags
+with_flag fs flag.Remote = record fs { remote = true }
+with_flag fs flag.Lasting = record fs { lasting = true }
+
+-- which of them came, whether the last word is an option whose value is the next one, whether `--` came, and the other words
 pub record Split : Type 0 where
-  pub given : Bool
+  pub flags : Flags
   pub waiting : Bool
   pub ended : Bool
   pub left : List (List ℕ)
 
 abbrev pub none_split : Split
-none_split = record { given = false; waiting = false; ended = false; left = [] }
+none_split = record { flags = no_flags; waiting = false; ended = false; left = [] }
 
-abbrev pub is_flag : List ℕ → Bool
-is_flag word = bytes_eq word (codes "--remote")
+-- the flag that a word is
+unfoldable pub flag_named : List ℕ → Option Flag
+flag_named word = if bytes_eq word (codes "--remote") then Some flag.Remote
+    else (if bytes_eq word (codes "--lasting") then Some flag.Lasting else None)
 
 abbrev pub is_long : List ℕ → Bool
 is_long (a ∷ b ∷ c ∷ cs) = (a == 45) && (b == 45)
@@ -25,21 +41,22 @@ is_long _ = false
 unfoldable pub waits : List ℕ → Bool
 waits word = is_long word && not (list_any (λ b. b == 61) word)
 
--- with a word that is not the flag behind them
+-- with a word that is no flag behind them
 abbrev pub kept : Split → List ℕ → Split
 kept s word = record s { waiting = waits word; ended = s.ended || is_end word; left = s.left ++ word ∷ [] }
 
--- a second one has no place, and none where a value is to stand
+-- none has a place twice, nor where a value is to stand
+abbrev pub word_placed : Split → List ℕ → Option Flag → Option Split
+word_placed s word None = Some (kept s word)
+word_placed s word (Some f) = if has_flag s.flags f || s.waiting then None else Some (record s { flags = with_flag s.flags f })
+
 unfoldable pub after_flag : Split → List ℕ → Option Split
-after_flag s word =
-    if not s.ended && is_flag word
-    then (if s.given || s.waiting then None else Some (record s { given = true }))
-    else Some (kept s word)
+after_flag s word = if s.ended then Some (kept s word) else word_placed s word (flag_named word)
 
 unfoldable pub flag_from : Split → List (List ℕ) → Option Split
 flag_from s [] = Some s
 flag_from s (word ∷ words) = after_flag s word >>= λ t. flag_from t words
 
--- the words before and behind it, where it is there at most once
+-- the words before, between and behind them, where each is there at most once
 unfoldable pub flag_of : List (List ℕ) → Option Split
 flag_of words = flag_from none_split words

@@ -2,7 +2,7 @@
 use Rattle.std.specs.Prelude.{◌≡◌, codes}
 use Rattle.clap.specs.Matches.{first_value}
 use Rattle.clap.specs.declared.parser.matches.Found.{Found}
-use Rattle.hags_words.specs.Options.{Values, value_of, operand, kinds, node, inc, turns}
+use Rattle.hags_words.specs.Options.{Values, value_of, operand, kinds, node, inc, turns, key}
 
 -- the values that were found are those that are given
 pub record HasValues (f : Found) (values : Values) : Type 0 where
@@ -11,3 +11,4 @@ pub record HasValues (f : Found) (values : Values) : Type 0 where
   pub node_is : first_value f (codes "node") ≡ value_of node values
   pub inc_is : first_value f (codes "inc") ≡ value_of inc values
   pub turns_is : first_value f (codes "turns") ≡ value_of turns values
+  pub key_is : first_value f (codes "key") ≡ value_of key values

@@ -8,3 +8,5 @@ pub mod Help
 pub mod Spelled
 pub mod Flags
 pub mod Splits
+pub mod Samples
+pub mod Opens

@@ -13,6 +13,7 @@ pub data Argument : Type 0 where
   node : Argument
   inc : Argument
   turns : Argument
+  key : Argument
 
 abbrev pub name_of : Argument → List ℕ
 name_of operand = codes "operand"
@@ -20,13 +21,15 @@ name_of kinds = codes "kinds"
 name_of node = codes "node"
 name_of inc = codes "inc"
 name_of turns = codes "turns"
+name_of key = codes "key"
 
 -- the option of this name, as it stands behind two hyphens
 abbrev pub option_named : List ℕ → Option Argument
 option_named name = if bytes_eq (codes "kinds") name then Some kinds
     else (if bytes_eq (codes "node") name then Some node
     else (if bytes_eq (codes "inc") name then Some inc
-    else (if bytes_eq (codes "turns") name then Some turns else None)))
+    else (if bytes_eq (codes "turns") name then Some turns
+    else (if bytes_eq (codes "key") name then Some key else None))))
 
 abbrev pub is_same : Argument → Argument → Bool
 is_same operand operand = true
@@ -34,6 +37,7 @@ is_same kinds kinds = true
 is_same node node = true
 is_same inc inc = true
 is_same turns turns = true
+is_same key key = true
 is_same _ _ = false
 
 -- values, each with what it is the value of

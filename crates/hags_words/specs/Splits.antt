@@ -4,4 +4,4 @@ use Rattle.hags_words.specs.Flags.{Split}
 use Rattle.hags_words.specs.declared.flags.Split.{Split as Words}
 
 abbrev pub split_seen : Words → Split
-split_seen s = record { given = s.given; waiting = s.waiting; ended = s.ended; left = map string_bytes s.left.items }
+split_seen s = record { flags = s.flags; waiting = s.waiting; ended = s.ended; left = map string_bytes s.left.items }

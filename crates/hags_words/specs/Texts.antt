@@ -3,7 +3,7 @@ use Rattle.std.specs.Prelude.{ℕ, List, Option, option_map, map, string_bytes, 
 use Rattle.std.specs.Global.{Global}
 use Rattle.std.specs.Borrow.{Bor}
 use Rattle.hags_words.specs.declared.options.Options.{Options}
-use Rattle.hags_words.specs.Options.{Values, value_of, operand, kinds, node, inc, turns, given_of}
+use Rattle.hags_words.specs.Options.{Values, value_of, operand, kinds, node, inc, turns, key, given_of}
 
 pub record Texts : Type 0 where
   pub of_operand : Option (List ℕ)
@@ -11,6 +11,7 @@ pub record Texts : Type 0 where
   pub of_node : Option (List ℕ)
   pub of_inc : Option (List ℕ)
   pub of_turns : Option (List ℕ)
+  pub of_key : Option (List ℕ)
 
 abbrev pub texts_in : Values → Texts
 texts_in values = record {
@@ -19,6 +20,7 @@ texts_in values = record {
   of_node = value_of node values;
   of_inc = value_of inc values;
   of_turns = value_of turns values;
+  of_key = value_of key values;
 }
 
 abbrev pub text_of : Option (Bor (List ℕ)) → Option (List ℕ)
@@ -32,6 +34,7 @@ seen o = record {
   of_node = text_of o.node;
   of_inc = text_of o.inc;
   of_turns = text_of o.turns;
+  of_key = text_of o.key;
 }
 
 -- what the words give

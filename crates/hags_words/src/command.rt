@@ -1,9 +1,9 @@
 //! The command that the words of a command line spell.
-ghost use Rattle.std.specs.Prelude.{◌≡◌, IfOk, IfSome, map, string_bytes};
+ghost use Rattle.std.specs.Prelude.{◌≡◌, ◌≤◌, IfOk, IfSome, map, string_bytes};
 ghost use Rattle.hags_words.specs.Texts.{seen, text_of};
-ghost use Rattle.hags_words.specs.Commands.{name_of, what_of, run_of, load_of, daemon_of, status_of, client_of, command_with, daemon_after, help_or_version, command_after, command_of, IsWithin};
+ghost use Rattle.hags_words.specs.Commands.{name_of, what_of, run_of, load_of, turns_for, daemon_of, status_of, client_of, command_with, daemon_after, help_or_version, command_after, command_of, IsWithin};
 
-use crate::flags::take_flag;
+use crate::flags::{Flags, take_flags};
 use crate::numbers::{node_number, number, number_if_any};
 use crate::options::{Options, read_options};
 use packet_bodies::What;
@@ -41,13 +41,14 @@ pub enum Command {
     Load {
         views: u32,
     },
-    /// `daemon --node N [--inc I] [--turns T] [--remote]`: serve node N, from 1 to 32, in the incarnation I, from 1 on, or
-    /// in one that the clock gives, for T turns, from 1 on; for 4,294,967,295 where T is not told. With `--remote` clients
-    /// on other machines are served.
+    /// `daemon --node N [--inc I] [--turns T | --lasting] [--remote]`: serve node N, from 1 to 32, in the incarnation I,
+    /// from 1 on, or in one that the clock gives, for T turns, from 1 to 4,294,967,295, which is also what is taken where
+    /// T is not told; with `--lasting` for 18,446,744,073,709,551,615. With `--remote` clients on other machines are
+    /// served.
     Daemon {
         node: u8,
         incarnation: Option<u32>,
-        turns: u32,
+        turns: u64,
         remote: bool,
     },
     /// `status WHAT --node N [--turns T]`: ask node N, from 1 to 32, and receive T times at most, from 1 on; 1,000 times
@@ -57,11 +58,12 @@ pub enum Command {
         node: u8,
         turns: u32,
     },
-    /// `client --node N [--turns T]`: use the daemon of node N, from 1 to 32, as a client on another machine, for T turns,
-    /// from 1 on; for 1,000 where T is not told.
+    /// `client --node N [--turns T] [--key K]`: use the daemon of node N, from 1 to 32, as a client on another machine, for
+    /// T turns, from 1 on, or for 1,000 where T is not told; with the key K, from 1 on, or with one that the clock gives.
     Client {
         node: u8,
         turns: u32,
+        key: Option<u32>,
     },
     /// `--help`, alone or after a command: the text about all commands, or about that one.
     Help {
@@ -129,6 +131,7 @@ fn run_of(alloc: Global, options: Options<'_>) -> Result<Option<Command>, NoMemo
         || options.node.is_some()
         || options.inc.is_some()
         || options.turns.is_some()
+        || options.key.is_some()
     {
         return Ok(None);
     }
@@ -146,6 +149,7 @@ fn load_of(options: Options<'_>) -> Option<Command>
         || options.node.is_some()
         || options.inc.is_some()
         || options.turns.is_some()
+        || options.key.is_some()
     {
         return None;
     }
@@ -153,23 +157,38 @@ fn load_of(options: Options<'_>) -> Option<Command>
     Some(Command::Load { views })
 }
 
-/// `daemon --node N [--inc I] [--turns T] [--remote]`
+/// How many turns a daemon does that is told so many, at least 1, or none; it may be told none where it is to last.
+#[tactic(auto, unfolding(crate::specs::Commands::turns_for))]
+fn turns_for(lasting: bool, told: Option<u32>) -> Option<u64>
+    requires { IfSome told (λ n. 1 ≤ n) }
+    ensures value { result ≡ turns_for lasting told }
+    ensures within { IfSome result (λ n. 1 ≤ n) }
+{
+    match (lasting, told) {
+        (false, None) => Some(u64::from(u32::MAX)),
+        (false, Some(turns)) => Some(u64::from(turns)),
+        (true, None) => Some(u64::MAX),
+        (true, Some(_)) => None,
+    }
+}
+
+/// `daemon --node N [--inc I] [--turns T | --lasting] [--remote]`
 #[tactic(auto, unfolding(crate::specs::Commands::daemon_of))]
-fn daemon_of(options: Options<'_>, remote: bool) -> Option<Command>
-    ensures value { result ≡ daemon_of remote (seen options.entry) }
+fn daemon_of(options: Options<'_>, flags: Flags) -> Option<Command>
+    ensures value { result ≡ daemon_of flags (seen options.entry) }
     ensures within { IfSome result IsWithin }
 {
-    if options.operand.is_some() || options.kinds.is_some() {
+    if options.operand.is_some() || options.kinds.is_some() || options.key.is_some() {
         return None;
     }
     let node = node_number(options.node?)?;
     let incarnation = number_if_any(1, u32::MAX, options.inc)?;
-    let turns = number_if_any(1, u32::MAX, options.turns)?.unwrap_or(u32::MAX);
+    let turns = turns_for(flags.lasting, number_if_any(1, u32::MAX, options.turns)?)?;
     Some(Command::Daemon {
         node,
         incarnation,
         turns,
-        remote,
+        remote: flags.remote,
     })
 }
 
@@ -179,7 +198,7 @@ fn status_of(options: Options<'_>) -> Option<Command>
     ensures value { result ≡ status_of (seen options.entry) }
     ensures within { IfSome result IsWithin }
 {
-    if options.kinds.is_some() || options.inc.is_some() {
+    if options.kinds.is_some() || options.inc.is_some() || options.key.is_some() {
         return None;
     }
     let what = what_of(options.operand?.as_bytes())?;
@@ -188,7 +207,7 @@ fn status_of(options: Options<'_>) -> Option<Command>
     Some(Command::Status { what, node, turns })
 }
 
-/// `client --node N [--turns T]`
+/// `client --node N [--turns T] [--key K]`
 #[tactic(auto, unfolding(crate::specs::Commands::client_of))]
 fn client_of(options: Options<'_>) -> Option<Command>
     ensures value { result ≡ client_of (seen options.entry) }
@@ -199,7 +218,8 @@ fn client_of(options: Options<'_>) -> Option<Command>
     }
     let node = node_number(options.node?)?;
     let turns = number_if_any(1, u32::MAX, options.turns)?.unwrap_or(CLIENT_TURNS);
-    Some(Command::Client { node, turns })
+    let key = number_if_any(1, u32::MAX, options.key)?;
+    Some(Command::Client { node, turns, key })
 }
 
 /// The command of this name with these options.
@@ -215,7 +235,7 @@ fn command_with(
     match name {
         CommandName::Run => run_of(alloc, options),
         CommandName::Load => Ok(load_of(options)),
-        CommandName::Daemon => Ok(daemon_of(options, false)),
+        CommandName::Daemon => Ok(daemon_of(options, Flags::none())),
         CommandName::Status => Ok(status_of(options)),
         CommandName::Client => Ok(client_of(options)),
     }
@@ -246,12 +266,12 @@ fn daemon_after(alloc: Global, words: &[String]) -> Result<Option<Command>, NoMe
         (λ command. command ≡ daemon_after (map string_bytes words.now)) }
     ensures within { IfOk result (λ command. IfSome command IsWithin) }
 {
-    let Some(split) = take_flag(alloc, words)? else {
+    let Some(split) = take_flags(alloc, words)? else {
         return Ok(None);
     };
     match read_options(alloc, split.left.as_slice())? {
         None => Ok(None),
-        Some(options) => Ok(daemon_of(options, split.given)),
+        Some(options) => Ok(daemon_of(options, split.flags)),
     }
 }
 

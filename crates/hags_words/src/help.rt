@@ -12,9 +12,9 @@ hags: group membership for clusters, proved
 
 usage: hags run [--kinds LIST]
        hags load N
-       hags daemon --node N [--inc I] [--turns T] [--remote]
+       hags daemon --node N [--inc I] [--turns T | --lasting] [--remote]
        hags status WHAT --node N [--turns T]
-       hags client --node N [--turns T]
+       hags client --node N [--turns T] [--key K]
 
 commands:
   run     plays the script on standard input, and writes the transcript of all
@@ -123,7 +123,8 @@ pages: docs/command-line.md; README.md
 const DAEMON: &[u8] = b"\
 hags daemon: serves a node of a cluster, over UDP
 
-usage: hags daemon --node N [--inc I] [--turns T] [--remote] < SETTINGS
+usage: hags daemon --node N [--inc I] [--turns T | --lasting] [--remote]
+           < SETTINGS
 
 It reads the settings on standard input to their end: node lines, `port` and so
 on, then the line `begin`, and then what clients of the node do first. All
@@ -138,6 +139,8 @@ happens at the node.
   --turns T    it ends after T turns, from 1 to 4,294,967,295, which is also
                what is taken without it. A turn takes in one datagram, or waits
                20 milliseconds for one
+  --lasting    in place of --turns: it does 18,446,744,073,709,551,615 turns, so
+               that none uses it up
   --remote     serve clients on other machines too
 
 An example, a node alone that ends by itself after a second or so:
@@ -197,7 +200,7 @@ pages: docs/operating.md, what each line says; docs/command-line.md
 const CLIENT: &[u8] = b"\
 hags client: uses a daemon of a cluster as a client on another machine
 
-usage: hags client --node N [--turns T] < SETTINGS
+usage: hags client --node N [--turns T] [--key K] < SETTINGS
 
 It reads the settings of the cluster on standard input, and behind the line
 `begin` the calls of one client, of which the first is `client N NAME -`. It
@@ -210,12 +213,16 @@ thing that its client hears.
   --turns T    how many turns it does, from 1 to 4,294,967,295; 1,000 without
                it. In a turn it sends its state and waits 20 milliseconds at
                most for an answer
+  --key K      its key, by which the daemon knows it from its other clients,
+               from 1 to 4,294,967,295: another one at each start. Without it
+               the clock's milliseconds are taken, and two clients that start in
+               the same one share a key
 
 An example:
 
   printf '%s\\n' 'node 1' 'adapter 1 1 127.0.0.1' 'port 4000' begin \\
       'client 1 a -' 'join a db 7' |
-    hags client --node 1
+    hags client --node 1 --key 7
 
 status:
    0  all turns were done, and each call has its answer

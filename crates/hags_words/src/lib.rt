@@ -2,6 +2,7 @@
 #![tactic(auto)]
 
 mod command;
+mod examples;
 mod flags;
 mod help;
 mod laws;
@@ -9,6 +10,7 @@ mod numbers;
 mod options;
 
 pub use command::{Command, CommandName, read_command};
+pub use examples::{reads_flags, reads_keys};
 pub use help::{VERSION, help_text};
 pub use laws::words_give_what_they_say;
 

@@ -1,8 +1,8 @@
 //! What the words after a command give, read by `clap`.
 ghost use Rattle.std.specs.Prelude.{◌≡◌, ◌≢◌, IfOk, IfErr, map, false, IsSome, IfSome, None, string_bytes, option_map};
-ghost use Rattle.clap.specs.Words.{app_of, found_of, kind_of};
+ghost use Rattle.clap.specs.Words.{app_of, found_of, kind_of, rule_of};
 ghost use Rattle.clap.specs.Lexer.{is_short_word};
-ghost use Rattle.hags_words.specs.App.{options_app};
+ghost use Rattle.hags_words.specs.App.{option_rule, options_app};
 ghost use Rattle.hags_words.specs.Options.{is_end, has_short};
 ghost use Rattle.hags_words.specs.Found.{HasValues};
 ghost use Rattle.hags_words.specs.Texts.{seen, texts_in, given_by};
@@ -20,6 +20,15 @@ pub struct Options<'a> {
     pub node: Option<&'a str>,
     pub inc: Option<&'a str>,
     pub turns: Option<&'a str>,
+    pub key: Option<&'a str>,
+}
+
+/// An option of this name, with a value.
+fn option_of<'a>(alloc: Global, name: &'a str) -> Arg<'a>
+    ensures rule { rule_of result ≡ option_rule name.entry.now }
+    ensures own { result.global ≡ false }
+{
+    Arg::new(alloc, name).long(name)
 }
 
 /// The one application of `clap`, for the words after any command: an operand, and options with a value each. Which of
@@ -28,10 +37,11 @@ fn options_app<'a>(alloc: Global) -> Result<Command<'a>, AllocError>
     ensures { IfOk result (λ app. app_of app ≡ options_app) }
 {
     let operand = Arg::new(alloc, "operand");
-    let kinds = Arg::new(alloc, "kinds").long("kinds");
-    let node = Arg::new(alloc, "node").long("node");
-    let inc = Arg::new(alloc, "inc").long("inc");
-    let turns = Arg::new(alloc, "turns").long("turns");
+    let kinds = option_of(alloc, "kinds");
+    let node = option_of(alloc, "node");
+    let inc = option_of(alloc, "inc");
+    let turns = option_of(alloc, "turns");
+    let key = option_of(alloc, "key");
     Command::new(alloc, "hags")
         .no_binary_name(true)
         .disable_help_flag(true)
@@ -39,7 +49,8 @@ fn options_app<'a>(alloc: Global) -> Result<Command<'a>, AllocError>
         .arg(kinds)?
         .arg(node)?
         .arg(inc)?
-        .arg(turns)
+        .arg(turns)?
+        .arg(key)
 }
 
 /// Is it a hyphen with more behind it that does not begin with a second one, as `-abc`?
@@ -103,6 +114,7 @@ pub fn read_options<'a>(alloc: Global, words: &'a [String]) -> Result<Option<Opt
             node: matches.get_str("node"),
             inc: matches.get_str("inc"),
             turns: matches.get_str("turns"),
+            key: matches.get_str("key"),
         })),
         Err(e) => match e.kind() {
             ErrorKind::OutOfMemory => Err(NoMemory),

@@ -152,6 +152,8 @@ fn other_words_are_told_the_whole_usage(rt: HostRuntime) -> Result<(), Fail> {
         "daemon --remote",
         "daemon --node 1 --remote --remote",
         "daemon --node 1 --remote=1",
+        "daemon --node 1 --lasting --turns 3",
+        "daemon --node 1 --lasting --lasting",
         "status --node 1",
         "status hat --node 1",
         "status hats",
@@ -162,6 +164,8 @@ fn other_words_are_told_the_whole_usage(rt: HostRuntime) -> Result<(), Fail> {
         "client --node 1 --inc 1",
         "client --node 1 --turns 0",
         "client --node 1 --remote",
+        "client --node 1 --key 0",
+        "client --node 1 --key 4294967296",
         "audit",
         "table",
     ] {

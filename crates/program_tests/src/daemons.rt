@@ -104,6 +104,9 @@ fn sixteen_failed_receives_end_a_daemon(rt: HostRuntime) -> Result<(), Fail> {
     );
     let fifteen = silent_link(alloc, &[], &all[..15])?;
     assert!(rt; ends(alloc, line, 0, fifteen, 0, ALONE_RECORDS)?);
+    let lasting = "daemon --lasting --node 1 --inc 5";
+    let link = silent_link(alloc, &[], all)?;
+    assert!(rt; ends(alloc, lasting, 0, link, 6, ALONE_RECORDS)?);
     Ok(())
 }
 

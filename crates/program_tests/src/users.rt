@@ -11,6 +11,9 @@ use std::test::Fail;
 
 const LINE: &str = "client --node 1 --turns 3";
 
+/// The same with a key of its own.
+const KEYED: &str = "client --node 1 --turns 3 --key 7";
+
 const ONE_CALL: &[u8] = b"node 1\nport 4000\nbegin\nclient 1 a -\n";
 
 /// The piece of a Down of key 7, of a daemon of incarnation 5: the first call is taken, and one event is `heard`.
@@ -55,7 +58,8 @@ fn link_of(alloc: Global, pieces: &[&[u8]], opens: &[u32]) -> Result<MemLink, Al
     Ok(MemLink::new(alloc, inbox, fails))
 }
 
-/// Whether a client with key 7 and one call, to which these datagrams come, ends so, writes this and says that.
+/// Whether a client with key 7, of the clock, and one call, to which these datagrams come, ends so, writes this and says
+/// that.
 fn ends(
     alloc: Global,
     pieces: &[&[u8]],
@@ -86,6 +90,16 @@ fn a_client_ends_as_its_daemon_answers(rt: HostRuntime) -> Result<(), Fail> {
     assert!(rt; ends(alloc, &[FULL], 11, b"", b"hags: daemon full\n")?);
     let (status, out, _err) = called(alloc, LINE, ONE_CALL, 7, link_of(alloc, &[TAKEN], &[1])?)?;
     assert!(rt; status == 6 && out.held().is_empty());
+    Ok(())
+}
+
+#[test]
+fn a_named_key_stands_over_the_clock(rt: HostRuntime) -> Result<(), Fail> {
+    let alloc = rt.alloc();
+    let (status, out, _err) = called(alloc, KEYED, ONE_CALL, 8, link_of(alloc, &[TAKEN], &[])?)?;
+    assert!(rt; status == 0 && out.held() == b"did 1 taken\nheard\n".as_slice());
+    let (status, out, _err) = called(alloc, LINE, ONE_CALL, 8, link_of(alloc, &[TAKEN], &[])?)?;
+    assert!(rt; status == 9 && out.held().is_empty());
     Ok(())
 }
 

@@ -1,13 +1,13 @@
-use Rattle.std.proofs.Common.{false, map, ap}
+use Rattle.std.proofs.Common.{false, map, ap₂}
 use Rattle.std.specs.Prelude.{string_bytes}
 use Rattle.hags_words.specs.Flags.{flag_from, flag_of}
 use Rattle.hags_words.specs.Splits.{split_seen}
 use Rattle.hags_words.proofs.FlagLaws.{flag_goes, flag_fails, flag_ends}
-use Rattle.hags_words.proofs.flags.take_flag.Goals as goal
+use Rattle.hags_words.proofs.flags.take_flags.Goals as goal
 
 pub loop-word-init : goal.loop-word-init
 unfolding flag_of
-loop-word-init c = ap (λ ws. flag_from (record { given = false; waiting = false; ended = false; left = map string_bytes ws }) (map string_bytes c.args.words.now)) c.new.ensures.items
+loop-word-init c = ap₂ (λ fs ws. flag_from (record { flags = fs; waiting = false; ended = false; left = map string_bytes ws }) (map string_bytes c.args.words.now)) c.none.ensures c.new.ensures.items
 
 pub returns-then-not-branch : goal.returns-then-not-branch
 returns-then-not-branch c =
