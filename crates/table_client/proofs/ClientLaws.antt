@@ -16,7 +16,7 @@ use Rattle.proposal_core.specs.declared.proposal.Proposal.TheVariants.{Join, Lea
 use Rattle.client_callbacks.specs.declared.ballot.Filled.{Filled}
 use Rattle.client_callbacks.specs.declared.told.Told.{Told}
 use Rattle.client_callbacks.specs.Handed.{NoticeView, Handed, Notified, Informed}
-use Rattle.table_client.specs.Rules.{Copied, is_copy, fresh_copy, copy_before, with_chunk, with_effect, with_members, with_place, copy_after, effect_of, taken, is_own, comes_after, with_copy, noticed, informed, filled_for, copies_then, copies_after, FilledBy, ByRules}
+use Rattle.table_client.specs.Rules.{Copied, is_copy, fresh_copy, copy_before, with_chunk, with_effect, with_members, with_place, copy_after, effect_of, taken, is_own, comes_after, noticed, informed, filled_for, copies_then, copies_after, FilledBy, ByRules}
 
 -- ---- whose copy it is
 

@@ -1,5 +1,5 @@
 -- A copy that follows its group's lists has their maps.
-use Rattle.std.proofs.Common.{◌≡◌, ◌⊎◌, inl, inr, ℕ, suc, ◌+◌, ◌-◌, Bool, true, false, cond, List, [], ◌∷◌, ◌++◌, length, take, Option, Some, None, refl, sym, ap, subst, ◌∙◌, arith, slice_get, append-nil}
+use Rattle.std.proofs.Common.{◌≡◌, ℕ, ◌+◌, Bool, true, false, cond, List, [], ◌∷◌, ◌++◌, length, Option, Some, None, refl, sym, ap, subst, ◌∙◌}
 use Rattle.std.specs.Prelude.{◌&&◌, ◌||◌, not, is_none, IfSome, nat_le}
 use Rattle.std.specs.List.{list_all}
 use Rattle.rsct_packet.specs.declared.ids.ProviderId.{ProviderId}
@@ -18,14 +18,13 @@ use Rattle.proposal_core.specs.declared.group_state.Running.{Running}
 use Rattle.proposal_core.specs.Fold.{max_providers, joins_of, can_begin, joiners_fit, joiners_fit_at, fits, after, apply, apply_once, begun, approve, next_phase, advance, effect, take_value, take_attrs, first_attrs, first_value, replace_proposed}
 use Rattle.proposal_core.proofs.FoldLaws.{joiners_fit_after, joiners_that_run, once_is_applied}
 use Rattle.client_callbacks.specs.Handed.{NoticeView}
-use Rattle.agreed_table.specs.Pairs.{Pairs, IsTable, written}
-use Rattle.agreed_table.specs.Chunks.{Chunk}
+use Rattle.agreed_table.specs.Pairs.{Pairs, IsTable}
 use Rattle.agreed_table.proofs.WriteLaws.{messages_leave_maps}
 use Rattle.table_client.specs.Rules.{Copied, closed_in, is_own, kept_of, with_chunk, with_effect, with_members, with_place, effect_of, received, joined_map, taken, copy_after}
 use Rattle.table_client.specs.Maps.{Origin, base_state, Lists, state_at, AreSafe, message_map, entry_map, MapIs, Fresh, Based, Then}
-use Rattle.table_client.specs.Sharing.{AreChunksOf, CarriesChunk, is_own_effect}
-use Rattle.table_client.specs.Following.{WhereOwnJoins, CopyIs, begins_own, Comes, First, Onward, Into, Tells, CopiesFollow}
-use Rattle.table_client.proofs.MapLaws.{state_next, state_first, after_fits, maps_are_one, empty_maps, begun_map, once_ends, approve_ends, reject_ends}
+use Rattle.table_client.specs.Sharing.{AreChunksOf, is_own_effect}
+use Rattle.table_client.specs.Following.{WhereOwnJoins, CopyIs, begins_own, Continues, Next, Over, Comes, First, Onward, Into, Tells, CopiesFollow}
+use Rattle.table_client.proofs.MapLaws.{state_next, state_first, after_fits, empty_maps, begun_map, once_ends, approve_ends, reject_ends}
 use Rattle.table_client.proofs.SharingLaws.{received_is_the_map, kept_are_chunks, with_chunk_map, whole_goes_on}
 use Rattle.table_client.proofs.ApartLaws.{other_way}
 
@@ -242,6 +241,19 @@ some_map : (o : Option Pairs) (P Q : Pairs → Type 0) → ((m : Pairs) → P m 
 some_map None P Q f h = h
 some_map (Some m) P Q f h = f m h
 
+-- where a view goes on from a place, its map and what runs are those of the place
+map_into : (x : Lists) (u : ViewId) (len : ℕ) (v : ViewId) (m : Pairs) → Continues x u len v → MapIs x u len m → MapIs x v 0 m
+map_into x u len v m (Next _ b base old at) h = Based v 0 m b refl base (subst (λ (z : ViewId × ℕ). MapIs x z.0 z.1 m) (λ z. (sym old z, sym at z)) h)
+map_into x u len v m (Over _ b base none before) h = Based v 0 m b refl base (subst (λ (k : ℕ). MapIs x b.old k m) (sym none) (map_into x u len b.old m before h))
+
+running_at_base : (x : Lists) → AreSafe x → (v : ViewId) (b : Origin) → x.base v ≡ Some b → (state_at x v 0).running ≡ (state_at x b.old b.len).running
+running_at_base x safe v b base = ap (λ (s : GroupState). s.running) (state_first x v 0 refl ∙ ap base_state base) ∙ (safe.kept v b base).1
+
+running_into : (x : Lists) → AreSafe x → (u : ViewId) (len : ℕ) (v : ViewId) → Continues x u len v → (state_at x v 0).running ≡ (state_at x u len).running
+running_into x safe u len v (Next _ b base old at) = running_at_base x safe v b base ∙ ap (λ (z : ViewId × ℕ). (state_at x z.0 z.1).running) (λ z. (old z, at z))
+running_into x safe u len v (Over _ b base none before) =
+    running_at_base x safe v b base ∙ ap (λ (k : ℕ). (state_at x b.old k).running) none ∙ running_into x safe u len b.old before
+
 before_of : (x : Lists) → AreSafe x → (c : Copied) (n : NoticeView) → Tells x c n → Comes x c n → Before x c n
 before_of x safe c n tells (First own part idle none) =
     record {
@@ -257,12 +269,10 @@ before_of x safe c n tells (Onward other is view place) =
       chunks = is.chunks;
       new = λ e. absurd (let both : true ≡ false = sym e ∙ other in cc);
     }
-before_of x safe c n tells (Into other is b start base old len) =
-    let state : state_at x n.view n.place ≡ b.state = state_first x n.view n.place start ∙ ap base_state base in
-    let there : (state_at x b.old b.len).running ≡ (state_at x c.view c.len).running = ap (λ (z : ViewId × ℕ). (state_at x z.0 z.1).running) (λ z. (old z, len z)) in
+before_of x safe c n tells (Into other is start into) =
     record {
-      map = some_map c.map (MapIs x c.view c.len) (MapIs x n.view n.place) (λ m h. Based n.view n.place m b start base (subst (λ (z : ViewId × ℕ). MapIs x z.0 z.1 m) (λ z. (sym old z, sym len z)) h)) is.map;
-      running = is.running ∙ sym there ∙ sym (safe.kept n.view b base).1 ∙ ap (λ (s : GroupState). s.running) (sym state);
+      map = some_map c.map (MapIs x c.view c.len) (MapIs x n.view n.place) (λ m h. subst (λ (k : ℕ). MapIs x n.view k m) (sym start) (map_into x c.view c.len n.view m into h)) is.map;
+      running = is.running ∙ sym (running_into x safe c.view c.len n.view into) ∙ ap (λ (k : ℕ). (state_at x n.view k).running) (sym start);
       chunks = is.chunks;
       new = λ e. absurd (let both : true ≡ false = sym e ∙ other in cc);
     }

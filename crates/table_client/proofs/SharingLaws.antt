@@ -1,25 +1,20 @@
 -- Chunks of one map, and a map that goes on.
-use Rattle.std.proofs.Common.{◌≡◌, ℕ, zero, suc, ◌+◌, ◌-◌, ◌<◌, Bool, true, false, cond, List, [], ◌∷◌, ◌++◌, length, Option, Some, None, refl, sym, ap, subst, ◌∙◌, arith, append_assoc, append-nil, eqb-true}
+use Rattle.std.proofs.Common.{◌≡◌, ℕ, suc, ◌+◌, ◌-◌, Bool, true, false, cond, List, [], ◌∷◌, ◌++◌, length, Option, Some, None, refl, sym, ap, subst, ◌∙◌, arith, append_assoc, append-nil, eqb-true}
 use Rattle.std.specs.Prelude.{◌==◌, ◌&&◌, nat_lt, flat_map}
-use Rattle.std.specs.Option.{option_map, option_and_then}
+use Rattle.std.specs.Option.{option_and_then}
 use Rattle.std.proofs.lemmas.Bool.{ltb-true}
-use Rattle.rsct_packet.specs.declared.ids.ProviderId.{ProviderId}
 use Rattle.rsct_packet.specs.Lists.{is_empty}
-use Rattle.rsct_packet.specs.Providers.{among}
 use Rattle.rsct_packet.proofs.FieldLaws.{and_true}
 use Rattle.proposal_core.specs.declared.proposal.Proposal.{Proposal}
 use Rattle.proposal_core.specs.declared.proposal.Proposal.TheVariants.{Join, Leave, Fail, Expel, State, Message, Attributes, Reflect}
-use Rattle.proposal_core.specs.declared.entry.Closed.{Closed}
-use Rattle.proposal_core.specs.declared.entry.Entry.{Entry}
 use Rattle.proposal_core.specs.declared.group_state.GroupState.{GroupState}
-use Rattle.proposal_core.specs.declared.group_state.Running.{Running}
 use Rattle.proposal_core.specs.Fold.{after}
 use Rattle.client_callbacks.specs.Handed.{NoticeView}
 use Rattle.agreed_table.specs.Pairs.{Pairs, encoding, decoded, IsTable}
-use Rattle.agreed_table.specs.Chunks.{Chunk, chunk_count, chunk_text, chunk_in, piece, pieces_to}
+use Rattle.agreed_table.specs.Chunks.{Chunk, chunk_count, chunk_in, piece, pieces_to}
 use Rattle.agreed_table.proofs.ChunkLaws.{chunks_are_read, pieces_more, pieces_none}
-use Rattle.table_client.specs.Rules.{Copied, copy_after, with_chunk, with_effect, with_members, with_place, effect_of, counts_after, kept_if, kept_of, in_turn, received, sharing, taken, is_own, closed_in}
-use Rattle.table_client.specs.Maps.{entry_map, message_map}
+use Rattle.table_client.specs.Rules.{Copied, copy_after, with_chunk, with_effect, with_members, with_place, effect_of, counts_after, kept_if, in_turn, sharing, taken, is_own}
+use Rattle.table_client.specs.Maps.{message_map}
 use Rattle.table_client.specs.Sharing.{IsChunkOf, AreChunksOf, CarriesChunk, is_own_effect, ReceivedIsTheMap, KeptAreChunks, SharingIsChunk, WholeGoesOn, RulesKeepTheMap}
 
 -- ---- what is received

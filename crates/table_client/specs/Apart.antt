@@ -1,5 +1,5 @@
 -- The copy of a provider by what was handed for it alone.
-use Rattle.std.specs.Prelude.{◌≡◌, ◌&&◌, Bool, false, List, [], find, Option, Some, None, if◌then◌else◌}
+use Rattle.std.specs.Prelude.{◌≡◌, ◌&&◌, Bool, false, List, find, Option, Some, None, if◌then◌else◌}
 use Rattle.std.specs.List.{fold}
 use Rattle.std.specs.Option.{unwrap_or}
 use Rattle.rsct_packet.specs.declared.ids.ProviderId.{ProviderId}

@@ -1,10 +1,11 @@
 -- A copy whose provider hears the lists of its group, one entry after another.
-use Rattle.std.specs.Prelude.{◌≡◌, ℕ, ◌+◌, Bool, true, false, List, [], Option, Some, None, IfSome, slice_get}
+use Rattle.std.specs.Prelude.{◌≡◌, ℕ, ◌+◌, Bool, true, false, [], Some, None, IfSome, slice_get}
 use Rattle.rsct_packet.specs.declared.ids.ProviderId.{ProviderId}
+use Rattle.rsct_packet.specs.declared.ids.ViewId.{ViewId}
 use Rattle.rsct_packet.specs.Providers.{among}
 use Rattle.proposal_core.specs.declared.entry.Closed.{Closed}
 use Rattle.proposal_core.specs.declared.entry.Entry.{Entry}
-use Rattle.proposal_core.specs.declared.entry.Entry.TheVariants.{Once, Begin, Phase, Approve, Reject, Late}
+use Rattle.proposal_core.specs.declared.entry.Entry.TheVariants.{Once, Begin}
 use Rattle.proposal_core.specs.declared.group_state.Running.{Running}
 use Rattle.proposal_core.specs.Fold.{joins_of}
 use Rattle.client_callbacks.specs.Handed.{NoticeView}
@@ -31,12 +32,18 @@ begins_own p (Once x) = among (joins_of x) p
 begins_own p (Begin x) = among (joins_of x) p
 begins_own p _ = false
 
+-- The view begins where the list of another one ended, so many entries long: it goes on from there, or from a view that does and in
+-- which nothing was put.
+pub data Continues (x : Lists) (u : ViewId) (len : ℕ) : ViewId → Type 0 where
+  Next : (v : ViewId) (b : Origin) → x.base v ≡ Some b → b.old ≡ u → b.len ≡ len → Continues x u len v
+  Over : (v : ViewId) (b : Origin) → x.base v ≡ Some b → b.len ≡ 0 → Continues x u len b.old → Continues x u len v
+
 -- What it hears is the next of its group's lists: the entry of its own join, with which its copy begins; the entry behind those
 -- that it heard; or the first of a view that goes on where it stood.
 pub data Comes (x : Lists) (c : Copied) (n : NoticeView) : Type 0 where
   First : begins_own n.provider n.entry ≡ true → c.map ≡ None → c.running ≡ None → c.chunks ≡ [] → Comes x c n
   Onward : begins_own n.provider n.entry ≡ false → CopyIs x n.provider c → n.view ≡ c.view → n.place ≡ c.len → Comes x c n
-  Into : begins_own n.provider n.entry ≡ false → CopyIs x n.provider c → (b : Origin) → n.place ≡ 0 → x.base n.view ≡ Some b → b.old ≡ c.view → b.len ≡ c.len → Comes x c n
+  Into : begins_own n.provider n.entry ≡ false → CopyIs x n.provider c → n.place ≡ 0 → Continues x c.view c.len n.view → Comes x c n
 
 -- The notice tells the entry at its place and the state after it; there is a map at the place; and what closes a phase of its
 -- provider's join carries the chunk of that phase, or nothing.

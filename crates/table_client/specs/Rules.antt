@@ -1,17 +1,17 @@
 -- What a table client makes of what it is handed, a word for each of its rules, and what it fills into its ballots.
-use Rattle.std.specs.Prelude.{◌≡◌, ℕ, zero, suc, ◌+◌, ◌-◌, ◌==◌, ◌&&◌, Bool, true, false, not, List, [], ◌∷◌, ◌++◌, length, find, flat_map, Option, Some, None, nat_lt, if◌then◌else◌}
+use Rattle.std.specs.Prelude.{◌≡◌, ℕ, ◌+◌, ◌-◌, ◌==◌, ◌&&◌, Bool, true, false, not, List, [], ◌∷◌, ◌++◌, length, find, flat_map, Option, Some, None, nat_lt, if◌then◌else◌}
 use Rattle.std.specs.List.{fold, list_all}
 use Rattle.std.specs.Option.{option_map, option_and_then, unwrap_or}
 use Rattle.rsct_packet.specs.declared.ids.ProviderId.{ProviderId}
 use Rattle.rsct_packet.specs.declared.ids.ViewId.{ViewId}
 use Rattle.rsct_packet.specs.Lists.{is_empty, drop_where}
 use Rattle.rsct_packet.specs.Providers.{among, same_provider}
-use Rattle.rsct_packet.specs.Search.{edit_where, insert_before}
+use Rattle.rsct_packet.specs.Search.{insert_before}
 use Rattle.proposal_core.specs.declared.proposal.Proposal.{Proposal}
-use Rattle.proposal_core.specs.declared.proposal.Proposal.TheVariants.{Join, Leave, Fail, Expel, State, Message, Attributes, Reflect}
+use Rattle.proposal_core.specs.declared.proposal.Proposal.TheVariants.{Join, Message}
 use Rattle.proposal_core.specs.declared.entry.Closed.{Closed}
 use Rattle.proposal_core.specs.declared.entry.Entry.{Entry}
-use Rattle.proposal_core.specs.declared.entry.Entry.TheVariants.{Once, Begin, Phase, Approve, Reject, Late}
+use Rattle.proposal_core.specs.declared.entry.Entry.TheVariants.{Once, Phase, Approve, Reject}
 use Rattle.proposal_core.specs.declared.entry.Vote.{Vote}
 use Rattle.proposal_core.specs.declared.entry.Vote.TheVariants as vote
 use Rattle.proposal_core.specs.declared.group_state.Running.{Running}

@@ -92,6 +92,13 @@ impl TableClient {
         }
     }
 
+    /// How many copies there are.
+    pub fn len(&self) -> usize
+        ensures { result ≡ length self.now }
+    {
+        self.copies.len()
+    }
+
     /// The copy of a provider; none exactly where the client was never handed a notice for it, or was told since that
     /// it is dissolved.
     pub fn copy(&self, provider: ProviderId) -> Option<&TableCopy>

@@ -9,6 +9,8 @@ mod copies;
 mod following;
 mod laws;
 mod sharing;
+#[cfg(test)]
+mod tests;
 
 pub use client::TableClient;
 pub use copies::TableCopy;

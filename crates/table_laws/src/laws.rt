@@ -1,0 +1,58 @@
+//! Laws of the map of a group in every run.
+ghost use Rattle.table_laws.specs.Carrying.{ThePresentAsked, ChunksAreCarried};
+ghost use Rattle.table_laws.specs.Maps.{MapsAreOne, MapsStayWhileRunning, MapsAreEmptyWithoutMembers, MapsExist, ListsSayMaps};
+ghost use Rattle.table_laws.specs.Notices.{NoticesAreOfLists};
+ghost use Rattle.table_laws.specs.Passing.{PassersComeFromTheBase};
+
+/// In every run whose events may happen, whatever its clients answer, the map of a group in a view after so many entries of
+/// its list is one.
+#[tactic(auto, using(crate::proofs::RunMaps::maps_are_one))]
+pub fn maps_are_one()
+    ensures { MapsAreOne }
+{}
+
+/// While a protocol runs, in whatever view, the map is the one directly behind its Begin.
+#[tactic(auto, using(crate::proofs::RunMaps::maps_stay_while_running))]
+pub fn maps_stay_while_running()
+    ensures { MapsStayWhileRunning }
+{}
+
+/// A group without members has the empty map.
+#[tactic(auto, using(crate::proofs::RunMaps::maps_are_empty_without_members))]
+pub fn maps_are_empty_without_members()
+    ensures { MapsAreEmptyWithoutMembers }
+{}
+
+/// There is a map at each place up to which a node has put entries.
+pub fn maps_exist()
+    ensures { MapsExist }
+{}
+
+/// The longest list of each view and the base that is noted there are the lists of a group, as `copies_follow` of
+/// `table_client` wants them, and the maps of their places are those by the records.
+pub fn lists_say_maps()
+    ensures { ListsSayMaps }
+{}
+
+/// Whatever a provider hears in a run, with the fold of its node's list as the state that comes with it, is the entry of
+/// the group's list at that place and the state of the list behind it; and the place has a map.
+pub fn notices_are_of_lists()
+    ensures { NoticesAreOfLists }
+{}
+
+/// Before an entry that a node puts, whoever is present in its group's state asked in that group for its join.
+pub fn the_present_asked()
+    ensures { ThePresentAsked }
+{}
+
+/// Where each message that is cast is the chunk of its phase of the map directly behind its protocol's Begin, each entry
+/// that closes a phase carries that chunk of its group's map, or nothing.
+pub fn chunks_are_carried()
+    ensures { ChunksAreCarried }
+{}
+
+/// A provider that passes with its group into a view comes from the view that the group's base comes from, with a list as
+/// long as the base says.
+pub fn passers_come_from_the_base()
+    ensures { PassersComeFromTheBase }
+{}
