@@ -1,2 +1,4 @@
-pub mod PartLaws
+pub mod EntryLaws
+pub mod FitLaws
 pub mod ReadLaws
+pub mod TextLaws

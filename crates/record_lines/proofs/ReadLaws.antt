@@ -1,5 +1,5 @@
 -- Lines are read as they are written.
-use Rattle.std.proofs.Common.{◌≡◌, inr, ℕ, ◌+◌, ◌<◌, ◌≤◌, Bool, true, false, List, [], ◌∷◌, ◌++◌, length, Option, Some, None, refl, ◌∙◌, ap, subst, arith}
+use Rattle.std.proofs.Common.{◌≡◌, inr, ℕ, ◌<◌, ◌≤◌, Bool, true, false, List, [], ◌∷◌, ◌++◌, length, Option, Some, None, refl, ◌∙◌, ap, subst, arith}
 use Rattle.std.specs.Prelude.{◌==◌, ◌&&◌, not, nat_le, decimal, codes, flat_map}
 use Rattle.std.specs.List.{list_all}
 use Rattle.std.specs.Option.{option_map}
@@ -33,13 +33,13 @@ use Rattle.entry_words.specs.Words.{after_equals}
 use Rattle.entry_words.specs.Wording.{vote_text, entry_text, why_text, fault_text}
 use Rattle.word_laws.specs.declared.kind.Kind.{Kind}
 use Rattle.word_laws.specs.declared.kind.Kind.TheVariants as kind
-use Rattle.word_laws.specs.Entries.{kind_read, ballot_read, entry_read, why_read, fault_read}
+use Rattle.word_laws.specs.Entries.{kind_read, vote_letter, why_read, fault_read}
 use Rattle.word_laws.specs.Ranges.{is_u32, is_u16, is_view, is_ring, is_proto, is_provider, is_member, is_value, is_entry, is_why, is_fault}
 use Rattle.word_laws.specs.Values.{spaced, u32_word, u16_word, two_word, view_word, ring_word, proto_word, member_word, list_word, value_word}
 use Rattle.word_laws.proofs.Pieces.{Lacks, lacks_both, EachLacks, split_last, split_first, split_spaced, number_read}
 use Rattle.word_laws.proofs.ValueLaws.{and_parts, node_read, u32_read, u16_read, node_lacks, u32_lacks, u16_lacks, within_node, lacks_mark, two_read, blank, dash, dot, view_read, view_lacks, ring_read, ring_lacks, proto_read, proto_lacks, provider_read, provider_lacks, providers_read, providers_lack, members_read, members_lack, nodes_read, nodes_lack, value_read, value_lacks, value_bytes_read, value_parts, escaped_lacks, longer, provider_filled}
 use Rattle.word_laws.proofs.AttributeLaws.{lacks_by, name_bytes_lack, named_lacks}
-use Rattle.word_laws.proofs.EntryLaws.{ballot_is, valued_ballot_is, entry_back, colon}
+use Rattle.word_laws.proofs.EntryLaws.{entry_back, colon}
 use Rattle.word_laws.proofs.RefusalLaws.{why_back, fault_back}
 use Rattle.record_lines.specs.declared.line.BaseLine.{BaseLine}
 use Rattle.record_lines.specs.declared.line.Line.{Line}
@@ -51,8 +51,9 @@ use Rattle.record_lines.specs.declared.line.Status.{Status}
 use Rattle.record_lines.specs.declared.line.Status.TheVariants as status
 use Rattle.record_lines.specs.declared.line.What.{What}
 use Rattle.record_lines.specs.declared.line.What.TheVariants as what
-use Rattle.record_lines.specs.Fits.{are_named, some_differ, proposal_holds, proposal_typed, text_option_holds, entry_typed, fits_text, fits_value, fits_value_option, ascend_from, are_nodes, members_ascend, are_members, entry_holds, fits_entry, fits_open, fits_base, why_holds, fits_why, fault_holds, fits_fault, is_client, fits_place, fits_note, is_network, fits_leader, fits_waiting, fits_status, line_fits}
-use Rattle.record_lines.specs.Reading.{next, ended, kept_text, named_word, ballot_word, entry_kept, group_name, opening_read, closing_read, what_pieces, what_read, open_phase, unless, open_phase_word, open_read, before_dot, after_dot, client_read, place_read, group_note, hosts_note, note_by, note_read, labelled, yes_read, StatusHead, SRing, SView, SGroup, SVote, status_head, said_status, status_read, LineHead, HUp, HDown, HRing, HIn, HBase, HPut, HHeard, HCast, HAsked, HTold, HNoted, HRefused, HShow, line_head, said_line, line_words, loose, line_read}
+use Rattle.record_lines.specs.Fits.{are_named, some_differ, proposal_holds, proposal_typed, entry_typed, fits_text, fits_value, fits_value_option, ascend_from, are_nodes, members_ascend, are_members, entry_holds, fits_entry, fits_open, fits_base, why_holds, fits_why, fault_holds, fits_fault, is_client, fits_place, fits_note, is_network, fits_leader, fits_waiting, fits_status, line_fits}
+use Rattle.record_lines.specs.Reading.{next, ended, kept_text, named_word, valued_ballot, ballot_word, entry_of_words, group_name, opening_read, closing_read, opened_read, what_pieces, what_read, open_phase, unless, open_phase_word, open_read, before_dot, after_dot, client_read, place_read, group_note, hosts_note, note_by, note_read, labelled, yes_read, StatusHead, SRing, SView, SGroup, SVote, status_head, said_status, status_read, LineHead, HUp, HDown, HRing, HIn, HBase, HPut, HHeard, HCast, HAsked, HTold, HNoted, HRefused, HShow, line_head, said_line, line_words, loose, line_read}
+use Rattle.record_lines.proofs.EntryLaws.{entry_is_typed}
 use Rattle.record_lines.specs.Writing.{kind_name, what_name, open_text, ballot_text, base_words, client_text, place_text, note_words, known_text, yes_or_no, status_words, words_of, line_text}
 
 -- ---- small steps
@@ -179,7 +180,7 @@ kind_clear m k h = by k
 -- ---- what was heard
 
 opened_says : (make : Kind → What) (w : List ℕ) (k : Kind) → opening_read w ≡ Some make → what_pieces (w ∷ kind_name k ∷ []) ≡ Some (make k)
-unfolding what_pieces ◌>>=◌
+unfolding what_pieces opened_read ◌>>=◌
 opened_says make w k e = let r = kind_back k in rw (e, r) refl
 
 opened_back : (make : Kind → What) (w : List ℕ) (k : Kind) → Lacks 45 w → opening_read w ≡ Some make → what_read (w ++ 45 ∷ kind_name k) ≡ Some (make k)
@@ -332,11 +333,11 @@ client_word_is : (c : List ℕ) → is_client c ≡ true → client_word c ≡ S
 unfolding is_client client_word name_word when_true
 client_word_is c e = rw e refl
 
-client_says : (n : ℕ) (c w v : List ℕ) → node_word (before_dot w) ≡ Some n → after_dot w ≡ Some v → client_word v ≡ Some c → client_read w ≡ Some (n, c)
+client_says : (n : ℕ) (c w v : List ℕ) → node_word (before_dot w) ≡ Some n → after_dot w ≡ Some v → client_word v ≡ Some c → client_read w ≡ Some (record { node = n; name = c })
 unfolding client_read ◌>>=◌
 client_says n c w v e f g = rw (e, f, g) refl
 
-client_back : (n : ℕ) (c : List ℕ) → is_node n ≡ true → is_client c ≡ true → client_read (client_text n c) ≡ Some (n, c)
+client_back : (n : ℕ) (c : List ℕ) → is_node n ≡ true → is_client c ≡ true → client_read (client_text n c) ≡ Some (record { node = n; name = c })
 unfolding client_text
 client_back n c e f =
     client_says n c (decimal n ++ 46 ∷ c) c (ap node_word (before_is (decimal n) c (node_lacks 46 n dot e)) ∙ node_read n e) (after_is (decimal n) c (node_lacks 46 n dot e)) (client_word_is c f)
@@ -382,7 +383,7 @@ base_says : (n : ℕ) (v : ViewId) (g : List ℕ) (x : BaseLine) (a b c d e f h 
 unfolding said_line ◌>>=◌ next ended when_true
 base_says n v g x a b c d e f h i j p1 p2 p3 p4 p5 p6 p7 p8 p9 = rw (p1, p2, p3, p4, p5, p6, p7, p8, p9) refl
 
-put_says : (n : ℕ) (v : ViewId) (g : List ℕ) (i : ℕ) (x : Entry) (a b c d : List ℕ) (ws : List (List ℕ)) → node_word a ≡ Some n → view_word b ≡ Some v → group_name c ≡ Some g → u32_word d ≡ Some i → entry_kept ws ≡ Some x
+put_says : (n : ℕ) (v : ViewId) (g : List ℕ) (i : ℕ) (x : Entry) (a b c d : List ℕ) (ws : List (List ℕ)) → node_word a ≡ Some n → view_word b ≡ Some v → group_name c ≡ Some g → u32_word d ≡ Some i → entry_of_words ws ≡ Some x
     → said_line HPut (a ∷ b ∷ c ∷ d ∷ ws) ≡ Some (line.Put n v g i x)
 unfolding said_line ◌>>=◌ next ended when_true
 put_says n v g i x a b c d ws p1 p2 p3 p4 p5 = rw (p1, p2, p3, p4, p5) refl
@@ -392,7 +393,7 @@ heard_says : (p : ProviderId) (v : ViewId) (g : List ℕ) (i : ℕ) (w : What) (
 unfolding said_line ◌>>=◌ next ended when_true
 heard_says p v g i w ms value a b c d e f h p1 p2 p3 p4 p5 p6 p7 = rw (p1, p2, p3, p4, p5, p6, p7) refl
 
-cast_says : (p : ProviderId) (proto : ProtoId) (phase : ℕ) (v : Vote) (value : Option (List ℕ)) (a b c d : List ℕ) → provider_word a ≡ Some p → proto_word b ≡ Some proto → u16_word c ≡ Some phase → ballot_word d ≡ Some (v, value)
+cast_says : (p : ProviderId) (proto : ProtoId) (phase : ℕ) (v : Vote) (value : Option (List ℕ)) (a b c d : List ℕ) → provider_word a ≡ Some p → proto_word b ≡ Some proto → u16_word c ≡ Some phase → ballot_word d ≡ Some (record { vote = v; value = value })
     → said_line HCast (a ∷ b ∷ c ∷ d ∷ []) ≡ Some (line.Cast p proto phase v value)
 unfolding said_line ◌>>=◌ next ended when_true
 cast_says p proto phase v value a b c d e f g h = rw (e, f, g, h) refl
@@ -405,11 +406,11 @@ told_says : (p : ProviderId) (r : ℕ) (x : Why) (a b : List ℕ) (ws : List (Li
 unfolding said_line ◌>>=◌ next ended when_true
 told_says p r x a b ws e f g = rw (e, f, g) refl
 
-noted_says : (n : ℕ) (c : List ℕ) (v : ViewId) (place : Option ℕ) (m : Note) (a b : List ℕ) (ws : List (List ℕ)) → client_read a ≡ Some (n, c) → view_word b ≡ Some v → note_read ws ≡ Some (place, m) → said_line HNoted (a ∷ b ∷ ws) ≡ Some (line.Noted n c v place m)
+noted_says : (n : ℕ) (c : List ℕ) (v : ViewId) (place : Option ℕ) (m : Note) (a b : List ℕ) (ws : List (List ℕ)) → client_read a ≡ Some (record { node = n; name = c }) → view_word b ≡ Some v → note_read ws ≡ Some (place, m) → said_line HNoted (a ∷ b ∷ ws) ≡ Some (line.Noted n c v place m)
 unfolding said_line ◌>>=◌ next ended when_true
 noted_says n c v place m a b ws e f g = rw (e, f, g) refl
 
-refused_says : (n : ℕ) (c : List ℕ) (x : GsFault) (a : List ℕ) (ws : List (List ℕ)) → client_read a ≡ Some (n, c) → fault_read ws ≡ Some x → said_line HRefused (a ∷ ws) ≡ Some (line.Refused n c x)
+refused_says : (n : ℕ) (c : List ℕ) (x : GsFault) (a : List ℕ) (ws : List (List ℕ)) → client_read a ≡ Some (record { node = n; name = c }) → fault_read ws ≡ Some x → said_line HRefused (a ∷ ws) ≡ Some (line.Refused n c x)
 unfolding said_line ◌>>=◌ next ended when_true
 refused_says n c x a ws e f = rw (e, f) refl
 
@@ -419,14 +420,22 @@ show_says n s a ws e f = rw (e, f) refl
 
 -- ---- ballots and notes
 
-ballot_says : (v : Vote) (value : Option (List ℕ)) (w : List ℕ) → ballot_read w ≡ Some (v, value) → text_option_holds value ≡ true → ballot_word w ≡ Some (v, value)
-unfolding ballot_word ◌>>=◌ when_true
-ballot_says v value w e f = rw (e, f) refl
+lone_back : (v : Vote) → ballot_word (vote_text v) ≡ Some (record { vote = v; value = None })
+unfolding ballot_word valued_ballot vote_letter vote_text chosen ◌>>=◌
+lone_back vote.Approve = refl
+lone_back vote.Continue = refl
+lone_back vote.Reject = refl
 
-ballot_back : (v : Vote) (value : Option (List ℕ)) → fits_value_option value ≡ true → ballot_word (ballot_text v value) ≡ Some (v, value)
-unfolding fits_value_option ballot_text text_option_holds
-ballot_back v None e = ballot_says v None (vote_text v) (ballot_is v) refl
-ballot_back v (Some bs) e = ballot_says v (Some bs) (vote_text v ++ value_text bs) (valued_ballot_is v bs (value_is bs e)) (text_is bs e)
+valued_back : (v : Vote) (bs : List ℕ) → kept_text (value_word (value_text bs)) ≡ Some bs → ballot_word (vote_text v ++ value_text bs) ≡ Some (record { vote = v; value = Some bs })
+unfolding ballot_word valued_ballot vote_letter vote_text value_text chosen ◌>>=◌
+valued_back vote.Approve bs e = rw e refl
+valued_back vote.Continue bs e = rw e refl
+valued_back vote.Reject bs e = rw e refl
+
+ballot_back : (v : Vote) (value : Option (List ℕ)) → fits_value_option value ≡ true → ballot_word (ballot_text v value) ≡ Some (record { vote = v; value = value })
+unfolding fits_value_option ballot_text
+ballot_back v None e = lone_back v
+ballot_back v (Some bs) e = valued_back v bs (text_read bs e)
 
 vote_lacks : (v : Vote) → Lacks 32 (vote_text v)
 unfolding vote_text
@@ -656,15 +665,11 @@ entry_types (entry.Approve c) e = e
 entry_types (entry.Reject c) e = refl
 entry_types (entry.Late proto phase ps) e = first_holds (is_empty ps) (are_providers ps) e
 
-entry_says : (x : Entry) (ws : List (List ℕ)) → entry_read ws ≡ Some x → entry_typed x ≡ true → entry_kept ws ≡ Some x
-unfolding entry_kept ◌>>=◌ when_true
-entry_says x ws e f = rw (e, f) refl
-
-entry_kept_back : (x : Entry) → fits_entry x ≡ true → entry_kept (split_on 32 (entry_text x)) ≡ Some x
+entry_words_back : (x : Entry) → fits_entry x ≡ true → entry_of_words (split_on 32 (entry_text x)) ≡ Some x
 unfolding fits_entry
-entry_kept_back x e =
+entry_words_back x e =
     let p = and_parts (is_entry x) (entry_holds x) e in
-    entry_says x (split_on 32 (entry_text x)) (entry_back x p.0) (entry_types x p.1)
+    entry_is_typed (split_on 32 (entry_text x)) x (entry_back x p.0) (entry_types x p.1)
 
 why_is : (w : Why) → fits_why w ≡ true → is_why w ≡ true
 unfolding fits_why
@@ -712,7 +717,7 @@ line_read_loosely (line.Base n v g b) e =
 line_read_loosely (line.Put n v g i x) e =
     let p = parts5 (is_node n) (is_view v) (is_name_of g) (is_u32 i) (fits_entry x) e in
     line_by_words (codes "put") (decimal n ∷ view_text v ∷ g ∷ decimal i ∷ split_on 32 (entry_text x)) (line.Put n v g i x) (lacks_by 32 (codes "put") refl, (node_lacks 32 n blank.0 p.0, (view_lacks 32 v blank p.1, (named_lacks g p.2, (u32_lacks 32 i blank.0 p.3, pieces_lack 32 (entry_text x)))))) refl
-    (headed (codes "put") _ HPut (line.Put n v g i x) heads.5 (put_says n v g i x (decimal n) (view_text v) g (decimal i) (split_on 32 (entry_text x)) (node_read n p.0) (view_read v p.1) (group_read g p.2) (u32_read i p.3) (entry_kept_back x p.4)))
+    (headed (codes "put") _ HPut (line.Put n v g i x) heads.5 (put_says n v g i x (decimal n) (view_text v) g (decimal i) (split_on 32 (entry_text x)) (node_read n p.0) (view_read v p.1) (group_read g p.2) (u32_read i p.3) (entry_words_back x p.4)))
 line_read_loosely (line.Heard r v g i w ms value) e =
     let p = parts6 (is_provider r) (is_view v) (is_name_of g) (is_u32 i) (are_named ms) (fits_value value) e in
     line_by_words (codes "heard") (provider_text r ∷ view_text v ∷ g ∷ decimal i ∷ what_name w ∷ providers_text ms ∷ value_text value ∷ []) (line.Heard r v g i w ms value)

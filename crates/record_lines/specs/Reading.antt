@@ -1,5 +1,5 @@
 -- How a line is read: without care at first, as whoever reads it writes it again and compares.
-use Rattle.std.specs.Prelude.{ℕ, Bool, true, false, ◌==◌, ◌&&◌, List, [], ◌∷◌, Option, Some, None, codes}
+use Rattle.std.specs.Prelude.{ℕ, Bool, true, false, not, filter, ◌==◌, ◌&&◌, List, [], ◌∷◌, Option, Some, None, codes}
 use Rattle.std.specs.Fmt.{digits}
 use Rattle.std.specs.Option.{option_map}
 use Rattle.std.specs.Str.{bytes_eq}
@@ -8,17 +8,22 @@ use Rattle.rsct_packet.specs.declared.ids.ProviderId.{ProviderId}
 use Rattle.rsct_packet.specs.Lists.{is_empty}
 use Rattle.rsct_packet.specs.Providers.{are_providers}
 use Rattle.proposal_core.specs.declared.entry.Vote.{Vote}
+use Rattle.proposal_core.specs.declared.proposal.Proposal.{Proposal}
+use Rattle.proposal_core.specs.declared.proposal.Proposal.TheVariants as proposal
+use Rattle.proposal_core.specs.declared.entry.Closed.{Closed}
 use Rattle.proposal_core.specs.declared.entry.Entry.{Entry}
+use Rattle.proposal_core.specs.declared.entry.Entry.TheVariants as entry
 use Rattle.client_callbacks.specs.declared.told.Why.{Why}
 use Rattle.session_state.specs.declared.fault.GsFault.{GsFault}
 use Rattle.value_words.specs.Counted.{first_of, one_of, two_of, three_of, four_of}
 use Rattle.value_words.specs.Escapes.{escapes_open, text_of}
 use Rattle.value_words.specs.Wording.{wording_opens}
 use Rattle.value_words.specs.Words.{◌>>=◌, when_true, split_on, name_word, client_word, node_word, network_word, provider_word, chosen}
-use Rattle.entry_words.specs.Words.{attr_words_open, after_equals}
+use Rattle.entry_words.specs.Words.{attr_words_open, after_equals, attr_words}
 use Rattle.entry_words.specs.Wording.{entry_wording_opens}
 use Rattle.word_laws.specs.declared.kind.Kind.{Kind}
-use Rattle.word_laws.specs.Entries.{entries_read_open, kind_read, ballot_read, entry_read, why_head, said_why, why_read, fault_head, said_fault, fault_read}
+use Rattle.word_laws.specs.declared.kind.Kind.TheVariants as kind
+use Rattle.word_laws.specs.Entries.{entries_read_open, kind_read, vote_letter, EntryHead, HOnce, HBegin, HPhase, HApprove, HReject, HLate, asker_word, failure_word, is_source_len, source_len_of, row_word, entry_head, why_head, said_why, why_read, fault_head, said_fault, fault_read}
 use Rattle.word_laws.specs.Ranges.{ranges_open}
 use Rattle.word_laws.specs.Values.{values_read_open, u32_word, u16_word, two_word, view_word, ring_word, proto_word, member_word, list_word, value_word}
 use Rattle.record_lines.specs.declared.line.Line.{Line}
@@ -30,15 +35,12 @@ use Rattle.record_lines.specs.declared.line.Status.{Status}
 use Rattle.record_lines.specs.declared.line.Status.TheVariants as status
 use Rattle.record_lines.specs.declared.line.What.{What}
 use Rattle.record_lines.specs.declared.line.What.TheVariants as what
-use Rattle.record_lines.specs.Fits.{fits_opens, fits_text, text_option_holds, entry_typed, line_fits}
+use Rattle.record_lines.specs.declared.parts.Ballot.{Ballot}
+use Rattle.record_lines.specs.declared.parts.ClientName.{ClientName}
+use Rattle.record_lines.specs.Fits.{fits_opens, fits_text, line_fits}
 use Rattle.record_lines.specs.Writing.{writing_opens, line_text}
 
 -- ---- one word after another
-
--- the words that are left of a line, unless it is at its end
-unfoldable pub pieces_left : List ℕ → Bool → List (List ℕ)
-pieces_left b true = []
-pieces_left b false = split_on 32 b
 
 -- what the next word says, and the words behind it
 unfoldable pub next : {X : Type 0} → (List ℕ → Option X) → List (List ℕ) → Option (X × List (List ℕ))
@@ -66,15 +68,128 @@ named_word w = do
   ps ← list_word provider_word w
   when_true (Some ps) (are_providers ps)
 
-unfoldable pub ballot_word : List ℕ → Option (Vote × Option (List ℕ))
-ballot_word w = do
-  x ← ballot_read w
-  when_true (Some x) (text_option_holds x.1)
+-- a vote, with its value where one stands behind it
+unfoldable pub valued_ballot : Vote → List ℕ → Option Ballot
+valued_ballot v [] = Some (record { vote = v; value = None })
+valued_ballot v (b ∷ bs) = do
+  x ← kept_text (value_word (b ∷ bs))
+  Some (record { vote = v; value = Some x })
 
-unfoldable pub entry_kept : List (List ℕ) → Option Entry
-entry_kept ws = do
-  e ← entry_read ws
-  when_true (Some e) (entry_typed e)
+unfoldable pub ballot_word : List ℕ → Option Ballot
+ballot_word [] = None
+ballot_word (b ∷ bs) = do
+  v ← vote_letter (b ∷ [])
+  valued_ballot v bs
+
+-- the mark, or what is read by f
+unfoldable pub unless : {X : Type 0} → List ℕ → (List ℕ → Option X) → List ℕ → Option (Option X)
+unless mark f w = elim (bytes_eq w mark) [ true ↦ Some None | false ↦ option_map Some (f w) ]
+
+-- the words that have a byte
+unfoldable pub filled : List (List ℕ) → List (List ℕ)
+filled ws = filter (λ w. not (is_empty w)) ws
+
+-- those of a join's words that set attributes
+unfoldable pub attrs_in : List (List ℕ) → List (List ℕ)
+attrs_in ws = filled (filter (λ w. not (is_source_len w)) ws)
+
+-- who asks, and its value
+unfoldable pub asked_value : List (List ℕ) → Option (ProviderId × ℕ × List ℕ)
+asked_value ws = do
+  w ← two_of ws
+  x ← asker_word w.0
+  value ← kept_text (value_word w.1)
+  Some (x.0, x.1, value)
+
+-- the words behind the word of the kind
+unfoldable pub said_proposal : Kind → List (List ℕ) → Option Proposal
+said_proposal kind.Join ws = do
+  w ← first_of ws
+  ps ← named_word w.0
+  a ← attr_words (attrs_in w.1)
+  n ← source_len_of (filter is_source_len w.1)
+  Some (proposal.Join ps a n)
+said_proposal kind.Leave ws = do
+  w ← one_of ws
+  x ← asker_word w
+  Some (proposal.Leave x.0 x.1)
+said_proposal kind.Fail ws = do
+  w ← one_of ws
+  out ← list_word failure_word w
+  Some (proposal.Fail out)
+said_proposal kind.Expel ws = do
+  w ← two_of ws
+  x ← asker_word w.0
+  out ← named_word w.1
+  Some (proposal.Expel x.0 x.1 out)
+said_proposal kind.State ws = do
+  x ← asked_value ws
+  Some (proposal.State x.0 x.1 x.2)
+said_proposal kind.Message ws = do
+  x ← asked_value ws
+  Some (proposal.Message x.0 x.1 x.2)
+said_proposal kind.Attributes ws = do
+  w ← first_of ws
+  x ← asker_word w.0
+  a ← attr_words (filled w.1)
+  Some (proposal.Attributes x.0 x.1 a)
+said_proposal kind.Reflect ws = do
+  w ← two_of ws
+  x ← proto_word w.0
+  value ← kept_text (value_word w.1)
+  Some (proposal.Reflect x.view x.place value)
+
+unfoldable pub proposal_words : List (List ℕ) → Option Proposal
+proposal_words ws = do
+  k ← next kind_read ws
+  said_proposal k.0 k.1
+
+-- a value, `-` for none
+unfoldable pub text_or_none : List ℕ → Option (Option (List ℕ))
+text_or_none w = unless (codes "-") (λ v. kept_text (value_word v)) w
+
+-- what closes a phase, with a value or none
+unfoldable pub valued_closed : List (List ℕ) → Option Closed
+valued_closed ws = do
+  w ← four_of ws
+  proto ← proto_word w.0
+  phase ← u16_word w.1
+  rows ← list_word row_word w.2
+  value ← text_or_none w.3
+  Some (record { proto = proto; phase = phase; rows = rows; value = value; message = None })
+
+-- the words behind an entry's first
+unfoldable pub entry_said : EntryHead → List (List ℕ) → Option Entry
+entry_said HOnce ws = do
+  x ← proposal_words ws
+  Some (entry.Once x)
+entry_said HBegin ws = do
+  x ← proposal_words ws
+  Some (entry.Begin x)
+entry_said HPhase ws = do
+  c ← valued_closed ws
+  Some (entry.Phase c)
+entry_said HApprove ws = do
+  c ← valued_closed ws
+  Some (entry.Approve c)
+entry_said HReject ws = do
+  w ← three_of ws
+  proto ← proto_word w.0
+  phase ← u16_word w.1
+  rows ← list_word row_word w.2
+  Some (entry.Reject (record { proto = proto; phase = phase; rows = rows; value = None; message = None }))
+entry_said HLate ws = do
+  w ← three_of ws
+  proto ← proto_word w.0
+  phase ← u16_word w.1
+  ps ← named_word w.2
+  Some (entry.Late proto phase ps)
+
+unfoldable pub entry_of_words : List (List ℕ) → Option Entry
+entry_of_words ws = do
+  k ← first_of ws
+  h ← entry_head k.0
+  entry_said h k.1
 
 -- ---- why something is refused, where a word behind the first says more
 
@@ -103,12 +218,16 @@ closing_read w =
     ∷ [])
     w
 
-unfoldable pub what_pieces : List (List ℕ) → Option What
-what_pieces (w ∷ []) = closing_read w
-what_pieces (w ∷ k ∷ []) = do
+-- with the kind of what took effect at once, or began
+unfoldable pub opened_read : List ℕ → List ℕ → Option What
+opened_read w k = do
   make ← opening_read w
   x ← kind_read k
   Some (make x)
+
+unfoldable pub what_pieces : List (List ℕ) → Option What
+what_pieces (w ∷ []) = closing_read w
+what_pieces (w ∷ k ∷ []) = opened_read w k
 what_pieces _ = None
 
 unfoldable pub what_read : List ℕ → Option What
@@ -116,10 +235,6 @@ what_read w = what_pieces (split_on 45 w)
 
 unfoldable pub open_phase : ProtoId × ℕ → Option OpenPhase
 open_phase x = Some (record { proto = x.0; phase = x.1 })
-
--- `-`, or what is read by f
-unfoldable pub unless : {X : Type 0} → List ℕ → (List ℕ → Option X) → List ℕ → Option (Option X)
-unless mark f w = elim (bytes_eq w mark) [ true ↦ Some None | false ↦ option_map Some (f w) ]
 
 unfoldable pub open_phase_word : List ℕ → Option OpenPhase
 open_phase_word w = do
@@ -140,12 +255,12 @@ unfoldable pub after_dot : List ℕ → Option (List ℕ)
 after_dot [] = None
 after_dot (b ∷ bs) = elim (b == 46) [ true ↦ Some bs | false ↦ after_dot bs ]
 
-unfoldable pub client_read : List ℕ → Option (ℕ × List ℕ)
+unfoldable pub client_read : List ℕ → Option ClientName
 client_read w = do
   n ← node_word (before_dot w)
   c ← after_dot w
   name ← client_word c
-  Some (n, name)
+  Some (record { node = n; name = name })
 
 unfoldable pub place_read : List ℕ → Option (Option ℕ)
 place_read w = unless (codes "-") u32_word w
@@ -307,7 +422,7 @@ said_line HPut ws = do
   view ← next view_word node.1
   group ← next group_name view.1
   place ← next u32_word group.1
-  e ← entry_kept place.1
+  e ← entry_of_words place.1
   Some (line.Put node.0 view.0 group.0 place.0 e)
 said_line HHeard ws = do
   provider ← next provider_word ws
@@ -323,7 +438,7 @@ said_line HCast ws = do
   proto ← next proto_word provider.1
   phase ← next u16_word proto.1
   x ← next ballot_word phase.1
-  ended (line.Cast provider.0 proto.0 phase.0 (x.0).0 (x.0).1) x.1
+  ended (line.Cast provider.0 proto.0 phase.0 (x.0).vote (x.0).value) x.1
 said_line HAsked ws = do
   provider ← next provider_word ws
   request ← next u32_word provider.1
@@ -339,11 +454,11 @@ said_line HNoted ws = do
   client ← next client_read ws
   view ← next view_word client.1
   n ← note_read view.1
-  Some (line.Noted (client.0).0 (client.0).1 view.0 n.0 n.1)
+  Some (line.Noted (client.0).node (client.0).name view.0 n.0 n.1)
 said_line HRefused ws = do
   client ← next client_read ws
   fault ← fault_read client.1
-  Some (line.Refused (client.0).0 (client.0).1 fault)
+  Some (line.Refused (client.0).node (client.0).name fault)
 said_line HShow ws = do
   node ← next node_word ws
   s ← status_read node.1
@@ -367,5 +482,5 @@ line_read b = do
 
 -- opens all that a line is read by, for a computation
 unfoldable pub reading_opens : Unit {0}
-unfolding digits escapes_open wording_opens attr_words_open entry_wording_opens entries_read_open ranges_open values_read_open fits_opens writing_opens first_of one_of two_of three_of four_of pieces_left next ended group_name kept_text named_word ballot_word entry_kept valued_why valued_fault opening_read closing_read what_pieces what_read open_phase unless open_phase_word open_read before_dot after_dot client_read place_read group_note hosts_note note_by note_read labelled yes_read status_head said_status status_read line_head said_line line_words loose line_read
+unfolding digits escapes_open wording_opens attr_words_open entry_wording_opens entries_read_open ranges_open values_read_open fits_opens writing_opens first_of one_of two_of three_of four_of next ended group_name kept_text named_word valued_ballot ballot_word filled attrs_in asked_value said_proposal proposal_words text_or_none valued_closed entry_said entry_of_words valued_why valued_fault opening_read closing_read opened_read what_pieces what_read open_phase unless open_phase_word open_read before_dot after_dot client_read place_read group_note hosts_note note_by note_read labelled yes_read status_head said_status status_read line_head said_line line_words loose line_read
 reading_opens = tt
