@@ -1,0 +1,4 @@
+pub mod DotLaws
+pub mod JoinLaws
+pub mod PartLaws
+pub mod RecordLaws
