@@ -4,3 +4,4 @@ pub mod Samples
 pub mod Passing
 pub mod Asking
 pub mod Carrying
+pub mod Voting

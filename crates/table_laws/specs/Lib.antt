@@ -4,3 +4,4 @@ pub mod Maps
 pub mod Notices
 pub mod Passing
 pub mod Samples
+pub mod Voting

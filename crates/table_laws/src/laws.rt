@@ -3,6 +3,7 @@ ghost use Rattle.table_laws.specs.Carrying.{ThePresentAsked, ChunksAreCarried};
 ghost use Rattle.table_laws.specs.Maps.{MapsAreOne, MapsStayWhileRunning, MapsAreEmptyWithoutMembers, MapsExist, ListsSayMaps};
 ghost use Rattle.table_laws.specs.Notices.{NoticesAreOfLists};
 ghost use Rattle.table_laws.specs.Passing.{PassersComeFromTheBase};
+ghost use Rattle.table_laws.specs.Voting.{BallotsSendChunks};
 
 /// In every run whose events may happen, whatever its clients answer, the map of a group in a view after so many entries of
 /// its list is one.
@@ -49,6 +50,12 @@ pub fn the_present_asked()
 /// that closes a phase carries that chunk of its group's map, or nothing.
 pub fn chunks_are_carried()
     ensures { ChunksAreCarried }
+{}
+
+/// A message that goes with a ballot by the rules, of a copy whose whole map is that of the place of its notice, is the chunk
+/// of the phase that runs behind it, of the map directly behind the protocol's Begin.
+pub fn ballots_send_chunks()
+    ensures { BallotsSendChunks }
 {}
 
 /// A provider that passes with its group into a view comes from the view that the group's base comes from, with a list as
