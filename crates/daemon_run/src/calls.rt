@@ -159,9 +159,10 @@ impl<C: Callbacks> Running<C> {
             (AttendWith (H.stand hosts.old) C.stands_for C.script)
             (AttendWith (H.stand hosts.new) C.stands_for C.script) calling self.old self.new
             (O.told outside.old) (O.told outside.new) (Calls call.now)) }
-        ensures plain_unwritten { IsPlain call.now → IfErr result (λ stop. stop ≡ Stop.WriteFault
-            → StepFails (Attend C.stands_for C.script) (Attend C.stands_for C.script) calling
-            self.old self.new (O.told outside.old) (O.told outside.new) (Calls call.now)) }
+        ensures plain_unwritten { IsPlain call.now → IfErr result (λ stop.
+            stop ≡ Stop.WriteFault → StepFails (Attend C.stands_for C.script)
+            (Attend C.stands_for C.script) calling self.old self.new (O.told outside.old)
+            (O.told outside.new) (Calls call.now)) }
         ensures same { IsSame self.old self.new }
         ensures fault { IfErr result (StopsBy (O.told outside.new)) }
     {

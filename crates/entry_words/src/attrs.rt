@@ -112,7 +112,8 @@ impl AttrKey {
     #[tactic(auto, unfolding(crate::specs::Words::attr_row))]
     fn set(self, alloc: Global, attrs: &mut Attrs, word: &[u8]) -> Result<(), WordFault>
         ensures set { OnOk result ((attr_row self).set attrs.old word.now ≡ Some attrs.new) }
-        ensures refused { IfErr result (λ e. FailsWord e ((attr_row self).set attrs.old word.now)) }
+        ensures refused { IfErr result (λ e.
+            FailsWord e ((attr_row self).set attrs.old word.now)) }
     {
         match self {
             AttrKey::Phases => attrs.phases = phases_word(word).ok_or(WordFault::BadWord)?,

@@ -159,7 +159,11 @@ impl Model for Remote {
 
     ghost Value = { RemoteState };
 
-    ghost view = { λ r. record { incarnation = r.incarnation; sessions = r.sessions.entries; ended = r.ended.keys } };
+    ghost view = { λ r. record {
+      incarnation = r.incarnation;
+      sessions = r.sessions.entries;
+      ended = r.ended.keys;
+    } };
 }
 
 impl Remote {
