@@ -200,9 +200,9 @@ pub fn put_attrs(out: &mut Vec<u8>, attrs: &Attrs) -> Result<(), NoMemory>
     Ok(())
 }
 
-/// What stands before the first `=`.
+/// What stands before the first `=` of a word, all of it where there is none.
 #[tactic(auto, using(crate::proofs::EqualsLaws::before_found, crate::proofs::EqualsLaws::before_missing))]
-fn before_equals(word: &[u8]) -> &[u8]
+pub fn before_equals(word: &[u8]) -> &[u8]
     ensures { result.now ≡ before_equals word.now }
 {
     match place_of(b'=', word) {
@@ -211,9 +211,9 @@ fn before_equals(word: &[u8]) -> &[u8]
     }
 }
 
-/// What stands behind the first `=`.
+/// What stands behind the first `=` of a word; `None` where there is none.
 #[tactic(auto, using(crate::proofs::EqualsLaws::after_found, crate::proofs::EqualsLaws::after_missing))]
-fn after_equals(word: &[u8]) -> Option<&[u8]>
+pub fn after_equals(word: &[u8]) -> Option<&[u8]>
     ensures { option_map (λ x. x.now) result ≡ after_equals word.now }
 {
     let i = place_of(b'=', word)?;

@@ -9,7 +9,7 @@ mod faults;
 mod kinds;
 mod proposals;
 
-pub use attrs::{attr_words, put_attrs};
+pub use attrs::{after_equals, attr_words, before_equals, put_attrs};
 pub use choices::phases_word;
 pub use entries::{put_entry, put_phase, put_running, put_what_word, vote_text};
 pub use faults::{put_fault, put_why};

@@ -1,5 +1,5 @@
 -- What was heard, by the pieces of its word.
-use Rattle.std.proofs.Common.{◌≡◌, ℕ, true, false, List, [], ◌∷◌, Option, Some, None, refl, ◌∙◌, ap}
+use Rattle.std.proofs.Common.{◌≡◌, ℕ, false, List, [], ◌∷◌, None, refl, ◌∙◌, ap}
 use Rattle.rsct_packet.specs.Lists.{is_empty}
 use Rattle.value_words.specs.Words.{split_on}
 use Rattle.record_lines.specs.Reading.{closing_read, opened_read, what_pieces, what_read}

@@ -6,7 +6,6 @@ mod from_word;
 mod ids;
 mod items;
 mod kinds;
-mod labels;
 mod lines;
 mod notes;
 mod owned;

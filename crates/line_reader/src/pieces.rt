@@ -10,8 +10,8 @@ ghost use Rattle.entry_words.specs.Words.{after_equals};
 ghost use Rattle.record_lines.specs.Reading.{ended, filled, labelled, next};
 
 use crate::from_word::FromWord;
-use crate::labels::after_equals;
 use crate::owned::OwnedFromWord;
+use entry_words::after_equals;
 use std::alloc::Global;
 use std::marker::Model;
 use value_words::{WordFault, Words, cut_at, network_word};

@@ -9,4 +9,4 @@ mod view_ask;
 pub use reports::take_report;
 pub use rings::take_ring_packet;
 pub use tick::tick_rings;
-pub use view_ask::ring_ask;
+pub use view_ask::{are_members, is_first, ring_ask};

@@ -55,7 +55,7 @@ fn are_reached(reach: &Reach, nodes: Mask, numbers: &[u8], members: &[Member]) -
 
 /// Are the members just the nodes reached, in the incarnations of their rows?
 #[tactic(auto, unfolding(node_state::specs::Ticks::reached, rsct_packet::specs::Mask::nodes_of))]
-fn are_members(core: &Core, nodes: Mask) -> bool
+pub fn are_members(core: &Core, nodes: Mask) -> bool
     ensures { result ≡ pointwise same_member core.now.views.members (reached core.now nodes) }
 {
     are_reached(&core.reach, nodes, &NODES, core.views.members.as_slice())
@@ -86,7 +86,8 @@ fn is_due(core: &Core, nodes: Mask) -> bool
     !are_members(core, nodes) || is_one_long(core.groups.rows.as_slice())
 }
 
-fn is_first(node: u8, first: Option<u8>) -> bool
+/// Is the node the first of some, if there is one?
+pub fn is_first(node: u8, first: Option<u8>) -> bool
     ensures { result ≡ is_first node first }
 {
     match first {

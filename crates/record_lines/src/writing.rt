@@ -1,6 +1,6 @@
 //! Lines, written.
-ghost use Rattle.std.specs.Prelude.{◌≡◌, ◌++◌, OnOk, codes, decimal, flat_map};
-ghost use Rattle.value_words.specs.Wording.{word, nodes_text, provider_text, providers_text, ring_text, value_text, view_text};
+ghost use Rattle.std.specs.Prelude.{◌≡◌, ◌++◌, OnOk, codes, decimal};
+ghost use Rattle.value_words.specs.Wording.{word, provider_text, providers_text, ring_text, value_text, view_text};
 ghost use Rattle.word_laws.specs.Values.{spaced};
 ghost use Rattle.record_lines.specs.declared.line.Line.TheVariants as line;
 ghost use Rattle.record_lines.specs.declared.line.Status.TheVariants as shown;
@@ -15,9 +15,9 @@ use rsct_packet::{
 };
 use session_state::GsFault;
 use value_words::{
-    put_counted, put_escaped, put_members, put_members_word, put_number, put_number_word,
-    put_proto, put_proto_word, put_provider_word, put_providers, put_providers_word, put_ring_word,
-    put_text, put_value, put_view, put_view_word, put_word,
+    put_counted, put_escaped, put_members, put_members_word, put_nodes, put_number,
+    put_number_word, put_proto, put_proto_word, put_provider_word, put_providers,
+    put_providers_word, put_ring_word, put_text, put_value, put_view, put_view_word, put_word,
 };
 use word_laws::Kind;
 
@@ -35,32 +35,6 @@ fn kind_name(kind: Kind) -> &'static [u8]
         Kind::Message => b"message",
         Kind::Attributes => b"attrs",
         Kind::Reflect => b"reflect",
-    }
-}
-
-/// Nodes, each behind a comma.
-fn put_more_nodes(out: &mut Vec<u8>, nodes: &[u8]) -> Result<(), NoMemory>
-    ensures { OnOk result (out.new.items ≡ out.old.items
-        ++ flat_map (λ y. codes "," ++ decimal y) nodes.now) }
-{
-    for n in nodes {
-        put_text(out, b",")?;
-        put_number(out, u32::from(*n))?;
-    }
-    Ok(())
-}
-
-/// Nodes between commas, `-` for none.
-#[tactic(auto, unfolding(value_words::specs::Wording::nodes_text, value_words::specs::Wording::joined))]
-fn put_nodes(out: &mut Vec<u8>, nodes: &[u8]) -> Result<(), NoMemory>
-    ensures { OnOk result (out.new.items ≡ out.old.items ++ nodes_text nodes.now) }
-{
-    match nodes {
-        [] => put_text(out, b"-"),
-        [first, others @ ..] => {
-            put_number(out, u32::from(*first))?;
-            put_more_nodes(out, others)
-        }
     }
 }
 

@@ -21,9 +21,9 @@ fn put_more_nodes(out: &mut Vec<u8>, nodes: &[u8]) -> Result<(), NoMemory>
     Ok(())
 }
 
-/// Nodes between commas, `-` for none.
+/// Nodes between commas, `-` for none. Err: no memory; some of it is then written.
 #[tactic(auto, unfolding(crate::specs::Wording::nodes_text, crate::specs::Wording::joined))]
-fn put_nodes(out: &mut Vec<u8>, nodes: &[u8]) -> Result<(), NoMemory>
+pub fn put_nodes(out: &mut Vec<u8>, nodes: &[u8]) -> Result<(), NoMemory>
     ensures { OnOk result (out.new.items ≡ out.old.items ++ nodes_text nodes.now) }
 {
     match nodes {
