@@ -7,11 +7,12 @@ use Rattle.node_state.specs.declared.happened.Happened.{Happened}
 use Rattle.node_state.specs.declared.state.Core.{Core}
 use Rattle.node_state.specs.HandOn.{Answering}
 use Rattle.node_state.specs.Bytes.{event_of}
-use Rattle.node_state.specs.Step.{NodeEvent, Ticks, Calls, stepped, started}
-use Rattle.remote_session.specs.Daemon.{SeenUp, NotUp, KeysFull, KnownKey, CallMade}
+use Rattle.node_state.specs.Step.{NodeEvent, Ticks, Asks, Calls, stepped, started}
+use Rattle.remote_session.specs.Daemon.{SeenUp, NotUp, EndedKey, KeysFull, KnownKey, CallMade}
 use Rattle.remote_clients.specs.declared.sessions.Sessions.{Sessions}
+use Rattle.daemon_model.specs.declared.options.RemoteService.{RemoteService}
 use Rattle.daemon_model.specs.Sent.{Exchange, plain, said, as_sent, message_calls, sent_calls}
-use Rattle.daemon_model.specs.Daemon.{Daemon, Life, left_for, stepped_for, fresh, begun_for, opened, is_due, ticked_if, ticked, joined_by, received, given, up_in, with_up, call_in, line_carried, called_by, down_in, down_sent, brought, given_on, network_of, heard, lived}
+use Rattle.daemon_model.specs.Daemon.{Daemon, Life, left_for, stepped_for, fresh, begun_for, opened, is_due, ticked_if, ticked, joined_by, received, given, up_in, with_up, call_in, key_called, line_carried, called_by, down_in, down_sent, brought, given_on, network_of, heard, goodbye_in, goodbye_said, key_over, mended, lived}
 use Rattle.daemon_model.specs.Actions.{Action, did, did_all, life_actions}
 use Rattle.daemon_model.specs.Actions as actions
 use Rattle.daemon_model.specs.Doings.{Doing, Reads, Exchanges, Writes, step_doings, since, doings, doings_of, life_doings, exchanges_in, records_in}
@@ -48,9 +49,27 @@ adds_step calling f e d = adds_left calling d (stepped f d.core e)
 pub adds_sessions : (d : Daemon) (o : Option Sessions) → Adds d (record d { sessions = o })
 adds_sessions d o = record { calls = []; called = sym (append-nil d.calls); records = []; recorded = sym (append-nil d.records) }
 
+adds_call : (key : ℕ) (a : CallLine) (f : Answering) (d : Daemon) → Adds d (key_called key a (stepped f d.core (Calls a)) d)
+adds_call key a f d = adds_on d (left_for (Some key) d (stepped f d.core (Calls a))) _ (adds_left (Some key) d (stepped f d.core (Calls a))) (adds_sessions (left_for (Some key) d (stepped f d.core (Calls a))) _)
+
 adds_line : (key : ℕ) (o : Option CallLine) (f : Answering) (d : Daemon) → Adds d (line_carried key o f d)
 adds_line key None f d = adds_sessions d _
-adds_line key (Some a) f d = adds_on d (left_for (Some key) d (stepped f d.core (Calls a))) _ (adds_left (Some key) d (stepped f d.core (Calls a))) (adds_sessions (left_for (Some key) d (stepped f d.core (Calls a))) _)
+adds_line key (Some a) f d = adds_call key a f d
+
+-- a key ends, with its goodbye or without
+adds_goodbye : (key : ℕ) (o : Option CallLine) (f : Answering) (d : Daemon) → Adds d (goodbye_said key o f d)
+adds_goodbye key None f d = adds_none d
+adds_goodbye key (Some a) f d = adds_call key a f d
+
+pub adds_over : (key : ℕ) (f : Answering) (d : Daemon) → Adds d (key_over key f d)
+unfolding key_over
+adds_over key f d =
+    let e : Daemon = goodbye_said key (goodbye_in d.sessions key) f d in
+    adds_on d e _ (adds_goodbye key (goodbye_in d.sessions key) f d) (adds_sessions e _)
+
+pub adds_mended : (f : Answering) (d : Daemon) → Adds d (mended f d)
+unfolding mended
+adds_mended f d = adds_step None f (Asks _) d
 
 pub adds_called : (key : ℕ) (line : List ℕ) (f : Answering) (d : Daemon) → Adds d (called_by key line f d)
 unfolding called_by
@@ -63,6 +82,7 @@ adds_down key network d = record { calls = map (said d.number) (message_calls d.
 adds_brought : (u : SeenUp) (network : ℕ) (message : List ℕ) (f : Answering) (d : Daemon) → Adds d (brought u network message f d)
 unfolding brought given
 adds_brought NotUp network message f d = adds_step None f (event_of message) d
+adds_brought (EndedKey key) network message f d = adds_on d (with_up message d) _ (adds_sessions d _) (adds_down key network (with_up message d))
 adds_brought (KeysFull key limit) network message f d = adds_on d (with_up message d) _ (adds_sessions d _) (adds_down key network (with_up message d))
 adds_brought (KnownKey key) network message f d = adds_on d (with_up message d) _ (adds_sessions d _) (adds_down key network (with_up message d))
 adds_brought (CallMade key line) network message f d =
@@ -154,6 +174,8 @@ shares_did d (actions.Opens o) = shares_since d (opened d o) (adds_step None o.a
 shares_did d (actions.Ticks m f) =
     let h : Shares d (ticked m f d) (since d (ticked m f d)) = shares_since d (ticked m f d) (adds_tick m f (is_due d.last m) d) in
     record { calls = h.calls; records = h.records }
+shares_did d (actions.EndsKey key f) = shares_since d (key_over key f d) (adds_over key f d)
+shares_did d (actions.Mends f) = shares_since d (mended f d) (adds_mended f d)
 shares_did d (actions.Hears got f) = shares_on d (received got d) (heard got f d) (Exchanges (plain (as_sent got)) ∷ []) (since (received got d) (heard got f d)) (shares_received got d) (shares_since (received got d) (heard got f d) (adds_heard got f d))
 
 pub shares_all : (d : Daemon) (acts : List Action) → Shares d (did_all d acts) (doings_of d acts)
@@ -161,7 +183,7 @@ unfolding did_all doings_of
 shares_all d [] = shares_none d
 shares_all d (a ∷ acts) = shares_on d (did d a) (did_all (did d a) acts) (doings d a) (doings_of (did d a) acts) (shares_did d a) (shares_all (did d a) acts)
 
-begun_adds : (remote : Bool) (c : Config) (me incarnation moment : ℕ) → Adds (fresh remote c me incarnation moment) (begun_for remote c me incarnation moment)
+begun_adds : (remote : RemoteService) (c : Config) (me incarnation moment : ℕ) → Adds (fresh remote c me incarnation moment) (begun_for remote c me incarnation moment)
 unfolding begun_for
 begun_adds remote c me incarnation moment = adds_left None (fresh remote c me incarnation moment) (started c me incarnation)
 
@@ -182,8 +204,3 @@ pub doings_append : (d : Daemon) (acts more : List Action) → doings_of d (acts
 unfolding did_all doings_of
 doings_append d [] more = refl
 doings_append d (a ∷ acts) more = ap (λ t. doings d a ++ t) (doings_append (did d a) acts more) ∙ sym (append_assoc (doings d a) (doings_of (did d a) acts) (doings_of (did_all (did d a) acts) more))
-
-pub did_append : (d : Daemon) (acts more : List Action) → did_all d (acts ++ more) ≡ did_all (did_all d acts) more
-unfolding did_all
-did_append d [] more = refl
-did_append d (a ∷ acts) more = did_append (did d a) acts more

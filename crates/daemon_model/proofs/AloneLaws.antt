@@ -6,10 +6,13 @@ use Rattle.node_state.specs.declared.config.Config.{Config}
 use Rattle.node_state.specs.declared.state.Core.{Core}
 use Rattle.node_state.specs.Bytes.{event_of}
 use Rattle.node_state.specs.HandOn.{Answering}
-use Rattle.node_state.specs.Step.{NodeEvent, Ticks, Calls, stepped}
+use Rattle.node_state.specs.Step.{NodeEvent, Ticks, Asks, Calls, stepped}
 use Rattle.remote_clients.specs.declared.sessions.Sessions.{Sessions}
-use Rattle.remote_clients.specs.Sessions.{noted_all}
-use Rattle.daemon_model.specs.Daemon.{Daemon, Opening, Turn, Life, left_for, stepped_for, sessions_if, begun_for, opened, opened_all, is_due, ticked_if, ticked, joined_by, received, given, up_in, brought, given_on, network_of, heard, turned, turned_all, lived}
+use Rattle.remote_clients.specs.Entries.{noted_with}
+use Rattle.remote_clients.specs.Ending.{session_ended}
+use Rattle.daemon_model.specs.declared.options.RemoteService.{RemoteService}
+use Rattle.daemon_model.specs.declared.options.RemoteService.TheVariants as service
+use Rattle.daemon_model.specs.Daemon.{Daemon, Opening, KeyEnd, Turn, Life, left_for, stepped_for, sessions_if, begun_for, opened, opened_all, is_due, counted_in, ticked_if, ticked, joined_by, received, given, up_in, brought, given_on, network_of, heard, goodbye_in, goodbye_said, key_over, key_ends, keys_over, mended, mended_if, kept_up, turned, turned_all, lived}
 
 abbrev pub IsAlone : Daemon → Type 0
 IsAlone d = d.sessions ≡ None
@@ -29,14 +32,14 @@ heard_alone d got f e = given_alone (network_of got) (joined_by got d.joining).m
 
 left_alone : (calling : Option ℕ) (d : Daemon) (s : Core) → IsAlone d → IsAlone (left_for calling d s)
 unfolding left_for
-left_alone calling d s e = ap (option_map (noted_all calling s.records)) e
+left_alone calling d s e = ap (option_map (noted_with d.entries calling s.records)) e
 
 pub stepped_alone : (calling : Option ℕ) (f : Answering) (e : NodeEvent) (d : Daemon) → IsAlone d → IsAlone (stepped_for calling f e d)
 unfolding stepped_for
 stepped_alone calling f e d h = left_alone calling d (stepped f d.core e) h
 
 pub tick_alone : (due : Bool) (moment : ℕ) (f : Answering) (d : Daemon) → IsAlone d → IsAlone (ticked_if due moment f d)
-tick_alone true moment f d h = stepped_alone None f Ticks (record d { last = moment }) h
+tick_alone true moment f d h = ap counted_in (stepped_alone None f Ticks (record d { last = moment }) h)
 tick_alone false moment f d h = h
 
 message_alone : (message : Option (List ℕ)) (f : Answering) (d : Daemon) → IsAlone d → IsAlone (given message f d)
@@ -48,11 +51,29 @@ received_alone : (got : LinkCall) (d : Daemon) → IsAlone d → IsAlone (receiv
 unfolding received
 received_alone got d h = h
 
+key_alone : (e : KeyEnd) (d : Daemon) → IsAlone d → IsAlone (key_ends d e)
+unfolding key_over
+key_alone e d h =
+    ap (λ (o : Option Sessions). option_map (session_ended e.key) (goodbye_said e.key (goodbye_in o e.key) e.answers d).sessions) h ∙ ap (option_map (session_ended e.key)) h
+
+keys_alone : (es : List KeyEnd) (d : Daemon) → IsAlone d → IsAlone (keys_over es d)
+keys_alone [] d h = h
+keys_alone (e ∷ es) d h = keys_alone es (key_ends d e) (key_alone e d h)
+
+mends_alone : (o : Option Answering) (d : Daemon) → IsAlone d → IsAlone (mended_if o d)
+unfolding mended
+mends_alone None d h = h
+mends_alone (Some f) d h = stepped_alone None f (Asks _) d h
+
+kept_alone : (d : Daemon) (t : Turn) → IsAlone d → IsAlone (kept_up d t)
+kept_alone d t h =
+    mends_alone t.mends (keys_over t.ends (ticked t.moment t.tick d)) (keys_alone t.ends (ticked t.moment t.tick d) (tick_alone (is_due d.last t.moment) t.moment t.tick d h))
+
 pub turned_alone : (d : Daemon) (t : Turn) → IsAlone d → IsAlone (turned d t)
 unfolding turned
 turned_alone d t h =
-    let e : Daemon = ticked t.moment t.tick d in
-    let alone : IsAlone e = tick_alone (is_due d.last t.moment) t.moment t.tick d h in
+    let e : Daemon = kept_up d t in
+    let alone : IsAlone e = kept_alone d t h in
     ap (λ (q : Daemon). q.sessions) (heard_alone e t.got t.answers alone) ∙ message_alone (joined_by t.got e.joining).message t.answers (received t.got e) (received_alone t.got e alone)
 
 pub turned_all_alone : (d : Daemon) (ts : List Turn) → IsAlone d → IsAlone (turned_all d ts)
@@ -69,11 +90,11 @@ unfolding opened_all
 opened_all_alone d [] h = h
 opened_all_alone d (o ∷ os) h = opened_all_alone (opened d o) os (opened_alone d o h)
 
-pub begun_alone : (remote : Bool) (c : Config) (me incarnation moment : ℕ) → remote ≡ false → IsAlone (begun_for remote c me incarnation moment)
+pub begun_alone : (remote : RemoteService) (c : Config) (me incarnation moment : ℕ) → remote ≡ service.Off → IsAlone (begun_for remote c me incarnation moment)
 unfolding begun_for
-begun_alone remote c me incarnation moment e = left_alone None _ _ (ap (λ b. sessions_if b incarnation) e)
+begun_alone remote c me incarnation moment e = left_alone None _ _ (ap (λ (r : RemoteService). sessions_if r incarnation) e)
 
-pub lived_alone : (c : Config) (me incarnation : ℕ) (life : Life) → life.remote ≡ false → IsAlone (lived c me incarnation life)
+pub lived_alone : (c : Config) (me incarnation : ℕ) (life : Life) → life.remote ≡ service.Off → IsAlone (lived c me incarnation life)
 unfolding lived
 lived_alone c me incarnation life e =
     turned_all_alone (opened_all (begun_for life.remote c me incarnation life.start) life.opening) life.turns

@@ -3,3 +3,5 @@ pub mod AddLaws
 pub mod AloneLaws
 pub mod DoingLaws
 pub mod MadeLaws
+pub mod OptionLaws
+pub mod SilenceLaws

@@ -8,23 +8,30 @@ use Rattle.node_state.specs.declared.call.CallLine.{CallLine}
 use Rattle.node_state.specs.declared.config.Config.{Config}
 use Rattle.node_state.specs.declared.happened.Happened.{Happened}
 use Rattle.node_state.specs.declared.state.Core.{Core}
+use Rattle.node_reach.specs.Reach.{reach_of}
 use Rattle.node_state.specs.HandOn.{Answering}
 use Rattle.node_state.specs.Bytes.{event_of}
-use Rattle.node_state.specs.Step.{NodeEvent, Ticks, Calls, at_work, started, stepped}
+use Rattle.node_state.specs.Step.{NodeEvent, Ticks, Asks, Calls, at_work, started, stepped}
 use Rattle.world_model.specs.declared.event.Event.TheVariants as event
 use Rattle.world_model.specs.declared.script.Line.{Line}
 use Rattle.world_model.specs.declared.script.Line.TheVariants as line
 use Rattle.world_model.specs.Text.{line_of}
 use Rattle.remote_session.specs.Messages.{down_text}
-use Rattle.remote_session.specs.Daemon.{SeenUp, NotUp, KeysFull, KnownKey, CallMade, up_seen, up_taken, down_for}
+use Rattle.remote_session.specs.Daemon.{SeenUp, NotUp, EndedKey, KeysFull, KnownKey, CallMade, up_seen, up_taken, down_for}
+use Rattle.remote_session.specs.Ending.{remote_ticked}
 use Rattle.remote_clients.specs.declared.sessions.Sessions.{Sessions}
-use Rattle.remote_clients.specs.Sessions.{sessions_new, noted_all, call_for, is_refused, finished, turned_down}
+use Rattle.remote_clients.specs.Clients.{goodbye_owed}
+use Rattle.remote_clients.specs.Sessions.{sessions_new, call_for, is_refused, finished, turned_down}
+use Rattle.remote_clients.specs.Entries.{noted_with}
+use Rattle.remote_clients.specs.Ending.{session_ended}
+use Rattle.daemon_model.specs.declared.options.RemoteService.{RemoteService}
+use Rattle.daemon_model.specs.declared.options.RemoteService.TheVariants as service
 use Rattle.daemon_model.specs.Sent.{Exchange, plain, said, as_sent, number_if, message_calls, sent_calls, number_after}
 
 -- Where a daemon stands, and what it did: which node it is, in which incarnation; its node, at work; the moment of its
 -- last tick, or of its start; what it joins; the number of the next message that it cuts; how many receives failed in a
--- row, up to 16; what it received and sent so far, with each send as if it went out; what its node recorded so far; and the
--- sessions of clients on other machines, where it serves them.
+-- row, up to 16; what it received and sent so far, with each send as if it went out; what its node recorded so far; the
+-- sessions of clients on other machines, where it serves them; and whether it tells those the lines of entries.
 pub record Daemon : Type 0 where
   pub me : ℕ
   pub incarnation : ℕ
@@ -36,6 +43,7 @@ pub record Daemon : Type 0 where
   pub calls : List Exchange
   pub records : List Happened
   pub sessions : Option Sessions
+  pub entries : Bool
 
 -- What a step of the node leaves is sent, and recorded; and each line of its records goes to the client on another machine
 -- that is to hear it. The step was a call of this key, or of none.
@@ -45,7 +53,7 @@ left_for calling d s = record d {
   number = number_after d.number s.sends;
   calls = d.calls ++ sent_calls d.me d.incarnation d.number s.sends;
   records = d.records ++ s.records;
-  sessions = option_map (noted_all calling s.records) d.sessions;
+  sessions = option_map (noted_with d.entries calling s.records) d.sessions;
 }
 
 abbrev pub left_by : Daemon → Core → Daemon
@@ -61,12 +69,16 @@ stepped_by f e d = stepped_for None f e d
 -- ---- the start
 
 -- the sessions of clients on other machines, where they are served
-abbrev pub sessions_if : Bool → ℕ → Option Sessions
-sessions_if true incarnation = Some (sessions_new incarnation)
-sessions_if false incarnation = None
+abbrev pub sessions_if : RemoteService → ℕ → Option Sessions
+sessions_if service.Off incarnation = None
+sessions_if (service.On entries) incarnation = Some (sessions_new incarnation)
+
+abbrev pub tells_entries : RemoteService → Bool
+tells_entries service.Off = false
+tells_entries (service.On entries) = entries
 
 -- before its node starts; whether it serves clients on other machines
-abbrev pub fresh : Bool → Config → ℕ → ℕ → ℕ → Daemon
+abbrev pub fresh : RemoteService → Config → ℕ → ℕ → ℕ → Daemon
 fresh remote c me incarnation moment = record {
   me = me;
   incarnation = incarnation;
@@ -78,14 +90,15 @@ fresh remote c me incarnation moment = record {
   calls = [];
   records = [];
   sessions = sessions_if remote incarnation;
+  entries = tells_entries remote;
 }
 
-unfoldable pub begun_for : Bool → Config → ℕ → ℕ → ℕ → Daemon
+unfoldable pub begun_for : RemoteService → Config → ℕ → ℕ → ℕ → Daemon
 begun_for remote c me incarnation moment = left_by (fresh remote c me incarnation moment) (started c me incarnation)
 
 -- one that serves no clients on other machines
 abbrev pub begun : Config → ℕ → ℕ → ℕ → Daemon
-begun c me incarnation moment = begun_for false c me incarnation moment
+begun c me incarnation moment = begun_for service.Off c me incarnation moment
 
 -- a call of the settings, and what the clients answer at it
 pub record Opening : Type 0 where
@@ -108,20 +121,19 @@ own_calls me ls = flat_map (own_call me) ls
 
 -- ---- turns
 
--- What comes from outside in one turn: the moment; what the clients answer at the tick, if one is due; what is
--- received; and what the clients answer at the step of the message that is whole then, if one is.
-pub record Turn : Type 0 where
-  pub moment : ℕ
-  pub tick : Answering
-  pub got : LinkCall
-  pub answers : Answering
-
 -- a tick is due where 100 milliseconds have passed since the last one, or since the start
 abbrev pub is_due : ℕ → ℕ → Bool
 is_due last moment = nat_le 100 (moment - last)
 
+-- each key was silent for one tick more
+abbrev pub counted_in : Option Sessions → Option Sessions
+counted_in o = option_map (λ (s : Sessions). record s { remote = remote_ticked s.remote }) o
+
+abbrev pub counted : Daemon → Daemon
+counted d = record d { sessions = counted_in d.sessions }
+
 abbrev pub ticked_if : Bool → ℕ → Answering → Daemon → Daemon
-ticked_if true moment f d = stepped_by f Ticks (record d { last = moment })
+ticked_if true moment f d = counted (stepped_by f Ticks (record d { last = moment }))
 ticked_if false moment f d = d
 
 abbrev pub ticked : ℕ → Answering → Daemon → Daemon
@@ -187,9 +199,11 @@ down_sent key network d = record d {
   calls = d.calls ++ map (said d.number) (message_calls d.me d.incarnation d.number 0 network (down_in d.sessions key));
 }
 
--- what an Up brings, and then one Down of its key; every other message is the node's
+-- what an Up brings, and then one Down of its key; every other message is the node's. An Up of a key that has ended brings
+-- nothing.
 unfoldable pub brought : SeenUp → ℕ → List ℕ → Answering → Daemon → Daemon
 brought NotUp network message f d = given (Some message) f d
+brought (EndedKey key) network message f d = down_sent key network (with_up message d)
 brought (KeysFull key limit) network message f d = down_sent key network (with_up message d)
 brought (KnownKey key) network message f d = down_sent key network (with_up message d)
 brought (CallMade key line) network message f d = down_sent key network (called_by key line f (with_up message d))
@@ -206,9 +220,65 @@ network_of _ = 0
 unfoldable pub heard : LinkCall → Answering → Daemon → Daemon
 heard got f d = given_on (network_of got) (joined_by got d.joining).message f (received got d)
 
--- a turn: a tick where one is due, one receive, and the message that is whole by it
+-- ---- what a daemon does of its own
+
+abbrev pub goodbye_in : Option Sessions → ℕ → Option CallLine
+goodbye_in None key = None
+goodbye_in (Some s) key = goodbye_owed s.clients key
+
+-- the goodbye that the key owes is a step, as a call of that key
+abbrev pub goodbye_said : ℕ → Option CallLine → Answering → Daemon → Daemon
+goodbye_said key None f d = d
+goodbye_said key (Some a) f d = key_called key a (stepped f d.core (Calls a)) d
+
+abbrev pub without_key : ℕ → Daemon → Daemon
+without_key key d = record d { sessions = option_map (session_ended key) d.sessions }
+
+-- the key says the goodbye that it owes, and ends
+unfoldable pub key_over : ℕ → Answering → Daemon → Daemon
+key_over key f d = without_key key (goodbye_said key (goodbye_in d.sessions key) f d)
+
+-- the order to ask for a view of its reach is a step of the node
+unfoldable pub mended : Answering → Daemon → Daemon
+mended f d = stepped_by f (Asks (reach_of d.core.reach)) d
+
+-- a key that ends, and what the clients answer at the goodbye that it owes, if it owes one
+pub record KeyEnd : Type 0 where
+  pub key : ℕ
+  pub answers : Answering
+
+abbrev pub key_ends : Daemon → KeyEnd → Daemon
+key_ends d e = key_over e.key e.answers d
+
+-- keys end, one after another
+abbrev pub keys_over : List KeyEnd → Daemon → Daemon
+keys_over ends d = fold key_ends d ends
+
+-- it mends, where it does, with what the clients answer then
+abbrev pub mended_if : Option Answering → Daemon → Daemon
+mended_if None d = d
+mended_if (Some f) d = mended f d
+
+-- ---- whole turns
+
+-- What a turn is made of: the moment; what the clients answer at the tick, if one is due; which keys end behind it, and
+-- whether the daemon mends then, as its options say (`Options`); what is received; and what the clients answer at the step
+-- of the message that is whole then, if one is.
+pub record Turn : Type 0 where
+  pub moment : ℕ
+  pub tick : Answering
+  pub ends : List KeyEnd
+  pub mends : Option Answering
+  pub got : LinkCall
+  pub answers : Answering
+
+-- behind a tick of its node, where that was due
+abbrev pub kept_up : Daemon → Turn → Daemon
+kept_up d t = mended_if t.mends (keys_over t.ends (ticked t.moment t.tick d))
+
+-- a turn: a tick where one is due, what the daemon does of its own, one receive, and the message that is whole by it
 unfoldable pub turned : Daemon → Turn → Daemon
-turned d t = heard t.got t.answers (ticked t.moment t.tick d)
+turned d t = heard t.got t.answers (kept_up d t)
 
 unfoldable pub turned_all : Daemon → List Turn → Daemon
 turned_all d ts = fold turned d ts
@@ -218,7 +288,7 @@ turned_all d ts = fold turned d ts
 -- all that comes from outside in a life: whether clients on other machines are served, the moment of the start, the calls
 -- of the settings, and turns
 pub record Life : Type 0 where
-  pub remote : Bool
+  pub remote : RemoteService
   pub start : ℕ
   pub opening : List Opening
   pub turns : List Turn
@@ -243,5 +313,5 @@ records_text rs = flat_map line_of rs
 
 -- opens each word of this file, for a computation
 unfoldable pub daemon_opens : Unit {0}
-unfolding left_for stepped_for begun_for opened opened_all own_calls received given called_by down_sent brought given_on heard turned turned_all lived records_text
+unfolding left_for stepped_for begun_for opened opened_all own_calls received given called_by down_sent brought given_on heard key_over mended turned turned_all lived records_text
 daemon_opens = tt

@@ -7,8 +7,8 @@ use Rattle.hags_io.specs.Fronts.{Went, WentFront}
 use Rattle.node_state.specs.declared.config.Config.{Config}
 use Rattle.node_state.specs.declared.happened.Happened.{Happened}
 use Rattle.daemon_model.specs.Sent.{Exchange, plain, as_sent, IsSpelledIf}
-use Rattle.daemon_model.specs.Daemon.{Daemon, Life, fresh, begun_for, opened, ticked, received, heard, records_text}
-use Rattle.daemon_model.specs.Actions.{Action, Opens, Ticks, Hears, did, life_actions}
+use Rattle.daemon_model.specs.Daemon.{Daemon, Life, fresh, begun_for, opened, ticked, key_over, mended, received, heard, records_text}
+use Rattle.daemon_model.specs.Actions.{Action, Opens, Ticks, EndsKey, Mends, Hears, did, life_actions}
 
 -- a moment is read; a datagram is received or a piece is sent; the lines of records are written, all at once
 pub data Doing : Type 0 where
@@ -32,6 +32,8 @@ since d e = step_doings (drop (length d.records) e.records) (drop (length d.call
 unfoldable pub doings : Daemon → Action → List Doing
 doings d (Opens opening) = since d (opened d opening)
 doings d (Ticks moment answers) = Reads moment ∷ since d (ticked moment answers d)
+doings d (EndsKey key answers) = since d (key_over key answers d)
+doings d (Mends answers) = since d (mended answers d)
 doings d (Hears got answers) = Exchanges (plain (as_sent got)) ∷ since (received got d) (heard got answers d)
 
 unfoldable pub doings_of : Daemon → List Action → List Doing

@@ -1,9 +1,12 @@
 pub mod Sent
 pub mod Daemon
 pub mod Actions
+pub mod Options
+pub mod Silence
 pub mod Doings
 pub mod Settings
 pub mod Lives
 pub mod Laws
 pub mod Samples
+pub mod OptionSamples
 pub mod Opens

@@ -14,6 +14,7 @@ use Rattle.node_state.specs.HandOn.{Answering}
 use Rattle.world_model.specs.Load.{settings_of}
 use Rattle.remote_session.specs.declared.messages.Answer.{Answer}
 use Rattle.remote_session.specs.Messages.{up_text, down_text}
+use Rattle.daemon_model.specs.declared.options.RemoteService.TheVariants as service
 use Rattle.daemon_model.specs.Sent.{call_of}
 use Rattle.daemon_model.specs.Daemon.{Daemon, Turn, lived}
 
@@ -25,15 +26,15 @@ unfoldable pub silent : Answering
 silent place sessions entry after p = None
 
 abbrev pub turn_at : ℕ → LinkCall → Turn
-turn_at moment got = record { moment = moment; tick = silent; got = got; answers = silent }
+turn_at moment got = record { moment = moment; tick = silent; ends = []; mends = None; got = got; answers = silent }
 
 -- it starts at moment 0, in a domain of these nodes
 unfoldable pub daemon_after : List ℕ → List Turn → Daemon
-daemon_after nodes turns = lived (settings_for nodes) 1 5 (record { remote = false; start = 0; opening = []; turns = turns })
+daemon_after nodes turns = lived (settings_for nodes) 1 5 (record { remote = service.Off; start = 0; opening = []; turns = turns })
 
 -- one that serves clients on other machines
 unfoldable pub server_after : List ℕ → List Turn → Daemon
-server_after nodes turns = lived (settings_for nodes) 1 5 (record { remote = true; start = 0; opening = []; turns = turns })
+server_after nodes turns = lived (settings_for nodes) 1 5 (record { remote = service.On false; start = 0; opening = []; turns = turns })
 
 unfoldable pub quiet_at : ℕ → Turn
 quiet_at moment = turn_at moment call.Quiet

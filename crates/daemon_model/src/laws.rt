@@ -1,22 +1,26 @@
 //! What holds of every life.
-ghost use Rattle.std.specs.Prelude.{◌≡◌, ℕ, None, false};
+ghost use Rattle.std.specs.Prelude.{◌≡◌, ℕ, None};
 ghost use Rattle.hags_io.specs.declared.link.LinkCall.{LinkCall};
 ghost use Rattle.node_state.specs.declared.config.Config.{Config};
 ghost use Rattle.node_state.specs.HandOn.{Answering};
+ghost use Rattle.daemon_model.specs.declared.options.RemoteService.TheVariants as service;
 ghost use Rattle.daemon_model.specs.Daemon.{Daemon, Life, joined_by, received, given, heard, lived};
 ghost use Rattle.daemon_model.specs.Actions.{LivesAreActions};
+ghost use Rattle.daemon_model.specs.Options.{NothingUnasked, PlainFollows, PlainTurns};
+ghost use Rattle.daemon_model.specs.Silence.{SilentKeysEnd};
 ghost use Rattle.daemon_model.specs.Laws.{LivesAreDoings, FrontsOfFronts, WrittenFirst, FrontsExchange, PlacingsArePlaces};
 
 /// A daemon that serves no clients on other machines never has a session of one, and a message is one for its node.
 #[tactic(auto, using(crate::proofs::AloneLaws::lived_alone, crate::proofs::AloneLaws::heard_alone))]
 pub fn alone_without_other_machines()
-    ensures lived { (c : Config) (me incarnation : ℕ) (life : Life) → life.remote ≡ false
-        → (lived c me incarnation life).sessions ≡ None }
+    ensures lived { (c : Config) (me incarnation : ℕ) (life : Life)
+        → life.remote ≡ service.Off → (lived c me incarnation life).sessions ≡ None }
     ensures heard { (d : Daemon) (got : LinkCall) (f : Answering) → d.sessions ≡ None
         → heard got f d ≡ given (joined_by got d.joining).message f (received got d) }
 {}
 
-/// A life is its acts, one after another: the calls of its settings, and of each turn the tick and the receive.
+/// A life is its acts, one after another: the calls of its settings, and of each turn the tick, what the daemon does of its
+/// own, and the receive.
 #[tactic(auto, using(crate::proofs::ActionLaws::lives_are_actions))]
 pub fn lives_are_actions()
     ensures { LivesAreActions }
@@ -36,4 +40,20 @@ pub fn lives_are_doings()
 pub fn did_up_to_now()
     ensures fronts { FrontsOfFronts }
     ensures written { WrittenFirst }
+{}
+
+/// A daemon that is asked for no ends of silent keys and not to mend does nothing of its own: each of its turns is a tick,
+/// where one is due, and a receive.
+#[tactic(auto, using(crate::proofs::OptionLaws::nothing_unasked, crate::proofs::OptionLaws::plain_follows, crate::proofs::OptionLaws::plain_turns))]
+pub fn nothing_unasked()
+    ensures nothing { NothingUnasked }
+    ensures follows { PlainFollows }
+    ensures turns { PlainTurns }
+{}
+
+/// A key of which no Up came for as many ticks as are borne has ended behind the tick, without a session and without a
+/// client, where the daemon may end so many keys.
+#[tactic(auto, using(crate::proofs::SilenceLaws::silent_end))]
+pub fn silent_keys_end()
+    ensures { SilentKeysEnd }
 {}

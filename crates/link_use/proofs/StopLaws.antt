@@ -11,3 +11,4 @@ stops_daemon t stop.LinkFault h = absurd h
 stops_daemon t stop.NoReply h = absurd h
 stops_daemon t stop.SessionLost h = absurd h
 stops_daemon t stop.DaemonFull h = absurd h
+stops_daemon t stop.Paused h = absurd h

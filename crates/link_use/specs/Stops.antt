@@ -5,7 +5,7 @@ use Rattle.link_use.specs.declared.stop.Stop.{Stop}
 use Rattle.link_use.specs.declared.stop.Stop.TheVariants as stop
 
 -- Memory has run out; or the last that was done is a write that failed. The link stops no step, nor does a reply that did
--- not come, nor the end of a session.
+-- not come, nor the end of a session, nor a pause.
 abbrev pub StopsBy : Telling → Stop → Type 0
 StopsBy t stop.NoMemory = Unit {0}
 StopsBy t stop.WriteFault = EndsByWrite t
@@ -13,6 +13,7 @@ StopsBy t stop.LinkFault = ⊥
 StopsBy t stop.NoReply = ⊥
 StopsBy t stop.SessionLost = ⊥
 StopsBy t stop.DaemonFull = ⊥
+StopsBy t stop.Paused = ⊥
 
 -- a daemon waits for no reply, and has no session with another
 abbrev pub StopsDaemon : Stop → Type 0
@@ -22,6 +23,17 @@ StopsDaemon stop.LinkFault = Unit {0}
 StopsDaemon stop.NoReply = ⊥
 StopsDaemon stop.SessionLost = ⊥
 StopsDaemon stop.DaemonFull = ⊥
+StopsDaemon stop.Paused = Unit {0}
+
+-- a client reads no pause off its clock
+abbrev pub StopsClient : Stop → Type 0
+StopsClient stop.NoMemory = Unit {0}
+StopsClient stop.WriteFault = Unit {0}
+StopsClient stop.LinkFault = Unit {0}
+StopsClient stop.NoReply = Unit {0}
+StopsClient stop.SessionLost = Unit {0}
+StopsClient stop.DaemonFull = Unit {0}
+StopsClient stop.Paused = ⊥
 
 -- who asks writes nothing, and has no session
 abbrev pub StopsQuestion : Stop → Type 0
@@ -31,3 +43,4 @@ StopsQuestion stop.LinkFault = Unit {0}
 StopsQuestion stop.NoReply = Unit {0}
 StopsQuestion stop.SessionLost = ⊥
 StopsQuestion stop.DaemonFull = ⊥
+StopsQuestion stop.Paused = ⊥

@@ -10,6 +10,8 @@ use Rattle.node_state.specs.declared.happened.Happened.TheVariants as happened
 use Rattle.node_state.specs.Step.{started}
 use Rattle.step_refinement.specs.Rules.{at_node}
 use Rattle.step_refinement.proofs.Changed.{set_here, set_there}
+use Rattle.daemon_model.specs.declared.options.RemoteService.{RemoteService}
+use Rattle.daemon_model.specs.declared.options.RemoteService.TheVariants as service
 use Rattle.daemon_model.specs.Sent.{Exchange}
 use Rattle.daemon_model.specs.Daemon.{Daemon, begun_for}
 use Rattle.daemon_model.specs.Actions.{Action, did, did_all}
@@ -75,13 +77,13 @@ idles_records : (c : Config) (n k : ℕ) (net : Net) → (idles c n k net).recor
 unfolding idles idle_records starts ends
 idles_records c n zero net = sym (append-nil net.records)
 idles_records c n (suc k) net =
-    idles_records c n k (ends n (starts false c n (net.incarnations n + 1) 0 net))
-    ∙ ap (λ i. ((net.records ++ (begun_for false c n (net.incarnations n + 1) 0).records) ++ happened.Down n ∷ []) ++ idle_records c n i k) (set_here net.incarnations n (net.incarnations n + 1))
-    ∙ ap (λ xs. ((net.records ++ xs) ++ happened.Down n ∷ []) ++ idle_records c n (net.incarnations n + 1) k) (begun_records false c n (net.incarnations n + 1) 0)
+    idles_records c n k (ends n (starts service.Off c n (net.incarnations n + 1) 0 net))
+    ∙ ap (λ i. ((net.records ++ (begun_for service.Off c n (net.incarnations n + 1) 0).records) ++ happened.Down n ∷ []) ++ idle_records c n i k) (set_here net.incarnations n (net.incarnations n + 1))
+    ∙ ap (λ xs. ((net.records ++ xs) ++ happened.Down n ∷ []) ++ idle_records c n (net.incarnations n + 1) k) (begun_records service.Off c n (net.incarnations n + 1) 0)
     ∙ append_assoc (net.records ++ (started c n (net.incarnations n + 1)).records) (happened.Down n ∷ []) (idle_records c n (net.incarnations n + 1) k)
     ∙ append_assoc net.records (started c n (net.incarnations n + 1)).records (happened.Down n ∷ idle_records c n (net.incarnations n + 1) k)
 
-started_wire : (remote : Bool) (c : Config) (n inc moment : ℕ) (net : Net) → (starts remote c n inc moment net).wire ≡ net.wire
+started_wire : (remote : RemoteService) (c : Config) (n inc moment : ℕ) (net : Net) → (starts remote c n inc moment net).wire ≡ net.wire
 unfolding starts
 started_wire remote c n inc moment net = ap (λ xs. net.wire ++ xs) (begun_calls remote c n inc moment) ∙ append-nil net.wire
 
@@ -89,9 +91,9 @@ idles_wire : (c : Config) (n k : ℕ) (net : Net) → (idles c n k net).wire ≡
 unfolding idles ends
 idles_wire c n zero net = refl
 idles_wire c n (suc k) net =
-    idles_wire c n k (ends n (starts false c n (net.incarnations n + 1) 0 net)) ∙ started_wire false c n (net.incarnations n + 1) 0 net
+    idles_wire c n k (ends n (starts service.Off c n (net.incarnations n + 1) 0 net)) ∙ started_wire service.Off c n (net.incarnations n + 1) 0 net
 
-begin_same : (c : Config) (n incarnation moment : ℕ) (remote : Bool) (net : Net) → Same c n net (Begins n incarnation moment remote)
+begin_same : (c : Config) (n incarnation moment : ℕ) (remote : RemoteService) (net : Net) → Same c n net (Begins n incarnation moment remote)
 unfolding acted begins starts at_of acted_at noted_at made_at
 begin_same c n incarnation moment remote net =
     let idled : Net = idles c n (incarnation - 1 - net.incarnations n) net in
@@ -143,9 +145,9 @@ idles_other : (c : Config) (m n k : ℕ) (net : Net) → n ≢ m → at_of n (id
 unfolding idles starts ends at_of
 idles_other c m n zero net ne = refl
 idles_other c m n (suc k) net ne =
-    let up : ℕ → Option Daemon = at_node net.daemons m (Some (begun_for false c m (net.incarnations m + 1) 0)) in
-    idles_other c m n k (ends m (starts false c m (net.incarnations m + 1) 0 net)) ne
-    ∙ (λ i. record { daemon = (set_there up m None n ne ∙ set_there net.daemons m (Some (begun_for false c m (net.incarnations m + 1) 0)) n ne) i; last = set_there net.incarnations m (net.incarnations m + 1) n ne i })
+    let up : ℕ → Option Daemon = at_node net.daemons m (Some (begun_for service.Off c m (net.incarnations m + 1) 0)) in
+    idles_other c m n k (ends m (starts service.Off c m (net.incarnations m + 1) 0 net)) ne
+    ∙ (λ i. record { daemon = (set_there up m None n ne ∙ set_there net.daemons m (Some (begun_for service.Off c m (net.incarnations m + 1) 0)) n ne) i; last = set_there net.incarnations m (net.incarnations m + 1) n ne i })
 
 does_other : (f : Daemon → Daemon) (m n : ℕ) (net : Net) (o : Option Daemon) → n ≢ m → at_of n (does_if f m o net) ≡ at_of n net
 unfolding at_of went_on

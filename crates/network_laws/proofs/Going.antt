@@ -8,12 +8,13 @@ use Rattle.node_state.specs.declared.config.Config.{Config}
 use Rattle.node_state.specs.declared.happened.Happened.{Happened}
 use Rattle.node_state.specs.HandOn.{Answering}
 use Rattle.node_state.specs.State.{with_sessions}
-use Rattle.node_state.specs.Step.{NodeEvent, Ticks, Calls, started, stepped}
-use Rattle.remote_session.specs.Daemon.{SeenUp, NotUp, KeysFull, KnownKey, CallMade}
+use Rattle.node_state.specs.Step.{NodeEvent, Ticks, Asks, Calls, started, stepped}
+use Rattle.remote_session.specs.Daemon.{SeenUp, NotUp, EndedKey, KeysFull, KnownKey, CallMade}
 use Rattle.step_refinement.specs.Rules.{at_node}
+use Rattle.daemon_model.specs.declared.options.RemoteService.{RemoteService}
 use Rattle.daemon_model.specs.Sent.{Exchange, plain, said, as_sent, message_calls, sent_calls}
-use Rattle.daemon_model.specs.Daemon.{Daemon, Opening, left_for, stepped_for, stepped_by, begun_for, opened, is_due, ticked_if, joined_by, received, given, up_in, with_up, call_in, line_carried, called_by, down_in, down_sent, brought, given_on, network_of, heard}
-use Rattle.daemon_model.specs.Actions.{Action, Opens, Hears, did}
+use Rattle.daemon_model.specs.Daemon.{Daemon, Opening, left_for, stepped_for, stepped_by, begun_for, opened, is_due, ticked_if, joined_by, received, given, up_in, with_up, call_in, line_carried, called_by, down_in, down_sent, brought, given_on, network_of, heard, goodbye_in, goodbye_said, key_over, mended}
+use Rattle.daemon_model.specs.Actions.{Action, Opens, EndsKey, Mends, Hears, did}
 use Rattle.daemon_model.specs.Actions as action
 use Rattle.network_model.specs.Network.{Net, made_since, noted_since, went_on}
 
@@ -74,11 +75,11 @@ goes_twice n d e g net a b =
 -- ---- a start
 
 -- a daemon that starts has recorded that it is up, and has sent nothing
-pub begun_records : (remote : Bool) (c : Config) (n inc moment : ℕ) → (begun_for remote c n inc moment).records ≡ (started c n inc).records
+pub begun_records : (remote : RemoteService) (c : Config) (n inc moment : ℕ) → (begun_for remote c n inc moment).records ≡ (started c n inc).records
 unfolding begun_for left_for
 begun_records remote c n inc moment = refl
 
-pub begun_calls : (remote : Bool) (c : Config) (n inc moment : ℕ) → (begun_for remote c n inc moment).calls ≡ []
+pub begun_calls : (remote : RemoteService) (c : Config) (n inc moment : ℕ) → (begun_for remote c n inc moment).calls ≡ []
 unfolding begun_for left_for started with_sessions sent_calls
 begun_calls remote c n inc moment = refl
 
@@ -99,7 +100,9 @@ pub due_more : (moment : ℕ) (d : Daemon) → More d (record d { last = moment 
 due_more moment d = record { calls = []; called = sym (append-nil d.calls); records = []; recorded = sym (append-nil d.records) }
 
 pub tick_more : (b : Bool) (moment : ℕ) (f : Answering) (d : Daemon) → More d (ticked_if b moment f d)
-tick_more true moment f d = more_on d (record d { last = moment }) (ticked_if true moment f d) (due_more moment d) (step_more f Ticks (record d { last = moment }))
+tick_more true moment f d =
+    let s : More (record d { last = moment }) (stepped_by f Ticks (record d { last = moment })) = step_more f Ticks (record d { last = moment }) in
+    more_on d (record d { last = moment }) (ticked_if true moment f d) (due_more moment d) (record { calls = s.calls; called = s.called; records = s.records; recorded = s.recorded })
 tick_more false moment f d = due_more d.last d
 
 -- ---- a receive
@@ -125,6 +128,8 @@ carried_more key (Some a) message f d =
 brought_more : (u : SeenUp) (network : ℕ) (message : List ℕ) (f : Answering) (d : Daemon) → More d (brought u network message f d)
 unfolding brought given called_by
 brought_more NotUp network message f d = step_more f _ d
+brought_more (EndedKey key) network message f d =
+    more_on d (with_up message d) (down_sent key network (with_up message d)) (same_more d (with_up message d) refl refl) (down_more key network (with_up message d))
 brought_more (KeysFull key limit) network message f d =
     more_on d (with_up message d) (down_sent key network (with_up message d)) (same_more d (with_up message d) refl refl) (down_more key network (with_up message d))
 brought_more (KnownKey key) network message f d =
@@ -144,10 +149,30 @@ unfolding heard
 heard_more got f d =
     more_on d (received got d) (heard got f d) (received_more got d) (given_on_more (network_of got) (joined_by got d.joining).message f (received got d))
 
+-- ---- what it does of its own
+
+goodbye_more : (key : ℕ) (o : Option CallLine) (f : Answering) (d : Daemon) → More d (goodbye_said key o f d)
+unfolding left_for
+goodbye_more key None f d = same_more d d refl refl
+goodbye_more key (Some a) f d =
+    record { calls = sent_calls d.me d.incarnation d.number (stepped f d.core (Calls a)).sends; called = refl; records = (stepped f d.core (Calls a)).records; recorded = refl }
+
+pub over_more : (key : ℕ) (f : Answering) (d : Daemon) → More d (key_over key f d)
+unfolding key_over
+over_more key f d =
+    let m : More d (goodbye_said key (goodbye_in d.sessions key) f d) = goodbye_more key (goodbye_in d.sessions key) f d in
+    record { calls = m.calls; called = m.called; records = m.records; recorded = m.recorded }
+
+pub mended_more : (f : Answering) (d : Daemon) → More d (mended f d)
+unfolding mended
+mended_more f d = step_more f (Asks _) d
+
 -- ---- an act
 
 pub did_more : (d : Daemon) (a : Action) → More d (did d a)
 unfolding did
 did_more d (Opens opening) = open_more d opening
 did_more d (action.Ticks moment answers) = tick_more (is_due d.last moment) moment answers d
+did_more d (EndsKey key answers) = over_more key answers d
+did_more d (Mends answers) = mended_more answers d
 did_more d (Hears got answers) = heard_more got answers d

@@ -12,7 +12,7 @@ use Rattle.hags_io.specs.declared.link.LinkCall.TheVariants as call
 use Rattle.node_state.specs.declared.config.Config.{Config}
 use Rattle.daemon_model.specs.Sent.{Exchange}
 use Rattle.daemon_model.specs.Daemon.{Daemon, begun_for}
-use Rattle.daemon_model.specs.Actions.{Action, Opens, Ticks, Hears, did}
+use Rattle.daemon_model.specs.Actions.{Action, Opens, Ticks, EndsKey, Mends, Hears, did}
 use Rattle.network_model.specs.Network.{Act, Begins, Does, Ends, Net, no_net, made_since, acted}
 use Rattle.network_model.specs.Lives.{end_of, acts_of, is_at, AreLives}
 use Rattle.network_model.specs.Fits.{IsSend, WasSent, MayCome, IsSpelledSend, MayDo, OfUp, MayAct, AllMayAct}
@@ -242,6 +242,8 @@ module _ {T : Type 0} (no_later : T → T → Bool) (linear : IsLinear T no_late
   MayBring net rest t (Hears got f) = MayCome (Ready net rest t) got
   MayBring net rest t (Opens o) = Unit {0}
   MayBring net rest t (Ticks moment f) = Unit {0}
+  MayBring net rest t (EndsKey key f) = Unit {0}
+  MayBring net rest t (Mends f) = Unit {0}
 
   MayBringIf : Net → List (Timed T Act) → T → Act → Type 0
   MayBringIf net rest t (Does n x) = MayBring net rest t x
@@ -276,6 +278,8 @@ module _ {T : Type 0} (no_later : T → T → Bool) (linear : IsLinear T no_late
     unfolding MayBring
     may_do (Opens o) h = tt
     may_do (Ticks moment f) h = tt
+    may_do (EndsKey key f) h = tt
+    may_do (Mends f) h = tt
     may_do (Hears got f) h = comes_as (Ready net (a ∷ more) a.time) (λ b. WasSent P b net.wire) was_sent got h
 
     of_up : (M : Type 0) (o : Option Daemon) → IsUpAt o → M → OfUp (λ d. M) o
@@ -337,6 +341,8 @@ module _ {T : Type 0} (no_later : T → T → Bool) (linear : IsLinear T no_late
     brings_after t (Ends n) h = tt
     brings_after t (Does n (Opens o)) h = tt
     brings_after t (Does n (Ticks moment f)) h = tt
+    brings_after t (Does n (EndsKey key f)) h = tt
+    brings_after t (Does n (Mends f)) h = tt
     brings_after t (Does n (Hears got f)) h = comes_as (Ready net (a ∷ more) t) (Ready after more t) (ready_after t) got h
 
     going_after : Going after more
@@ -389,6 +395,8 @@ module _ {T : Type 0} (no_later : T → T → Bool) (linear : IsLinear T no_late
     unfolding MayBring
     hears_ready t (Opens o) h = tt
     hears_ready t (Ticks moment f) h = tt
+    hears_ready t (EndsKey key f) h = tt
+    hears_ready t (Mends f) h = tt
     hears_ready t (Hears got f) h = comes_as (WasSentBefore T no_later P c lives t) (Ready no_net acts t) (sent_ready t) got h
 
     done_ready : (n : ℕ) (t : T) (y : Action) → IsDone (lives n) t y → MayBring no_net acts t y

@@ -5,6 +5,7 @@ use Rattle.rsct_packet.specs.Ids.{last_u32}
 use Rattle.piece_link.specs.Answers.{Among}
 use Rattle.node_state.specs.declared.config.Config.{Config}
 use Rattle.node_state.specs.Settings.{is_fixed}
+use Rattle.daemon_model.specs.declared.options.RemoteService.{RemoteService}
 use Rattle.daemon_model.specs.Sent.{Exchange}
 use Rattle.daemon_model.specs.Daemon.{Daemon, begun_for}
 use Rattle.daemon_model.specs.Actions.{Action, Hears, did}
@@ -39,7 +40,7 @@ NeverBack {T} {A} no_later (x ∷ xs) = ((y : Timed T A) → Among y xs → no_l
 -- clock is read, and a receive as its datagram is taken: so what an act sends it sends later than it begins.
 pub record TimedLife (T : Type 0) : Type 0 where
   pub incarnation : ℕ
-  pub remote : Bool
+  pub remote : RemoteService
   pub start : ℕ
   pub began : T
   pub actions : List (Timed T Action)

@@ -14,7 +14,7 @@ use Rattle.node_state.specs.Settings.{is_fixed}
 use Rattle.node_state.specs.Bytes.{packet_of}
 use Rattle.daemon_model.specs.Sent.{Exchange, IsSpelledIf}
 use Rattle.daemon_model.specs.Daemon.{Daemon}
-use Rattle.daemon_model.specs.Actions.{Action, Opens, Ticks, Hears}
+use Rattle.daemon_model.specs.Actions.{Action, Opens, Ticks, EndsKey, Mends, Hears}
 use Rattle.network_model.specs.Network.{Act, Begins, Does, Ends, Net, no_net, acted}
 
 -- ---- what a receive brings
@@ -74,6 +74,8 @@ pub record MayBegin (net : Net) (n incarnation : ℕ) : Type 0 where
 abbrev pub MayDo : (Exchange → Type 0) → List Exchange → Action → Type 0
 MayDo P wire (Opens opening) = Unit {0}
 MayDo P wire (Ticks moment answers) = Unit {0}
+MayDo P wire (EndsKey key answers) = Unit {0}
+MayDo P wire (Mends answers) = Unit {0}
 MayDo P wire (Hears got answers) = MayCome (λ bytes. WasSent P bytes wire) got
 
 -- a daemon of the node is up, and this holds of it

@@ -4,6 +4,7 @@ use Rattle.node_state.specs.declared.config.Config.{Config}
 use Rattle.node_state.specs.declared.happened.Happened.{Happened}
 use Rattle.node_state.specs.declared.happened.Happened.TheVariants as happened
 use Rattle.node_state.specs.Step.{started}
+use Rattle.daemon_model.specs.declared.options.RemoteService.{RemoteService}
 use Rattle.daemon_model.specs.Daemon.{Daemon, Life, begun_for}
 use Rattle.daemon_model.specs.Actions.{Action, did_all, life_actions}
 use Rattle.network_model.specs.Network.{Act, Begins, Does, Ends, Net, no_net, acted}
@@ -12,7 +13,7 @@ use Rattle.network_model.specs.Network.{Act, Begins, Does, Ends, Net, no_net, ac
 -- started, its acts, and whether it has ended
 pub record LifeIn : Type 0 where
   pub incarnation : ℕ
-  pub remote : Bool
+  pub remote : RemoteService
   pub start : ℕ
   pub actions : List Action
   pub ended : Bool

@@ -1,9 +1,11 @@
 -- A network of daemons: daemons that start, act and end, all in one order.
-use Rattle.std.specs.Prelude.{ℕ, zero, suc, ◌+◌, ◌-◌, Bool, false, List, [], ◌∷◌, ◌++◌, length, drop, fold, Option, Some, None}
+use Rattle.std.specs.Prelude.{ℕ, zero, suc, ◌+◌, ◌-◌, List, [], ◌∷◌, ◌++◌, length, drop, fold, Option, Some, None}
 use Rattle.node_state.specs.declared.config.Config.{Config}
 use Rattle.node_state.specs.declared.happened.Happened.{Happened}
 use Rattle.node_state.specs.declared.happened.Happened.TheVariants as happened
 use Rattle.step_refinement.specs.Rules.{at_node}
+use Rattle.daemon_model.specs.declared.options.RemoteService.{RemoteService}
+use Rattle.daemon_model.specs.declared.options.RemoteService.TheVariants as service
 use Rattle.daemon_model.specs.Sent.{Exchange}
 use Rattle.daemon_model.specs.Daemon.{Daemon, begun_for}
 use Rattle.daemon_model.specs.Actions.{Action, did}
@@ -11,7 +13,7 @@ use Rattle.daemon_model.specs.Actions.{Action, did}
 -- what happens in a network: the daemon of a node starts, in an incarnation and at a moment, and serves clients on other
 -- machines or not; it acts; and it ends, however it does
 pub data Act : Type 0 where
-  Begins : (node incarnation moment : ℕ) (remote : Bool) → Act
+  Begins : (node incarnation moment : ℕ) (remote : RemoteService) → Act
   Does : (node : ℕ) (action : Action) → Act
   Ends : (node : ℕ) → Act
 
@@ -48,7 +50,7 @@ went_on n d e net = record net {
 
 -- ---- acts
 
-unfoldable pub starts : Bool → Config → ℕ → ℕ → ℕ → Net → Net
+unfoldable pub starts : RemoteService → Config → ℕ → ℕ → ℕ → Net → Net
 starts remote c n incarnation moment net =
     let d : Daemon = begun_for remote c n incarnation moment in
     record {
@@ -64,13 +66,13 @@ ends n net = record net { daemons = at_node net.daemons n None; records = net.re
 -- in each of the next incarnations, so many, the node starts and is down at once
 unfoldable pub idles : Config → ℕ → ℕ → Net → Net
 idles c n zero net = net
-idles c n (suc k) net = idles c n k (ends n (starts false c n (net.incarnations n + 1) 0 net))
+idles c n (suc k) net = idles c n k (ends n (starts service.Off c n (net.incarnations n + 1) 0 net))
 
 -- how many incarnations a node skips that starts in this one
 abbrev pub skipped : Net → ℕ → ℕ → ℕ
 skipped net n incarnation = incarnation - 1 - net.incarnations n
 
-unfoldable pub begins : Bool → Config → ℕ → ℕ → ℕ → Net → Net
+unfoldable pub begins : RemoteService → Config → ℕ → ℕ → ℕ → Net → Net
 begins remote c n incarnation moment net = starts remote c n incarnation moment (idles c n (skipped net n incarnation) net)
 
 -- what the daemon of a node does, if it is up

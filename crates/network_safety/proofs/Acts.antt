@@ -2,13 +2,14 @@
 use Rattle.std.proofs.Common.{◌≡◌, ℕ, List, [], ◌∷◌, ◌++◌, Bool, true, false, Option, Some, None, refl, sym, ap, ◌∙◌, subst, inl, inr, append-nil}
 use Rattle.std.specs.Prelude.{◌⊎◌, ◌==◌, find}
 use Rattle.std.proofs.lemmas.Bool.{eqb-true}
+use Rattle.rsct_packet.specs.declared.mask.Mask.{Mask}
 use Rattle.rsct_packet.specs.Search.{Has}
 use Rattle.node_state.specs.declared.config.Config.{Config}
 use Rattle.node_state.specs.declared.packet.Packet.{Packet}
 use Rattle.node_state.specs.declared.state.Core.{Core}
 use Rattle.node_state.specs.HandOn.{Answering}
 use Rattle.node_state.specs.Bytes.{packet_of, event_in, event_of}
-use Rattle.node_state.specs.Step.{NodeEvent, Ticks, Given, Calls, Garbage, at_work, stepped}
+use Rattle.node_state.specs.Step.{NodeEvent, Ticks, Asks, Given, Calls, Garbage, at_work, stepped}
 use Rattle.world_model.specs.declared.event.Event.{Event}
 use Rattle.world_model.specs.declared.event.Event.TheVariants as event
 use Rattle.world_model.specs.World.{World, is_node, node_at, kth_between, scripts_after}
@@ -64,6 +65,11 @@ module _ (c : Config) (net : Net) (es : List Answered) (w : World) (k : Stand c 
   pub ticks : (f : Answering) → IsStep c net es w k n d at f Ticks (answered_by f (event.Tick n)) (stepped f its_node.node.core Ticks)
   unfolding happens_by
   ticks f = alike f Ticks (answered_by f (event.Tick n)) tt (plain f Ticks tt)
+
+  -- an order to ask for a view
+  pub asks : (f : Answering) (mask : Mask) → IsStep c net es w k n d at f (Asks mask) (answered_by f (event.Ask n mask)) (stepped f its_node.node.core (Asks mask))
+  unfolding happens_by
+  asks f mask = alike f (Asks mask) (answered_by f (event.Ask n mask)) tt (plain f (Asks mask) tt)
 
   pub drops : (f : Answering) (bytes : List ℕ) → IsStep c net es w k n d at f Garbage (answered_by f (event.Garbage n bytes)) (stepped f its_node.node.core Garbage)
   unfolding happens_by

@@ -10,7 +10,7 @@ use Rattle.world_model.specs.World.{World}
 use Rattle.world_model.specs.declared.event.Event.TheVariants as event
 use Rattle.world_laws.specs.world_answers.Answers.{Answered, goes_on}
 use Rattle.step_refinement.proofs.Changed.{set_here}
-use Rattle.remote_session.specs.Daemon.{SeenUp, NotUp, KeysFull, KnownKey, CallMade, down_for}
+use Rattle.remote_session.specs.Daemon.{SeenUp, NotUp, EndedKey, KeysFull, KnownKey, CallMade, down_for}
 use Rattle.remote_clients.specs.declared.sessions.Sessions.{Sessions}
 use Rattle.daemon_model.specs.Daemon.{Daemon, Opening, left_for, up_in, with_up, call_in, line_carried, called_by, down_in, down_sent, brought, given_on}
 use Rattle.network_model.specs.Network.{Net, went_on}
@@ -89,6 +89,7 @@ module _ (c : Config) (n : ℕ) (f : Answering) where
     brought_gives : (u : SeenUp) (network : ℕ) (message : List ℕ) → IsKnown w message → Gives c net es n d (brought u network message f d) (BroughtEvents n d u message f)
     unfolding brought called_by
     brought_gives NotUp network message known = message_gives c net es w k n d at f message known
+    brought_gives (EndedKey key) network message known = speaks key network message
     brought_gives (KeysFull key limit) network message known = speaks key network message
     brought_gives (KnownKey key) network message known = speaks key network message
     brought_gives (CallMade key line) network message known = calls_by (call_in (with_up message d).sessions d.me key line) key network message

@@ -7,6 +7,7 @@ use Rattle.node_state.specs.declared.config.Config.{Config}
 use Rattle.node_state.specs.declared.config.Mode.{Mode}
 use Rattle.node_state.specs.declared.config.Mode.TheVariants.{Fixed, Asked, Rings}
 use Rattle.node_state.specs.declared.happened.Happened.{Happened}
+use Rattle.node_reach.specs.Reach.{reach_of}
 use Rattle.node_state.specs.HandOn.{Answering}
 use Rattle.node_state.specs.Settings.{is_fixed}
 use Rattle.node_state.specs.Step.{Calls, stepped}
@@ -18,21 +19,22 @@ use Rattle.world_safety.specs.Scripts.{IsSafe}
 use Rattle.world_safety.proofs.Scripts.{every_answer_is_safe}
 use Rattle.hags_io.specs.declared.link.LinkCall.{LinkCall}
 use Rattle.piece_link.specs.Answers.{Among}
+use Rattle.daemon_model.specs.declared.options.RemoteService.{RemoteService}
 use Rattle.daemon_model.specs.Sent.{Exchange}
 use Rattle.daemon_model.specs.Doings.{Doing, Reads, Exchanges, Writes, AreSpelled, exchanges_in}
-use Rattle.daemon_model.specs.Daemon.{Daemon, Opening, opened, is_due, ticked, heard, left_for, stepped_for}
-use Rattle.daemon_model.specs.Actions.{Action, Opens, Ticks, Hears, did}
+use Rattle.daemon_model.specs.Daemon.{Daemon, Opening, opened, is_due, ticked, heard, goodbye_in, key_over, mended, left_for, stepped_for}
+use Rattle.daemon_model.specs.Actions.{Action, Opens, Ticks, EndsKey, Mends, Hears, did}
 use Rattle.network_model.specs.Network.{Act, Begins, Does, Ends, Net, no_net, skipped, went_on, begins, idles, starts, does_if, acted, net_after}
 use Rattle.network_model.specs.Fits.{WasSent, IsSpelledSend, MayBegin, MayDo, OfUp, MayAct, AllMayAct}
 use Rattle.network_model.specs.Executions.{IsLinear, what_of, TimedLife, untimed, Execution, Ordered}
-use Rattle.network_safety.specs.Safe.{answered_by, silent, idle_events, tick_events, ActionEvents, ActEvents, AreEventsOf, NetworksOfDaemonsAreSafe, IsSafeExecution, ExecutionsAreSafe}
+use Rattle.network_safety.specs.Safe.{answered_by, silent, idle_events, tick_events, call_events, ActionEvents, ActEvents, AreEventsOf, NetworksOfDaemonsAreSafe, IsSafeExecution, ExecutionsAreSafe}
 use Rattle.network_safety.specs.Served.{Served, WasTold, ServedDaemonsAreSafe}
 use Rattle.network_laws.proofs.Apart.{nodes_record_their_lives}
 use Rattle.network_laws.proofs.Orders.{comes_as, are_lives, has_an_order}
 use Rattle.network_safety.proofs.Standing.{Stands, Stand}
 use Rattle.network_safety.proofs.Stepping.{steps_to, step_stands}
 use Rattle.network_safety.proofs.Acts.{its_node, called}
-use Rattle.network_safety.proofs.Turning.{Went, tick_goes, HearGoes, hear_goes}
+use Rattle.network_safety.proofs.Turning.{Went, tick_goes, over_goes, mended_goes, HearGoes, hear_goes}
 use Rattle.network_safety.proofs.Lives.{Idled, idles_stand, start_stands, end_stands}
 
 -- ---- before anything happened
@@ -77,7 +79,7 @@ record ActGoes (c : Config) (net : Net) (es : List Answered) (a : Act) : Type 0 
   stand : Stand c (acted c net a) (es ++ events) world
 
 module _ (c : Config) (free : is_fixed c.mode ≡ false) (net : Net) (es : List Answered) (w : World) (k : Stand c net es w) where
-  begin_goes : (n incarnation moment : ℕ) (remote : Bool) → MayBegin net n incarnation → ActGoes c net es (Begins n incarnation moment remote)
+  begin_goes : (n incarnation moment : ℕ) (remote : RemoteService) → MayBegin net n incarnation → ActGoes c net es (Begins n incarnation moment remote)
   unfolding acted begins
   begin_goes n incarnation moment remote may =
       let i : ℕ = skipped net n incarnation in
@@ -117,6 +119,32 @@ module _ (c : Config) (free : is_fixed c.mode ≡ false) (net : Net) (es : List 
         stand = subst (λ q. Stand c (does_if (λ d. ticked moment f d) n q net) (es ++ tick_events (is_due d.last moment) n f) g.world) (sym at) g.stand;
       }
 
+  ending : (n key : ℕ) (f : Answering) (d : Option Daemon) → net.daemons n ≡ d → OfUp (λ d. Unit {0}) d → ActGoes c net es (Does n (EndsKey key f))
+  unfolding acted did
+  ending n key f None at may = absurd may
+  ending n key f (Some d) at may =
+      let events : List Answered = call_events n (goodbye_in d.sessions key) f in
+      let g : Went c (went_on n d (key_over key f d) net) (es ++ events) = over_goes c net es w k n d at key f in
+      record {
+        events = events;
+        are = subst (OfUp (λ g. ActionEvents n g (EndsKey key f) events)) (sym at) refl;
+        world = g.world;
+        stand = subst (λ q. Stand c (does_if (λ d. key_over key f d) n q net) (es ++ events) g.world) (sym at) g.stand;
+      }
+
+  mending : (n : ℕ) (f : Answering) (d : Option Daemon) → net.daemons n ≡ d → OfUp (λ d. Unit {0}) d → ActGoes c net es (Does n (Mends f))
+  unfolding acted did
+  mending n f None at may = absurd may
+  mending n f (Some d) at may =
+      let events : List Answered = answered_by f (event.Ask n (reach_of d.core.reach)) ∷ [] in
+      let g : Went c (went_on n d (mended f d) net) (es ++ events) = mended_goes c net es w k n d at f in
+      record {
+        events = events;
+        are = subst (OfUp (λ g. ActionEvents n g (Mends f) events)) (sym at) refl;
+        world = g.world;
+        stand = subst (λ q. Stand c (does_if (λ d. mended f d) n q net) (es ++ events) g.world) (sym at) g.stand;
+      }
+
   hearing : (n : ℕ) (got : LinkCall) (f : Answering) (d : Option Daemon) → net.daemons n ≡ d → OfUp (λ d. MayDo IsSpelledSend net.wire (Hears got f)) d → ActGoes c net es (Does n (Hears got f))
   unfolding acted did
   hearing n got f None at may = absurd may
@@ -139,6 +167,8 @@ module _ (c : Config) (free : is_fixed c.mode ≡ false) (net : Net) (es : List 
   act_goes (Begins n incarnation moment remote) may = begin_goes n incarnation moment remote may
   act_goes (Does n (Opens o)) may = opening n o (net.daemons n) refl may
   act_goes (Does n (Ticks moment f)) may = ticking n moment f (net.daemons n) refl may
+  act_goes (Does n (EndsKey key f)) may = ending n key f (net.daemons n) refl may
+  act_goes (Does n (Mends f)) may = mending n f (net.daemons n) refl may
   act_goes (Does n (Hears got f)) may = hearing n got f (net.daemons n) refl may
   act_goes (Ends n) may = end_goes n (net.daemons n) refl may
 
@@ -185,6 +215,8 @@ module _ (c : Config) (P Q : Exchange → Type 0) (weaker : (x : Exchange) → P
   may_do_as : (wire : List Exchange) (x : Action) → MayDo P wire x → MayDo Q wire x
   may_do_as wire (Opens o) h = h
   may_do_as wire (Ticks moment f) h = h
+  may_do_as wire (EndsKey key f) h = h
+  may_do_as wire (Mends f) h = h
   may_do_as wire (Hears got f) h = comes_as (λ bytes. WasSent P bytes wire) (λ bytes. WasSent Q bytes wire) (sent_as wire) got h
 
   up_as : (wire : List Exchange) (x : Action) (d : Option Daemon) → OfUp (λ d. MayDo P wire x) d → OfUp (λ d. MayDo Q wire x) d

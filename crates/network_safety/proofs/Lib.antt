@@ -11,6 +11,7 @@ pub mod Turning
 pub mod Lives
 pub mod Law
 pub mod Strangers
+pub mod Gone
 pub mod Rings
 pub mod OwnLogs
 pub mod Logs

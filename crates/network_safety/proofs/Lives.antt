@@ -1,5 +1,5 @@
 -- Daemons start and end, and each incarnation that is skipped is a life in which a node does nothing.
-use Rattle.std.proofs.Common.{◌≡◌, ◌≢◌, ◌<◌, ◌≤◌, ◌+◌, ◌^◌, ℕ, zero, suc, Bool, List, [], ◌∷◌, ◌++◌, Some, None, false, refl, sym, ap, ◌∙◌, subst, inl, inr, arith, append-nil, append_assoc}
+use Rattle.std.proofs.Common.{◌≡◌, ◌≢◌, ◌<◌, ◌≤◌, ◌+◌, ◌^◌, ℕ, zero, suc, List, [], ◌∷◌, ◌++◌, Some, None, false, refl, sym, ap, ◌∙◌, subst, inl, inr, arith, append-nil, append_assoc}
 use Rattle.std.specs.Prelude.{find}
 use Rattle.std.proofs.lemmas.Bool.{cases_eq}
 use Rattle.rsct_packet.specs.Ids.{last_u32}
@@ -15,6 +15,8 @@ use Rattle.step_refinement.proofs.Changed.{set_here, set_there, each_set}
 use Rattle.world_safety.specs.Mirrors.{inc_at}
 use Rattle.piece_link.specs.Pieces.{Message}
 use Rattle.piece_link.specs.Answers.{Among}
+use Rattle.daemon_model.specs.declared.options.RemoteService.{RemoteService}
+use Rattle.daemon_model.specs.declared.options.RemoteService.TheVariants as service
 use Rattle.daemon_model.specs.Daemon.{Daemon, left_for, begun_for}
 use Rattle.network_model.specs.Network.{Net, starts, ends, idles}
 use Rattle.network_laws.proofs.Going.{begun_records, begun_calls}
@@ -27,19 +29,19 @@ use Rattle.network_safety.proofs.Standing.{IsCore, Facts, facts, NodeOf, node_of
 -- ---- a start
 
 -- a daemon that starts has its node, at work
-begun_core : (remote : Bool) (c : Config) (n inc moment : ℕ) → (begun_for remote c n inc moment).core ≡ at_work (started c n inc)
+begun_core : (remote : RemoteService) (c : Config) (n inc moment : ℕ) → (begun_for remote c n inc moment).core ≡ at_work (started c n inc)
 unfolding begun_for left_for
 begun_core remote c n inc moment = refl
 
-begun_up : (remote : Bool) (ms : List Message) (c : Config) (n inc moment : ℕ) → n ≤ 32 → inc < 2 ^ 32 → IsUp ms n inc (begun_for remote c n inc moment)
+begun_up : (remote : RemoteService) (ms : List Message) (c : Config) (n inc moment : ℕ) → n ≤ 32 → inc < 2 ^ 32 → IsUp ms n inc (begun_for remote c n inc moment)
 unfolding begun_for left_for
 begun_up remote ms c n inc moment most fits = record { most = most; fits = fits; me = refl; incarnation = refl; rests = start_rests c n inc; joined = none_joined ms }
 
-begun_inc : (remote : Bool) (c : Config) (n inc moment : ℕ) → (begun_for remote c n inc moment).incarnation ≡ inc
+begun_inc : (remote : RemoteService) (c : Config) (n inc moment : ℕ) → (begun_for remote c n inc moment).incarnation ≡ inc
 unfolding begun_for left_for
 begun_inc remote c n inc moment = refl
 
-module _ (c : Config) (net : Net) (es : List Answered) (w : World) (k : Stand c net es w) (remote : Bool) (n moment : ℕ) (free : is_fixed c.mode ≡ false) (some : 1 ≤ n) (most : n ≤ 32) (down : net.daemons n ≡ None) (less : net.incarnations n < last_u32) where
+module _ (c : Config) (net : Net) (es : List Answered) (w : World) (k : Stand c net es w) (remote : RemoteService) (n moment : ℕ) (free : is_fixed c.mode ≡ false) (some : 1 ≤ n) (most : n ≤ 32) (down : net.daemons n ≡ None) (less : net.incarnations n < last_u32) where
   same_core : (v : Config) (i : ℕ) → v ≡ c → i ≡ net.incarnations n → IsCore (Some (begun_for remote c n (net.incarnations n + 1) moment)) (Some (started v n (i + 1)))
   same_core v i e f = ap (λ (z : Config). at_work (started z n (i + 1))) e ∙ ap (λ j. at_work (started c n (j + 1))) f ∙ sym (begun_core remote c n (net.incarnations n + 1) moment)
 
@@ -134,11 +136,11 @@ ended_inc : (n : ℕ) (net : Net) (m : ℕ) → (ends n net).incarnations m ≡ 
 unfolding ends
 ended_inc n net m = refl
 
-started_up : (remote : Bool) (c : Config) (n inc moment : ℕ) (net : Net) → (starts remote c n inc moment net).daemons n ≡ Some (begun_for remote c n inc moment)
+started_up : (remote : RemoteService) (c : Config) (n inc moment : ℕ) (net : Net) → (starts remote c n inc moment net).daemons n ≡ Some (begun_for remote c n inc moment)
 unfolding starts
 started_up remote c n inc moment net = set_here net.daemons n (Some (begun_for remote c n inc moment))
 
-started_inc : (remote : Bool) (c : Config) (n inc moment : ℕ) (net : Net) → (starts remote c n inc moment net).incarnations n ≡ inc
+started_inc : (remote : RemoteService) (c : Config) (n inc moment : ℕ) (net : Net) → (starts remote c n inc moment net).incarnations n ≡ inc
 unfolding starts
 started_inc remote c n inc moment net = set_here net.incarnations n inc
 
@@ -153,10 +155,10 @@ unfolding idles
 idles_stand c n free some most zero net es w k down less =
     record { world = w; stand = subst (λ zs. Stand c net zs w) (sym (append-nil es)) k; down = down; risen = omega arith }
 idles_stand c n free some most (suc i) net es w k down less =
-    let up : Net = starts false c n (net.incarnations n + 1) 0 net in
-    let s1 : Stand c up (es ++ silent (event.Start n) ∷ []) (goes_on w (silent (event.Start n))) = start_stands c net es w k false n 0 free some most down (omega (arith, less)) in
-    let s2 = end_stands c up (es ++ silent (event.Start n) ∷ []) (goes_on w (silent (event.Start n))) s1 n (begun_for false c n (net.incarnations n + 1) 0) (started_up false c n (net.incarnations n + 1) 0 net) in
-    let now : (ends n up).incarnations n ≡ net.incarnations n + 1 = ended_inc n up n ∙ started_inc false c n (net.incarnations n + 1) 0 net in
+    let up : Net = starts service.Off c n (net.incarnations n + 1) 0 net in
+    let s1 : Stand c up (es ++ silent (event.Start n) ∷ []) (goes_on w (silent (event.Start n))) = start_stands c net es w k service.Off n 0 free some most down (omega (arith, less)) in
+    let s2 = end_stands c up (es ++ silent (event.Start n) ∷ []) (goes_on w (silent (event.Start n))) s1 n (begun_for service.Off c n (net.incarnations n + 1) 0) (started_up service.Off c n (net.incarnations n + 1) 0 net) in
+    let now : (ends n up).incarnations n ≡ net.incarnations n + 1 = ended_inc n up n ∙ started_inc service.Off c n (net.incarnations n + 1) 0 net in
     let r : Idled c (ends n up) ((es ++ silent (event.Start n) ∷ []) ++ silent (event.Stop n) ∷ []) n i = idles_stand c n free some most i (ends n up) ((es ++ silent (event.Start n) ∷ []) ++ silent (event.Stop n) ∷ []) (goes_on (goes_on w (silent (event.Start n))) (silent (event.Stop n))) s2 (ended_down n up) (omega (arith, now, less)) in
     let risen : (idles c n i (ends n up)).incarnations n ≡ (ends n up).incarnations n + i = r.risen in
     record {

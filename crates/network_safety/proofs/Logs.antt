@@ -30,6 +30,7 @@ use Rattle.world_safety.proofs.Traces.{run_has_the_records}
 use Rattle.log_laws.specs.Logs.{LivesAreLogged, Logs, Nothing, LeavesOut}
 use Rattle.log_laws.proofs.Runs.{every_run_is_seen_in_logs}
 use Rattle.log_laws.proofs.Writing.{IsRing, writes_all, goes_down, life_left_out, no_later}
+use Rattle.daemon_model.specs.declared.options.RemoteService.TheVariants as service
 use Rattle.daemon_model.specs.Daemon.{Daemon, begun_for}
 use Rattle.daemon_model.specs.Actions.{did}
 use Rattle.daemon_model.specs.Sent.{Exchange}
@@ -113,9 +114,9 @@ module _ (c : Config) (free : is_fixed c.mode ≡ false) where
   unfolding idles starts ends
   idles_logged n zero net ls le l = l
   idles_logged n (suc k) net ls le l =
-      let next : Net = ends n (starts false c n (net.incarnations n + 1) 0 net) in
+      let next : Net = ends n (starts service.Off c n (net.incarnations n + 1) 0 net) in
       let risen : next.incarnations n ≡ net.incarnations n + 1 = set_here net.incarnations n (net.incarnations n + 1) in
-      let records : next.records ≡ (net.records ++ (started c n (net.incarnations n + 1)).records) ++ happened.Down n ∷ [] = ap (λ xs. (net.records ++ xs) ++ happened.Down n ∷ []) (begun_records false c n (net.incarnations n + 1) 0) in
+      let records : next.records ≡ (net.records ++ (started c n (net.incarnations n + 1)).records) ++ happened.Down n ∷ [] = ap (λ xs. (net.records ++ xs) ++ happened.Down n ∷ []) (begun_records service.Off c n (net.incarnations n + 1) 0) in
       idles_logged n k next ls (omega (arith, le, risen)) (idle n (net.incarnations n + 1) net next ls records (omega (arith, le)) l)
 
   does_logged : (f : Daemon → Daemon) (n : ℕ) (net : Net) (o : Option Daemon) (ls : List Happened) → Logged net ls → Logged (does_if f n o net) (reverse (written_if f o) ++ ls)

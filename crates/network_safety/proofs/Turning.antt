@@ -10,7 +10,10 @@ use Rattle.node_state.specs.declared.packet.Body.TheVariants as body
 use Rattle.node_state.specs.declared.packet.Packet.{Packet}
 use Rattle.node_state.specs.HandOn.{Answering}
 use Rattle.node_state.specs.Bytes.{packet_of, bytes_of}
-use Rattle.node_state.specs.Step.{Ticks, stepped}
+use Rattle.node_reach.specs.Reach.{reach_of}
+use Rattle.rsct_packet.specs.declared.mask.Mask.{Mask}
+use Rattle.node_state.specs.declared.call.CallLine.{CallLine}
+use Rattle.node_state.specs.Step.{Ticks, Asks, Calls, stepped}
 use Rattle.world_model.specs.World.{World}
 use Rattle.world_model.specs.declared.event.Event.TheVariants as event
 use Rattle.world_laws.specs.world_answers.Answers.{Answered, goes_on}
@@ -19,17 +22,17 @@ use Rattle.piece_link.specs.Joining.{Joining, Joined, taken}
 use Rattle.piece_link.specs.Answers.{Among, CanBeCut, SameKey}
 use Rattle.piece_link.proofs.UnchangedLaw.{unchanged, answered_at_once}
 use Rattle.daemon_model.specs.Sent.{Numbered, Of, OfNothing, OfPacket, OfMessage, Exchange, plain, as_sent, IsSpelledIf}
-use Rattle.daemon_model.specs.Daemon.{Daemon, stepped_by, ticked_if, joined_by, received, given_on, network_of, heard, left_for, stepped_for}
+use Rattle.daemon_model.specs.Daemon.{Daemon, Opening, stepped_by, counted, ticked_if, joined_by, received, given_on, network_of, heard, goodbye_in, goodbye_said, without_key, key_over, mended, left_for, stepped_for}
 use Rattle.network_model.specs.Network.{Net, made_since, went_on}
 use Rattle.network_model.specs.Fits.{IsQuestion, AsksAtMost, IsOfClient, IsSend, WasSent, MayCome, IsSpelledSend}
-use Rattle.network_safety.specs.Safe.{answered_by, tick_events, GivenEvents}
+use Rattle.network_safety.specs.Safe.{answered_by, tick_events, call_events, GivenEvents}
 use Rattle.network_safety.proofs.Messages.{message_of, one_fits}
 use Rattle.network_safety.proofs.Quiet.{IsTalk}
 use Rattle.network_safety.proofs.Joins.{IsJoinedOf, more_joined, joined_on, whole_sent}
-use Rattle.network_laws.proofs.Going.{made_is, noted_is, goes_twice, step_more, due_more, received_more, given_on_more}
+use Rattle.network_laws.proofs.Going.{More, made_is, noted_is, goes_twice, step_more, due_more, received_more, given_on_more}
 use Rattle.network_safety.proofs.Standing.{IsKnown, IsUpIf, IsPiece, IsOther, IsMade, Wires, Stand, node_of}
-use Rattle.network_safety.proofs.Stepping.{steps_to, IsNoSend, own_up, step_stands, keeps_stands}
-use Rattle.network_safety.proofs.Acts.{nothing_sent, ticks, Gives, IsKnownIf, none_given}
+use Rattle.network_safety.proofs.Stepping.{StepsTo, steps_to, IsNoSend, own_up, step_stands, keeps_stands}
+use Rattle.network_safety.proofs.Acts.{its_node, called, nothing_sent, ticks, asks, Gives, IsKnownIf, none_given}
 use Rattle.network_safety.proofs.Bringing.{went_here, given_on_gives}
 
 -- ---- the tick
@@ -47,8 +50,47 @@ tick_goes c net es w k n d at true moment f =
     let e : Daemon = record d { last = moment } in
     let k1 : Stand c (went_on n d e net) es w = keeps_stands c net es w k n d at e refl refl refl refl (own_up net w k.wires n d at).joined (nothing_sent d e refl) (noted_is d e [] (sym (append-nil d.records))) in
     let up = went_here n d e net in
-    let k2 = step_stands c (went_on n d e net) es w k1 n e up f Ticks (answered_by f (event.Tick n)) (stepped f (node_of c (went_on n d e net) es w k1.world n e up).node.core Ticks) (ticks c (went_on n d e net) es w k1 n e up f) (stepped_by f Ticks e) (steps_to f Ticks e) in
-    record { world = goes_on w (answered_by f (event.Tick n)); stand = subst (λ z. Stand c z (es ++ answered_by f (event.Tick n) ∷ []) (goes_on w (answered_by f (event.Tick n)))) (goes_twice n d e (stepped_by f Ticks e) net (due_more moment d) (step_more f Ticks e)) k2 }
+    let g : Daemon = counted (stepped_by f Ticks e) in
+    let to : StepsTo f Ticks e g = record { me = refl; incarnation = refl; core = refl; joining = refl; number = refl; calls = refl; records = refl } in
+    let m : More e (stepped_by f Ticks e) = step_more f Ticks e in
+    let k2 = step_stands c (went_on n d e net) es w k1 n e up f Ticks (answered_by f (event.Tick n)) (stepped f (node_of c (went_on n d e net) es w k1.world n e up).node.core Ticks) (ticks c (went_on n d e net) es w k1 n e up f) g to in
+    record { world = goes_on w (answered_by f (event.Tick n)); stand = subst (λ z. Stand c z (es ++ answered_by f (event.Tick n) ∷ []) (goes_on w (answered_by f (event.Tick n)))) (goes_twice n d e g net (due_more moment d) (record { calls = m.calls; called = m.called; records = m.records; recorded = m.recorded })) k2 }
+
+-- ---- what it does of its own
+
+-- a key says the goodbye that it owes, and ends
+over_by : (c : Config) (net : Net) (es : List Answered) (w : World) → Stand c net es w → (n : ℕ) (d : Daemon) → net.daemons n ≡ Some d → (key : ℕ) (o : Option CallLine) (f : Answering)
+    → Went c (went_on n d (without_key key (goodbye_said key o f d)) net) (es ++ call_events n o f)
+unfolding left_for
+over_by c net es w k n d at key None f =
+    let e : Daemon = without_key key d in
+    record {
+      world = w;
+      stand = subst (λ zs. Stand c (went_on n d e net) zs w) (sym (append-nil es)) (keeps_stands c net es w k n d at e refl refl refl refl (own_up net w k.wires n d at).joined (nothing_sent d e refl) (noted_is d e [] (sym (append-nil d.records))));
+    }
+over_by c net es w k n d at key (Some a) f =
+    let e : Daemon = without_key key (goodbye_said key (Some a) f d) in
+    let o : Opening = record { call = a; answers = f } in
+    let to : StepsTo f (Calls a) d e = record { me = refl; incarnation = refl; core = refl; joining = refl; number = refl; calls = refl; records = refl } in
+    record {
+      world = goes_on w (answered_by f (event.Call n a));
+      stand = step_stands c net es w k n d at f (Calls a) (answered_by f (event.Call n a)) (stepped f (its_node c net es w k n d at).node.core (Calls a)) (called c net es w k n d at o) e to;
+    }
+
+pub over_goes : (c : Config) (net : Net) (es : List Answered) (w : World) → Stand c net es w → (n : ℕ) (d : Daemon) → net.daemons n ≡ Some d → (key : ℕ) (f : Answering)
+    → Went c (went_on n d (key_over key f d) net) (es ++ call_events n (goodbye_in d.sessions key) f)
+unfolding key_over
+over_goes c net es w k n d at key f = over_by c net es w k n d at key (goodbye_in d.sessions key) f
+
+pub mended_goes : (c : Config) (net : Net) (es : List Answered) (w : World) → Stand c net es w → (n : ℕ) (d : Daemon) → net.daemons n ≡ Some d → (f : Answering)
+    → Went c (went_on n d (mended f d) net) (es ++ answered_by f (event.Ask n (reach_of d.core.reach)) ∷ [])
+unfolding mended
+mended_goes c net es w k n d at f =
+    let reach : Mask = reach_of d.core.reach in
+    record {
+      world = goes_on w (answered_by f (event.Ask n reach));
+      stand = step_stands c net es w k n d at f (Asks reach) (answered_by f (event.Ask n reach)) (stepped f (its_node c net es w k n d at).node.core (Asks reach)) (asks c net es w k n d at f reach) (stepped_by f (Asks reach) d) (steps_to f (Asks reach) d);
+    }
 
 -- ---- the receive
 

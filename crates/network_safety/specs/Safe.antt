@@ -1,16 +1,17 @@
 -- The events of a network's acts in a world, and that the run of every network is safe.
 use Rattle.std.specs.Prelude.{ℕ, zero, suc, map, ◌≡◌, Bool, true, false, List, [], ◌∷◌, ◌++◌, Option, Some, None}
+use Rattle.node_reach.specs.Reach.{reach_of}
 use Rattle.node_state.specs.declared.call.CallLine.{CallLine}
 use Rattle.node_state.specs.declared.config.Config.{Config}
 use Rattle.node_state.specs.HandOn.{Answering}
 use Rattle.world_model.specs.declared.event.Event.{Event}
 use Rattle.world_model.specs.declared.event.Event.TheVariants as event
 use Rattle.world_laws.specs.world_answers.Answers.{Answered, events_in}
-use Rattle.remote_session.specs.Daemon.{SeenUp, NotUp, KeysFull, KnownKey, CallMade}
+use Rattle.remote_session.specs.Daemon.{SeenUp, NotUp, EndedKey, KeysFull, KnownKey, CallMade}
 use Rattle.world_safety.specs.Events.{AllMayHappen}
 use Rattle.world_safety.specs.Scripts.{IsSafe}
-use Rattle.daemon_model.specs.Daemon.{Daemon, is_due, joined_by, received, up_in, with_up, call_in}
-use Rattle.daemon_model.specs.Actions.{Action, Opens, Ticks, Hears}
+use Rattle.daemon_model.specs.Daemon.{Daemon, is_due, joined_by, received, up_in, with_up, call_in, goodbye_in}
+use Rattle.daemon_model.specs.Actions.{Action, Opens, Ticks, EndsKey, Mends, Hears}
 use Rattle.network_model.specs.Network.{Act, Begins, Does, Ends, Net, no_net, skipped, acted, net_after}
 use Rattle.network_model.specs.Fits.{OfUp, IsSpelledSend, NetworkRun}
 use Rattle.network_model.specs.Executions.{IsLinear, what_of, TimedLife, untimed, Execution, Ordered}
@@ -53,6 +54,7 @@ call_events n (Some call) f = answered_by f (event.Call n call) ∷ []
 -- what a client on another machine says brings its call, or nothing; every other message is given to the node
 abbrev pub BroughtEvents : ℕ → Daemon → SeenUp → List ℕ → Answering → List Answered → Type 0
 BroughtEvents n d NotUp message f es = IsGiven n f es
+BroughtEvents n d (EndedKey key) message f es = es ≡ []
 BroughtEvents n d (KeysFull key limit) message f es = es ≡ []
 BroughtEvents n d (KnownKey key) message f es = es ≡ []
 BroughtEvents n d (CallMade key line) message f es = es ≡ call_events n (call_in (with_up message d).sessions d.me key line) f
@@ -62,10 +64,13 @@ abbrev pub GivenEvents : ℕ → Daemon → Option (List ℕ) → Answering → 
 GivenEvents n d None f es = es ≡ []
 GivenEvents n d (Some message) f es = BroughtEvents n d (up_in d.sessions message) message f es
 
--- an act of a daemon: a call; a tick, where one is due; or the message that is whole by what it receives
+-- an act of a daemon: a call; a tick, where one is due; the goodbye that a key owes as it ends; an order to ask for a view of the
+-- nodes that it reaches; or the message that is whole by what it receives
 abbrev pub ActionEvents : ℕ → Daemon → Action → List Answered → Type 0
 ActionEvents n d (Opens opening) es = es ≡ answered_by opening.answers (event.Call n opening.call) ∷ []
 ActionEvents n d (Ticks moment answers) es = es ≡ tick_events (is_due d.last moment) n answers
+ActionEvents n d (EndsKey key answers) es = es ≡ call_events n (goodbye_in d.sessions key) answers
+ActionEvents n d (Mends answers) es = es ≡ answered_by answers (event.Ask n (reach_of d.core.reach)) ∷ []
 ActionEvents n d (Hears got answers) es = GivenEvents n (received got d) (joined_by got d.joining).message answers es
 
 abbrev pub ActEvents : Net → Act → List Answered → Type 0

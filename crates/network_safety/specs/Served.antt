@@ -4,6 +4,7 @@ use Rattle.hags_io.specs.Telling.{Telling}
 use Rattle.node_state.specs.declared.config.Config.{Config}
 use Rattle.world_model.specs.declared.script.Script.{Script}
 use Rattle.piece_link.specs.Answers.{Among}
+use Rattle.daemon_model.specs.declared.options.Options.{Options}
 use Rattle.daemon_model.specs.Sent.{Exchange}
 use Rattle.daemon_model.specs.Daemon.{Life}
 use Rattle.daemon_model.specs.Doings.{exchanges_in}
@@ -19,12 +20,12 @@ pub record Served (c : Config) (n : ℕ) : Type 0 where
   pub script : Script
   pub settings : script.config ≡ c
   pub incarnation : ℕ
-  pub remote : Bool
+  pub options : Options
   pub ended : Bool
   pub old : Telling
   pub new : Telling
   pub life : Life
-  pub lived : LivedFront script n incarnation remote life old new
+  pub lived : LivedFront script n incarnation options life old new
 
 -- its life; the act in which it broke off, or was up to now, stands there whole
 abbrev pub life_of : (c : Config) (n : ℕ) → Served c n → LifeIn

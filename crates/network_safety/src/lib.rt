@@ -10,6 +10,7 @@ ghost use Rattle.network_model.specs.Network.{no_net};
 ghost use Rattle.network_model.specs.Samples.{pair, starts_again};
 ghost use Rattle.network_safety.specs.Logs.{logged, NodesLogTheirLives, LogsOfDaemonsAreSeen, LogsOfExecutionsAreSeen, LogsOfServedAreSeen, logged_again_lines};
 ghost use Rattle.network_safety.specs.Strangers.{StrangersChangeNothing, OtherDomainsAreUnused};
+ghost use Rattle.network_safety.specs.Gone.{ClientsOfEndedKeysAreGone, NamesStayFree};
 
 /// Let daemons start, each of its node in a greater incarnation than those before and where no other of it is up; let each
 /// receive bring what was sent before it, or what is no piece, or what a client asks; and let all have the same settings.
@@ -45,6 +46,14 @@ pub fn rings_of_daemons_agree()
 pub fn strangers_change_nothing()
     ensures nothing { StrangersChangeNothing }
     ensures domain { OtherDomainsAreUnused }
+{}
+
+/// Where a key ends whose client has said no goodbye, its client is gone behind it: its name is free, each of its providers is
+/// let go, and GONE is on its way to the leader of each one's group, if the node knows it and is not frozen. Nothing that a daemon
+/// does of its own takes the name again.
+pub fn clients_of_ended_keys_are_gone()
+    ensures gone { ClientsOfEndedKeysAreGone }
+    ensures free { NamesStayFree }
 {}
 
 /// What the daemons of a node write into their logs are the records of their lives, one after another.

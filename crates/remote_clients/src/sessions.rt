@@ -1,11 +1,11 @@
 //! The sessions of the clients on other machines: what comes from them, and what they are to hear.
-ghost use Rattle.std.specs.Prelude.{◌≡◌, OnOk, OnErr, IfOk, IfSome, IsTrue, is_some};
+ghost use Rattle.std.specs.Prelude.{◌≡◌, OnOk, OnErr, IfOk, IfSome};
 ghost use Rattle.world_model.specs.Text.{record_text};
 ghost use Rattle.remote_clients.specs.Clients.{IsPlain};
 ghost use Rattle.remote_clients.specs.Sessions.{sessions_new, noted, noted_all, call_for, is_refused, finished, turned_down};
 ghost use Rattle.remote_clients.specs.Entries.{noting_of, entry_noted, noted_with};
 ghost use Rattle.remote_clients.specs.Ending.{session_ended};
-ghost use Rattle.remote_session.specs.Daemon.{session_of, event_added};
+ghost use Rattle.remote_session.specs.Daemon.{event_added};
 ghost use Rattle.remote_session.specs.Ending.{may_end};
 
 use crate::clients::Clients;
@@ -198,10 +198,9 @@ impl Sessions {
         self.remote.done(key, false);
     }
 
-    /// Ends a key that is kept, as `Remote::end` does, and what is known of its client goes with it.
+    /// Ends a key, as `Remote::end` does, and what is known of its client goes with it.
     #[tactic(auto, unfolding(crate::specs::Ending::session_ended))]
     pub fn end(&mut self, alloc: Global, key: u32) -> Result<bool, NoMemory>
-        requires { IsTrue (is_some (session_of key self.old.remote.sessions)) }
         ensures ended { IfOk result (λ ended. ended ≡ may_end self.old.remote) }
         ensures state { OnOk result (self.new ≡ session_ended key self.old) }
         ensures err { OnErr result (self.new ≡ self.old) }

@@ -12,8 +12,8 @@ use Rattle.rsct_packet.specs.Search.{Has}
 use Rattle.rsct_packet.specs.Ids.{risen, last_u32}
 use Rattle.remote_session.specs.declared.session.Session.{Session}
 use Rattle.remote_session.specs.Messages.{max_events, UpIn, IsUp, up_of, down_text}
-use Rattle.remote_session.specs.Daemon.{Sessions, session_of, edited, kept, new_session, max_keys, is_full_for, call_made, makes_call, acknowledged, opened, session_up, session_done, session_event, KeysFull, KnownKey, CallMade, spoken, remote_new, is_ended, life_told, up_seen, up_seen_as, up_taken, up_taken_as, done_told, event_added, down_as, down_for}
-use Rattle.remote_session.specs.Ending.{silent_longer, waited, remote_ticked, may_end, without, with_ended, key_ended, ended_key_in, ended_up}
+use Rattle.remote_session.specs.Daemon.{Sessions, session_of, edited, kept, new_session, max_keys, is_full_for, call_made, makes_call, acknowledged, opened, session_up, session_done, session_event, KeysFull, KnownKey, CallMade, spoken, remote_new, is_ended, life_told, up_seen_as, up_taken_as, ended_key_in, ended_up, done_told, event_added, down_as, down_for}
+use Rattle.remote_session.specs.Ending.{silent_longer, waited, remote_ticked, may_end, without, with_ended, key_ended}
 use Rattle.remote_session.specs.Client.{FarState}
 use Rattle.remote_session.specs.World.{World, is_key, added_in, given_out}
 use Rattle.remote_session.specs.Laws.{IsPrefixOf}
@@ -177,8 +177,9 @@ not_ended u ended = by (is_ended u.key ended)
     by true e = absurd cc
     by false e = refl
 
-pub up_fine : (w : World) (fine : Fine w) (bytes : List ℕ) → Has bytes w.ups → ended_up w.remote bytes ≡ None → Fine (given_out (up_seen w.remote bytes) (record w { remote = up_taken w.remote bytes }))
-unfolding up_seen up_taken ended_up
+pub up_fine : (w : World) (fine : Fine w) (bytes : List ℕ) → Has bytes w.ups → ended_up w.remote bytes ≡ None
+    → Fine (given_out (up_seen_as w.remote.sessions (up_of bytes)) (record w { remote = record w.remote { sessions = up_taken_as w.remote.sessions (up_of bytes) } }))
+unfolding ended_up
 up_fine w fine bytes h none =
     let s = fine.up bytes h in
     let read : up_of bytes ≡ Some s.up = ap up_of s.spelled ∙ up_again s.up s.fits in

@@ -5,10 +5,10 @@ use Rattle.std.proofs.lemmas.Bool.{ltb-true, and_parts, cases_eq}
 use Rattle.remote_session.specs.declared.far.DownSeen.{DownSeen}
 use Rattle.remote_session.specs.declared.far.DownSeen.TheVariants as seen
 use Rattle.remote_session.specs.Messages.{UpIn, up_of, down_text}
-use Rattle.remote_session.specs.Daemon.{KeysFull, KnownKey, CallMade, max_keys, session_of, is_ended, is_full_for, call_made, kept, up_seen, up_seen_as, up_taken, up_taken_as, remote_new, done_told, event_added, down_as, down_for}
-use Rattle.remote_session.specs.Ending.{remote_ticked, may_end, without, with_ended, key_ended, ended_key_in, ended_up}
+use Rattle.remote_session.specs.Daemon.{KeysFull, KnownKey, CallMade, max_keys, session_of, is_ended, is_full_for, call_made, kept, ended_key_in, ended_up, up_seen, up_seen_as, up_seen_by, up_taken, up_taken_as, up_taken_by, remote_new, done_told, event_added, down_as, down_for}
+use Rattle.remote_session.specs.Ending.{remote_ticked, may_end, without, with_ended, key_ended}
 use Rattle.remote_session.specs.Client.{FarState, far_new, may_call, far_called, far_seen, far_taken}
-use Rattle.remote_session.specs.World.{World, Happening, Begins, Calls, Sends_up, Up_comes, Answers, Occurs, Ticks, Ends, Sends_down, Down_comes, Restarts, with_far, added, added_in, is_key, is_line, is_event, has_open, calls_at, sends_up_at, given_out, up_comes_as, up_comes_at, answer_heard, down_comes_at, happens}
+use Rattle.remote_session.specs.World.{World, Happening, Begins, Calls, Sends_up, Up_comes, Answers, Occurs, Ticks, Ends, Sends_down, Down_comes, Restarts, with_far, added, added_in, is_key, is_line, is_event, has_open, calls_at, sends_up_at, given_out, up_comes_at, answer_heard, down_comes_at, happens}
 use Rattle.remote_session.specs.Laws.{StaysEnded, EndedKeysStay, NothingEndsUnasked}
 use Rattle.remote_session.proofs.ListLaws.{added_in_other_key}
 use Rattle.remote_session.proofs.EndLaws.{ended_same, ended_other}
@@ -52,13 +52,14 @@ module _ (w : World) (fine : Fine w) (key : ℕ) (gone : is_ended key w.remote.e
       by false true = record { ended = gone; given = added_in_other_key u.line life u.key key w.given (others u.key (not_ended u w.remote.ended e)); told = refl; events = refl }
       by false false = record { ended = gone; given = refl; told = refl; events = refl }
 
-  up_stays : (bytes : List ℕ) (o : Option ℕ) → ended_up w.remote bytes ≡ o → StaysEnded key w (up_comes_as w bytes o)
-  unfolding up_comes_as up_seen up_taken ended_up
+  up_stays : (bytes : List ℕ) (o : Option ℕ) → ended_up w.remote bytes ≡ o
+      → StaysEnded key w (given_out (up_seen_by o w.remote.sessions (up_of bytes)) (record w { remote = record w.remote { sessions = up_taken_by o w.remote.sessions (up_of bytes) } }))
+  unfolding ended_up given_out
   up_stays bytes (Some k) e = same
   up_stays bytes None e = given_stays (up_of bytes) e
 
   up_comes_stays : (o : Option (List ℕ)) → StaysEnded key w (up_comes_at w o)
-  unfolding up_comes_at
+  unfolding up_comes_at up_seen up_taken
   up_comes_stays None = same
   up_comes_stays (Some bytes) = up_stays bytes (ended_up w.remote bytes) refl
 

@@ -7,10 +7,11 @@ use Rattle.rsct_packet.specs.Fields.{IsU32}
 use Rattle.rsct_packet.specs.Search.{Has}
 use Rattle.rsct_packet.proofs.HasLaws.{get_has}
 use Rattle.remote_session.specs.declared.session.Session.{Session}
-use Rattle.remote_session.specs.Daemon.{Sessions, session_of, remote_new, done_told, event_added}
-use Rattle.remote_session.specs.Ending.{key_ended, ended_up}
+use Rattle.remote_session.specs.Daemon.{Sessions, session_of, remote_new, ended_up, up_seen, up_seen_by, up_taken, up_taken_by, done_told, event_added}
+use Rattle.remote_session.specs.Messages.{up_of}
+use Rattle.remote_session.specs.Ending.{key_ended}
 use Rattle.remote_session.specs.Client.{FarState, far_new, may_call, far_called}
-use Rattle.remote_session.specs.World.{Happening, Begins, Calls, Sends_up, Up_comes, Answers, Occurs, Ticks, Ends, Sends_down, Down_comes, Restarts, World, quiet, with_far, added, added_in, is_key, is_line, is_event, has_open, calls_at, sends_up_at, up_comes_as, up_comes_at, down_comes_at, happens, after}
+use Rattle.remote_session.specs.World.{Happening, Begins, Calls, Sends_up, Up_comes, Answers, Occurs, Ticks, Ends, Sends_down, Down_comes, Restarts, World, quiet, with_far, added, added_in, is_key, is_line, is_event, has_open, calls_at, sends_up_at, given_out, up_comes_at, down_comes_at, happens, after}
 use Rattle.remote_session.specs.Laws.{IsPrefixOf, IsHeardIn, AreAnswersOf, CallsComeOnceAndInOrder, HeardIsAPrefix, AnswersAreThoseTold, NoAnswerWithoutCall}
 use Rattle.remote_session.proofs.ListLaws.{prefix_none}
 use Rattle.remote_session.proofs.Parts.{HeardOk, Fine}
@@ -52,11 +53,11 @@ sends_up_at_fine w fine key None is = fine
 sends_up_at_fine w fine key (Some f) is = sends_up_fine w fine key f is
 
 up_comes_fine : (w : World) (fine : Fine w) (o : Option (List ℕ)) → ((bytes : List ℕ) → o ≡ Some bytes → Has bytes w.ups) → Fine (up_comes_at w o)
-unfolding up_comes_at up_comes_as
+unfolding up_comes_at up_seen up_taken given_out
 up_comes_fine w fine None has = fine
 up_comes_fine w fine (Some bytes) has = by (ended_up w.remote bytes) refl
   where
-    by : (o : Option ℕ) → ended_up w.remote bytes ≡ o → Fine (up_comes_as w bytes o)
+    by : (o : Option ℕ) → ended_up w.remote bytes ≡ o → Fine (given_out (up_seen_by o w.remote.sessions (up_of bytes)) (record w { remote = record w.remote { sessions = up_taken_by o w.remote.sessions (up_of bytes) } }))
     by (Some key) e = fine
     by None e = up_fine w fine bytes (has bytes refl) e
 

@@ -96,16 +96,18 @@ pub record RemoteState : Type 0 where
 abbrev pub is_ended : ℕ → List ℕ → Bool
 is_ended key ended = list_any (nat_eq key) ended
 
--- what an Up is to the daemon: none, of a new key where no more are kept, of a key whose call it does not bring, or
--- a call with its line
+-- what an Up is to the daemon: none, of a key that has ended, of a new key where no more are kept, of a key whose call it does
+-- not bring, or a call with its line
 pub data SeenUp : Type 0 where
   NotUp : SeenUp
+  EndedKey : (key : ℕ) → SeenUp
   KeysFull : (key limit : ℕ) → SeenUp
   KnownKey : (key : ℕ) → SeenUp
   CallMade : (key : ℕ) (line : List ℕ) → SeenUp
 
 abbrev pub seen_up : UpSeen → SeenUp
 seen_up seen.NoMessage = NotUp
+seen_up (seen.Ended key) = EndedKey key
 seen_up (seen.Full key limit) = KeysFull key limit
 seen_up (seen.Known key) = KnownKey key
 seen_up (seen.Call key line) = CallMade key line.now
@@ -118,15 +120,34 @@ up_seen_as sessions None = NotUp
 up_seen_as sessions (Some u) =
     if is_full_for u.key sessions then KeysFull u.key max_keys else if call_made u (kept u.key sessions) then CallMade u.key u.line else KnownKey u.key
 
+-- the key of an Up, where that has ended
+abbrev pub ended_key_in : List ℕ → Option UpIn → Option ℕ
+ended_key_in ended None = None
+ended_key_in ended (Some u) = if is_ended u.key ended then Some u.key else None
+
+-- the key of the Up that these bytes are, where that has ended
+unfoldable pub ended_up : RemoteState → List ℕ → Option ℕ
+ended_up r bytes = ended_key_in r.ended (up_of bytes)
+
+-- an Up of a key that has ended brings nothing, however late it comes
+abbrev pub up_seen_by : Option ℕ → Sessions → Option UpIn → SeenUp
+up_seen_by (Some key) sessions o = EndedKey key
+up_seen_by None sessions o = up_seen_as sessions o
+
 unfoldable pub up_seen : RemoteState → List ℕ → SeenUp
-up_seen r bytes = up_seen_as r.sessions (up_of bytes)
+up_seen r bytes = up_seen_by (ended_up r bytes) r.sessions (up_of bytes)
 
 unfoldable pub up_taken_as : Sessions → Option UpIn → Sessions
 up_taken_as sessions None = sessions
 up_taken_as sessions (Some u) = if is_full_for u.key sessions then sessions else edited u.key (session_up u) (kept u.key sessions)
 
+-- and changes nothing
+abbrev pub up_taken_by : Option ℕ → Sessions → Option UpIn → Sessions
+up_taken_by (Some key) sessions o = sessions
+up_taken_by None sessions o = up_taken_as sessions o
+
 unfoldable pub up_taken : RemoteState → List ℕ → RemoteState
-up_taken r bytes = record r { sessions = up_taken_as r.sessions (up_of bytes) }
+up_taken r bytes = record r { sessions = up_taken_by (ended_up r bytes) r.sessions (up_of bytes) }
 
 -- the key's open call is answered
 unfoldable pub done_told : ℕ → Bool → RemoteState → RemoteState
@@ -151,5 +172,5 @@ down_for r key = down_as (life_told key r) key (session_of key r.sessions)
 
 -- opens each word of this file, for a computation
 unfoldable pub daemon_opens : Unit {0}
-unfolding new_session acknowledged makes_call opened session_up answer_told session_done with_event session_event edited kept is_full_for call_made remote_new up_seen_as up_seen up_taken_as up_taken done_told event_added down_as down_for
+unfolding new_session acknowledged makes_call opened session_up answer_told session_done with_event session_event edited kept is_full_for call_made remote_new up_seen_as ended_up up_seen up_taken_as up_taken done_told event_added down_as down_for
 daemon_opens = tt

@@ -1,8 +1,7 @@
 -- Keys that end: how long each was silent, and what is left of one that ended.
-use Rattle.std.specs.Prelude.{ℕ, Bool, not, nat_eq, nat_le, nat_lt, List, [], ◌∷◌, ◌++◌, length, map, filter, Option, Some, None, if◌then◌else◌}
+use Rattle.std.specs.Prelude.{ℕ, Bool, not, nat_eq, nat_le, nat_lt, List, [], ◌∷◌, ◌++◌, length, map, filter, if◌then◌else◌}
 use Rattle.rsct_packet.specs.Ids.{risen}
 use Rattle.remote_session.specs.declared.session.Session.{Session}
-use Rattle.remote_session.specs.Messages.{UpIn, up_of}
 use Rattle.remote_session.specs.Daemon.{Sessions, RemoteState, is_ended}
 
 -- how many keys end in a daemon's life
@@ -43,16 +42,7 @@ with_ended key ended = if is_ended key ended then ended else ended ++ key ∷ []
 unfoldable pub key_ended : ℕ → RemoteState → RemoteState
 key_ended key r = if may_end r then record r { sessions = without key r.sessions; ended = with_ended key r.ended } else r
 
--- the key of an Up, where that has ended
-abbrev pub ended_key_in : List ℕ → Option UpIn → Option ℕ
-ended_key_in ended None = None
-ended_key_in ended (Some u) = if is_ended u.key ended then Some u.key else None
-
--- the key of the Up that these bytes are, where that has ended
-unfoldable pub ended_up : RemoteState → List ℕ → Option ℕ
-ended_up r bytes = ended_key_in r.ended (up_of bytes)
-
 -- opens each word of this file, for a computation
 unfoldable pub ending_opens : Unit {0}
-unfolding waited remote_ticked silent_keys may_end without key_ended ended_up
+unfolding waited remote_ticked silent_keys may_end without key_ended
 ending_opens = tt

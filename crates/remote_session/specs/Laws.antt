@@ -1,8 +1,7 @@
 -- What holds whatever is lost, repeated or reordered, whichever keys the daemon ends, and however often it starts anew.
 use Rattle.std.specs.Prelude.{◌≡◌, ℕ, ◌≤◌, true, List, [], ◌++◌, length, Option, Some, None}
 use Rattle.rsct_packet.specs.Fields.{IsU32}
-use Rattle.remote_session.specs.Daemon.{RemoteState, is_ended, session_of, down_as, down_for}
-use Rattle.remote_session.specs.Ending.{ended_up}
+use Rattle.remote_session.specs.Daemon.{RemoteState, is_ended, session_of, ended_up, down_as, down_for}
 use Rattle.remote_session.specs.Client.{FarState}
 use Rattle.remote_session.specs.World.{World, Happening, quiet, happens, after}
 

@@ -7,8 +7,8 @@ use Rattle.remote_session.specs.declared.session.Session.{Session}
 use Rattle.remote_session.specs.declared.far.DownSeen.{DownSeen}
 use Rattle.remote_session.specs.declared.far.DownSeen.TheVariants.{NoMessage, Nothing, Answer, Lost, Full}
 use Rattle.remote_session.specs.Messages.{max_line, up_text, down_text}
-use Rattle.remote_session.specs.Daemon.{Sessions, session_of, RemoteState, SeenUp, NotUp, KeysFull, KnownKey, CallMade, remote_new, up_seen, up_taken, done_told, event_added, down_for}
-use Rattle.remote_session.specs.Ending.{remote_ticked, key_ended, ended_up}
+use Rattle.remote_session.specs.Daemon.{Sessions, session_of, RemoteState, SeenUp, NotUp, EndedKey, KeysFull, KnownKey, CallMade, remote_new, up_seen, up_taken, done_told, event_added, down_for}
+use Rattle.remote_session.specs.Ending.{remote_ticked, key_ended}
 use Rattle.remote_session.specs.Client.{FarState, far_new, may_call, far_called, up_from, far_seen, far_taken}
 
 -- what may happen next. A datagram that was sent comes never, once or often, whenever it may be: so a loss is one that
@@ -99,18 +99,14 @@ sends_up_at w (Some f) = record w { ups = up_text (up_from f) ∷ w.ups }
 -- a line that is given out is noted
 unfoldable pub given_out : SeenUp → World → World
 given_out NotUp w = w
+given_out (EndedKey key) w = w
 given_out (KeysFull key limit) w = w
 given_out (KnownKey key) w = w
 given_out (CallMade key line) w = record w { given = added_in w.remote.incarnation key line w.given }
 
--- an Up of a key that has ended changes nothing
-unfoldable pub up_comes_as : World → List ℕ → Option ℕ → World
-up_comes_as w bytes (Some key) = w
-up_comes_as w bytes None = given_out (up_seen w.remote bytes) (record w { remote = up_taken w.remote bytes })
-
 unfoldable pub up_comes_at : World → Option (List ℕ) → World
 up_comes_at w None = w
-up_comes_at w (Some bytes) = up_comes_as w bytes (ended_up w.remote bytes)
+up_comes_at w (Some bytes) = given_out (up_seen w.remote bytes) (record w { remote = up_taken w.remote bytes })
 
 -- has the key an open call?
 abbrev pub has_open : ℕ → Sessions → Bool
@@ -154,5 +150,5 @@ after w happenings = fold happens w happenings
 
 -- opens each word of this file, for a computation
 unfoldable pub world_opens : Unit {0}
-unfolding quiet added added_in with_far calls_at sends_up_at given_out up_comes_as up_comes_at answer_heard down_comes_at happens after
+unfolding quiet added added_in with_far calls_at sends_up_at given_out up_comes_at answer_heard down_comes_at happens after
 world_opens = tt

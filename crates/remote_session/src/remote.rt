@@ -1,8 +1,8 @@
 //! The daemon's end of all client sessions.
-ghost use Rattle.std.specs.Prelude.{◌≡◌, ◌++◌, ◌≤◌, ◌^◌, length, take, not, true, nat_eq, nat_le, IfOk, OnOk, OnErr, IsErr, IsTrue, is_some, option_copied};
+ghost use Rattle.std.specs.Prelude.{◌≡◌, ◌++◌, ◌≤◌, ◌^◌, length, take, not, true, nat_eq, nat_le, IfOk, OnOk, OnErr, IsErr, option_copied};
 ghost use Rattle.remote_session.specs.Messages.{down_text};
-ghost use Rattle.remote_session.specs.Daemon.{session_of, kept, is_full_for, call_made, edited, session_up, session_done, session_event, remote_new, seen_up, up_seen, up_taken, done_told, event_added, down_as, life_told, down_for};
-ghost use Rattle.remote_session.specs.Ending.{silent_longer, waited, remote_ticked, silent_keys, may_end, without, key_ended, ended_up};
+ghost use Rattle.remote_session.specs.Daemon.{kept, is_full_for, call_made, edited, session_up, session_done, session_event, remote_new, seen_up, up_seen, up_taken, done_told, event_added, down_as, life_told, down_for};
+ghost use Rattle.remote_session.specs.Ending.{silent_longer, waited, remote_ticked, silent_keys, may_end, without, key_ended};
 
 use crate::messages::{Answer, Up, put_down_head, read_up, settled};
 use crate::session::Session;
@@ -20,6 +20,7 @@ pub const MAX_ENDED: usize = 1_048_576;
 /// What an Up was to the daemon.
 ///
 /// - `NoMessage`: the bytes are no Up.
+/// - `Ended(key)`: the key has ended. The Up brings nothing, however late it comes.
 /// - `Full(key, 1024)`: the key is new, and 1,024 keys are kept.
 /// - `Known(key)`: it brings no call that is due: an old one, one that was given out before, one while another waits
 ///   for its answer, or none at all.
@@ -27,6 +28,7 @@ pub const MAX_ENDED: usize = 1_048_576;
 #[derive(Clone, Copy, Debug)]
 pub enum UpSeen<'a> {
     NoMessage,
+    Ended(u32),
     Full(u32, u32),
     Known(u32),
     Call { key: u32, line: &'a [u8] },
@@ -179,22 +181,9 @@ impl Remote {
         }
     }
 
-    /// The key of the Up that these bytes are, where that key has ended. Such an Up is not for `up`: it brings nothing,
-    /// however late it comes, and is answered by the `down` of its key.
-    #[tactic(auto, unfolding(crate::specs::Ending::ended_up))]
-    pub fn ended(&self, bytes: &[u8]) -> Option<u32>
-        ensures { result ≡ ended_up self.now bytes.now }
-    {
-        let up = read_up(bytes)?;
-        if !self.ended.contains(&up.key) {
-            return None;
-        }
-        Some(up.key)
-    }
-
-    /// Takes a datagram that is no Up of an ended key. A new key is kept until it ends or the daemon does, unless 1,024
-    /// are. Events up to the Up's acknowledgement are let go. Where memory has run out nothing has changed.
-    #[tactic(auto, unfolding(crate::specs::Daemon::up_seen, crate::specs::Daemon::up_seen_as, crate::specs::Daemon::up_taken, crate::specs::Daemon::up_taken_as))]
+    /// Takes a datagram. A new key is kept until it ends or the daemon does, unless 1,024 are; an Up of a key that has
+    /// ended changes nothing. Events up to the Up's acknowledgement are let go. Where memory has run out nothing has changed.
+    #[tactic(auto, unfolding(crate::specs::Daemon::ended_up, crate::specs::Daemon::up_seen, crate::specs::Daemon::up_seen_as, crate::specs::Daemon::up_taken, crate::specs::Daemon::up_taken_as))]
     pub fn up<'a>(&mut self, alloc: Global, bytes: &'a [u8]) -> Result<UpSeen<'a>, NoMemory>
         ensures seen { IfOk result (λ seen. seen_up seen ≡ up_seen self.old bytes.now) }
         ensures state { OnOk result (self.new ≡ up_taken self.old bytes.now) }
@@ -203,6 +192,9 @@ impl Remote {
         let Some(up) = read_up(bytes) else {
             return Ok(UpSeen::NoMessage);
         };
+        if self.ended.contains(&up.key) {
+            return Ok(UpSeen::Ended(up.key));
+        }
         if is_full_for(&self.sessions, up.key) {
             return Ok(UpSeen::Full(up.key, MAX_KEYS as u32));
         }
@@ -261,19 +253,11 @@ impl Remote {
         Ok(keys)
     }
 
-    /// Is the key kept? It is from its first Up on, until it ends.
-    pub fn is_kept(&self, key: u32) -> bool
-        ensures { result ≡ is_some (session_of key self.now.sessions) }
-    {
-        self.sessions.contains_key(&key)
-    }
-
-    /// Ends a key that is kept, for the daemon's life: its events go, no more are kept for it, and it counts no longer
-    /// among the 1,024. Answers false, and nothing changes, exactly where 1,048,576 keys have ended. Where memory has
-    /// run out nothing has changed.
+    /// Ends a key for the daemon's life: its events go, no more are kept for it, and it counts no longer among the 1,024.
+    /// A key that is not kept has ended then too. Answers false, and nothing changes, exactly where 1,048,576 keys have
+    /// ended. Where memory has run out nothing has changed.
     #[tactic(auto, unfolding(crate::specs::Ending::may_end, crate::specs::Ending::key_ended))]
     pub fn end(&mut self, _alloc: Global, key: u32) -> Result<bool, NoMemory>
-        requires { IsTrue (is_some (session_of key self.old.sessions)) }
         ensures ended { IfOk result (λ ended. ended ≡ may_end self.old) }
         ensures state { OnOk result (self.new ≡ key_ended key self.old) }
         ensures err { OnErr result (self.new ≡ self.old) }

@@ -162,16 +162,8 @@ fn waited(alloc: Global) -> Result<Remote, NoMemory> {
 /// A daemon that was given the first call of key 7, and ended that key.
 fn after_the_end(alloc: Global) -> Result<Remote, NoMemory> {
     let mut remote = called(alloc)?;
-    let _ = end(alloc, &mut remote, 7)?;
+    let _ = remote.end(alloc, 7)?;
     Ok(remote)
-}
-
-/// Ends a key, where it is kept.
-fn end(alloc: Global, remote: &mut Remote, key: u32) -> Result<bool, NoMemory> {
-    if !remote.is_kept(key) {
-        return Ok(false);
-    }
-    remote.end(alloc, key)
 }
 
 #[test]
@@ -193,8 +185,9 @@ fn an_up_ends_the_silence(rt: HostRuntime) {
 #[test]
 fn a_key_ends(rt: HostRuntime) {
     let mut remote = waited(rt.alloc()).expect(&rt, "memory");
-    let ended = end(rt.alloc(), &mut remote, 7).expect(&rt, "memory");
-    assert!(rt; ended && matches!(remote.ended(&FIRST_UP), Some(7)));
+    let ended = remote.end(rt.alloc(), 7).expect(&rt, "memory");
+    let seen = remote.up(rt.alloc(), &FIRST_UP).expect(&rt, "memory");
+    assert!(rt; ended && matches!(seen, UpSeen::Ended(7)));
 }
 
 #[test]
@@ -226,7 +219,7 @@ fn refused_of_ended(alloc: Global, keys: u32) -> Result<u32, NoMemory> {
         if let UpSeen::Full(_, _) = remote.up(alloc, up.as_slice())? {
             full = full.saturating_add(1);
         }
-        let _ = end(alloc, &mut remote, key)?;
+        let _ = remote.end(alloc, key)?;
     }
     Ok(full)
 }

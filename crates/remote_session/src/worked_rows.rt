@@ -3,8 +3,8 @@ ghost use Rattle.std.specs.Prelude.{◌≡◌, [], ◌∷◌, None, Some, true, 
 ghost use Rattle.std.specs.Option.{option_map};
 ghost use Rattle.remote_session.specs.Messages.{up_text, down_text};
 ghost use Rattle.remote_session.specs.declared.far.DownSeen.TheVariants as seen;
-ghost use Rattle.remote_session.specs.Daemon.{CallMade, KnownKey, remote_new, up_seen, up_taken, down_for};
-ghost use Rattle.remote_session.specs.Ending.{remote_ticked, silent_keys, ended_up};
+ghost use Rattle.remote_session.specs.Daemon.{CallMade, EndedKey, KnownKey, remote_new, up_seen, up_taken, down_for};
+ghost use Rattle.remote_session.specs.Ending.{remote_ticked, silent_keys};
 ghost use Rattle.remote_session.specs.Client.{far_new, far_seen};
 ghost use Rattle.remote_session.specs.WorkedRows.{first_line, first_up, first_up_bytes, after_first_up, after_first_call, first_down_bytes, at_the_end, after_two_ticks, after_the_end, last_down_bytes, far_before, at_its_end};
 
@@ -54,8 +54,9 @@ pub fn silent_keys_by_ticks()
 /// an end that had a Down before hears that its daemon is lost, and one that had none that it is full.
 #[tactic(auto, unfolding(crate::specs::WorkedRows::all_opens))]
 pub fn up_of_an_ended_key()
-    ensures before { ended_up after_two_ticks first_up_bytes ≡ None }
-    ensures ended { ended_up after_the_end first_up_bytes ≡ Some 7 }
+    ensures before { up_seen after_two_ticks first_up_bytes ≡ KnownKey 7 }
+    ensures ended { up_seen after_the_end first_up_bytes ≡ EndedKey 7 }
+    ensures kept { up_taken after_the_end first_up_bytes ≡ after_the_end }
     ensures down { down_text (down_for after_the_end 7) ≡ last_down_bytes }
     ensures lost { far_seen far_before last_down_bytes ≡ seen.Lost 5 0 }
     ensures full { far_seen (far_new 7) last_down_bytes ≡ seen.Full }
