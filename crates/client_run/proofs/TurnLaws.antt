@@ -15,7 +15,7 @@ use Rattle.link_use.specs.declared.receiving.Receiving.{Receiving}
 use Rattle.link_use.specs.Receiving.{IsReceive, Receives, ReceivesFront}
 use Rattle.link_use.specs.declared.stop.Stop.{Stop}
 use Rattle.link_use.specs.declared.stop.Stop.TheVariants as stop
-use Rattle.link_use.specs.Stops.{StopsBy}
+use Rattle.link_use.specs.Stops.{StopsBy, StopsClient}
 use Rattle.remote_session.specs.declared.far.DownSeen.{DownSeen}
 use Rattle.remote_session.specs.Client.{FarState, may_call, far_called, far_seen, far_taken}
 use Rattle.client_run.specs.declared.client.Client.{Client}
@@ -184,6 +184,17 @@ step_ends t stop.LinkFault h = h
 step_ends t stop.NoReply h = h
 step_ends t stop.SessionLost h = absurd h
 step_ends t stop.DaemonFull h = absurd h
+step_ends t stop.Paused h = absurd h
+
+-- and what ends a turn ends a client
+pub stops_client : (t : Telling) (e : Stop) → EndsTurn t e → StopsClient e
+stops_client t stop.NoMemory h = tt
+stops_client t stop.WriteFault h = tt
+stops_client t stop.LinkFault h = tt
+stops_client t stop.NoReply h = tt
+stops_client t stop.SessionLost h = tt
+stops_client t stop.DaemonFull h = tt
+stops_client t stop.Paused h = absurd h
 
 -- how it stands before its receive
 stands : (lines : List (List ℕ)) (r q p : Client) → q ≡ call_made lines r → p ≡ up_sent q → p ≡ begun lines r

@@ -41,6 +41,7 @@ EndsTurn t stop.LinkFault = StopsBy t stop.LinkFault
 EndsTurn t stop.NoReply = ⊥
 EndsTurn t stop.SessionLost = Unit {0}
 EndsTurn t stop.DaemonFull = Unit {0}
+EndsTurn t stop.Paused = ⊥
 
 -- ---- a message
 

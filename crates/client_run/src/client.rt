@@ -3,7 +3,7 @@ ghost use Rattle.std.specs.Prelude.{◌≡◌, ◌≤◌, ◌<◌, ◌∷◌, []
 ghost use Rattle.hags_io.specs.Deeds.{Exchanged};
 ghost use Rattle.hags_io.specs.Telling.{Did};
 ghost use Rattle.hags_io.specs.Fronts.{Went, WentFront, written, EndsByWrite, EndsByReceive};
-ghost use Rattle.link_use.specs.Stops.{StopsBy};
+ghost use Rattle.link_use.specs.Stops.{StopsBy, StopsClient};
 ghost use Rattle.rsct_packet.specs.Format.{EachFits};
 ghost use Rattle.client_run.specs.Turns.{call_made, up_piece, up_call, up_sent, told_text, told_with, text_in};
 ghost use Rattle.client_run.specs.Running.{IsCall, IsLost, IsFull, EndsTurn, Hears, Ends, ReceivesAs, ReceiveEnds, ReceiveFront, TurnsAs, TurnEnds, TurnFront, Answered, Unanswered, Ended, Failing, Front};
@@ -217,7 +217,7 @@ impl Client {
     }
 
     /// So many turns; fewer where 16 receives fail in a row, or the session is over.
-    #[tactic(auto, using(crate::proofs::RunLaws::done_none, crate::proofs::RunLaws::done_next, crate::proofs::RunLaws::answered, crate::proofs::RunLaws::unanswered, crate::proofs::RunLaws::ended, crate::proofs::RunLaws::failing, crate::proofs::RunLaws::front, crate::proofs::RunLaws::front_last, crate::proofs::RunLaws::front_all))]
+    #[tactic(auto, using(crate::proofs::RunLaws::done_none, crate::proofs::RunLaws::done_next, crate::proofs::RunLaws::answered, crate::proofs::RunLaws::unanswered, crate::proofs::RunLaws::ended, crate::proofs::RunLaws::failing, crate::proofs::RunLaws::front, crate::proofs::RunLaws::front_last, crate::proofs::RunLaws::front_all, crate::proofs::TurnLaws::stops_client))]
     pub(crate) fn take_turns<O: Outside>(
         &mut self,
         alloc: Global,
@@ -244,6 +244,7 @@ impl Client {
             → EndsByWrite (O.told outside.new) }
         ensures failed { result ≡ Err Stop.LinkFault
             → EndsByReceive (O.told outside.new) }
+        ensures stops { IfErr result StopsClient }
     {
         for _ in 0..turns {
             self.turn(alloc, lines, buf, outside)?;

@@ -1,7 +1,8 @@
 //! A client from its start to its end.
-ghost use Rattle.std.specs.Prelude.{◌≡◌, ◌≤◌, ◌+◌, OnOk, Err};
+ghost use Rattle.std.specs.Prelude.{◌≡◌, ◌≤◌, ◌+◌, OnOk, IfErr, Err};
 ghost use Rattle.hags_io.specs.Edges.{Rose};
 ghost use Rattle.hags_io.specs.Fronts.{EndsByWrite, EndsByReceive};
+ghost use Rattle.link_use.specs.Stops.{StopsClient};
 ghost use Rattle.rsct_packet.specs.Format.{EachFits};
 ghost use Rattle.daemon_model.specs.Settings.{OverLink, OverLinkIf};
 ghost use Rattle.client_run.specs.Running.{IsCall, IsLost, IsFull, Answered, Unanswered, Ended, Failing, Front};
@@ -83,6 +84,7 @@ fn converse<O: Outside>(
         → EndsByWrite (O.told outside.new) }
     ensures failed { result ≡ Err Stop.LinkFault
         → EndsByReceive (O.told outside.new) }
+    ensures stops { IfErr result StopsClient }
 {
     let key = key_of(usage.key, outside);
     let mut room = buffer(alloc)?;
@@ -98,8 +100,8 @@ fn converse<O: Outside>(
 ///
 /// `NoReply` where a call has no answer after the last turn; `SessionLost` where a Down of another incarnation of the
 /// daemon came, and `DaemonFull` where one said that the daemon keeps no more keys: each ends it; `LinkFault` where the
-/// link could not be opened, or 16 receives in a row failed; `WriteFault` where a write failed; and `NoMemory` where
-/// memory has run out.
+/// link could not be opened, or 16 receives in a row failed; `WriteFault` where a write failed; `NoMemory` where memory
+/// has run out; and no other `Stop` (`stops`).
 #[tactic(auto, using(link_use::proofs::OpenLaws::over_link, link_use::proofs::OpenLaws::not_opened, link_use::proofs::OpenLaws::ran, link_use::proofs::OpenLaws::rose_closed, crate::proofs::UseLaws::rose_writing, crate::proofs::UseLaws::rose_receiving))]
 pub fn use_daemon<O: Outside>(
     alloc: Global,
@@ -132,6 +134,7 @@ pub fn use_daemon<O: Outside>(
         → Rose (O.told outside.old).write_faults (O.told outside.new).write_faults }
     ensures failed { result ≡ Err Stop.LinkFault
         → Rose (O.told outside.old).link_faults (O.told outside.new).link_faults }
+    ensures stops { IfErr result StopsClient }
 {
     if !open_link(outside, config, 0) {
         return Err(Stop::LinkFault);

@@ -1,5 +1,5 @@
 -- The calls of the settings, one after the other, and how a daemon begins.
-use Rattle.std.proofs.Common.{◌≡◌, ℕ, Bool, ◌+◌, ◌<◌, ◌≤◌, List, [], ◌∷◌, ◌++◌, map, length, take, drop, get_or, None, refl, sym, ◌∙◌, ap, ap₂, subst, append_assoc, append-nil, add-one}
+use Rattle.std.proofs.Common.{◌≡◌, ℕ, ◌+◌, ◌<◌, ◌≤◌, List, [], ◌∷◌, ◌++◌, map, length, take, drop, get_or, None, refl, sym, ◌∙◌, ap, ap₂, subst, append_assoc, append-nil, add-one}
 use Rattle.std.proofs.Math.Seq.{take-suc}
 use Rattle.std.proofs.lemmas.List.{map-append, take-append-drop}
 use Rattle.std.proofs.lemmas.Grind.{flat_map-append}
@@ -11,6 +11,7 @@ use Rattle.node_state.specs.Step.{Calls, at_work}
 use Rattle.node_core.specs.Node.{NodeView}
 use Rattle.world_model.specs.declared.script.Line.{Line}
 use Rattle.world_model.specs.declared.script.Script.{Script}
+use Rattle.daemon_model.specs.declared.options.RemoteService.{RemoteService}
 use Rattle.daemon_model.specs.Daemon.{Daemon, Opening, left_for, fresh, begun_for, stepped_by, opened, own_call, own_calls}
 use Rattle.daemon_model.specs.Actions.{Opens, did, did_all}
 use Rattle.daemon_model.specs.Doings.{since, step_doings, doings, doings_of, Made, MadeFront}
@@ -61,7 +62,7 @@ unfolding unanswered
 unanswered_are [] = refl
 unanswered_are (c ∷ cs) = ap (λ t. c ∷ t) (unanswered_are cs)
 
-begun_since : (C : Type 0) (remote : Bool) (c : Config) (me inc moment : ℕ) → since (fresh remote c me inc moment) (begun_for remote c me inc moment) ≡ left_doings (fresh_running {C = C} remote c me inc moment)
+begun_since : (C : Type 0) (remote : RemoteService) (c : Config) (me inc moment : ℕ) → since (fresh remote c me inc moment) (begun_for remote c me inc moment) ≡ left_doings (fresh_running {C = C} remote c me inc moment)
 unfolding begun_for left_for
 begun_since C remote c me inc moment = since_is (fresh remote c me inc moment) (begun_for remote c me inc moment) _ _ refl refl
 
@@ -159,13 +160,13 @@ module _ {C : Type 0} where
   -- ---- from the start on
 
   -- the daemon that begins is the one whose node has just started, as it is once that is settled
-  begun_is : (remote : Bool) (c : Config) (me inc moment : ℕ) (s : Running C) (t u : Telling) → Settles None (fresh_running remote c me inc moment) s t u
+  begun_is : (remote : RemoteService) (c : Config) (me inc moment : ℕ) (s : Running C) (t u : Telling) → Settles None (fresh_running remote c me inc moment) s t u
       → begun_for remote c me inc moment ≡ daemon_of s (begun_for remote c me inc moment).calls (begun_for remote c me inc moment).records
   unfolding begun_for left_for
   begun_is remote c me inc moment s t u h = settled_is None (fresh_running remote c me inc moment) s t u h [] []
 
   -- what the calls hand, from no clients on
-  begins_with : (A B : Known → List (Hosted C) → Audience → Type 0) (remote : Bool) (c : Config) (me inc moment : ℕ) (s q : Running C) (t u : Telling) → Settles None (fresh_running remote c me inc moment) s t u → (os : List Opening)
+  begins_with : (A B : Known → List (Hosted C) → Audience → Type 0) (remote : RemoteService) (c : Config) (me inc moment : ℕ) (s q : Running C) (t u : Telling) → Settles None (fresh_running remote c me inc moment) s t u → (os : List Opening)
       → Attends A B s q (λ d. ActionsHand d (map Opens os)) → BeginsWith A B remote c me inc moment q os
   begins_with A B remote c me inc moment s q t u h os k z =
       let d : Daemon = begun_for remote c me inc moment in
@@ -177,7 +178,7 @@ module _ {C : Type 0} where
 
   -- ---- it begins
 
-  pub begins_done : {A B : Known → List (Hosted C) → Audience → Type 0} (remote : Bool) (script : Script) (me inc moment : ℕ) (s q : Running C) (t u v : Telling) → Settles None (fresh_running remote script.config me inc moment) s t u → CallsAs A B s q (own_calls me script.lines) u v
+  pub begins_done : {A B : Known → List (Hosted C) → Audience → Type 0} (remote : RemoteService) (script : Script) (me inc moment : ℕ) (s q : Running C) (t u v : Telling) → Settles None (fresh_running remote script.config me inc moment) s t u → CallsAs A B s q (own_calls me script.lines) u v
       → BeginsAs A B remote script me inc moment q t v
   begins_done {A = A} {B = B} remote script me inc moment s q t u v h n =
       let d : Daemon = begun_for remote script.config me inc moment in
@@ -193,7 +194,7 @@ module _ {C : Type 0} where
         attends = begins_with A B remote script.config me inc moment s q t u h n.opening n.acts.attends;
       }
 
-  pub begins_broke : (remote : Bool) (script : Script) (me inc moment : ℕ) (s : Running C) (t u v : Telling) → Settles None (fresh_running remote script.config me inc moment) s t u → CallsBreak s (own_calls me script.lines) u v
+  pub begins_broke : (remote : RemoteService) (script : Script) (me inc moment : ℕ) (s : Running C) (t u v : Telling) → Settles None (fresh_running remote script.config me inc moment) s t u → CallsBreak s (own_calls me script.lines) u v
       → BeginBreaks remote script me inc moment t v
   begins_broke remote script me inc moment s t u v h n =
       let d : Daemon = begun_for remote script.config me inc moment in
@@ -206,7 +207,7 @@ module _ {C : Type 0} where
       }
 
   -- a write of the calls failed
-  pub begins_fail : {A B : Known → List (Hosted C) → Audience → Type 0} (remote : Bool) (script : Script) (me inc moment : ℕ) (s q : Running C) (t u v : Telling) → Settles None (fresh_running remote script.config me inc moment) s t u → CallsFail A B s q (own_calls me script.lines) u v
+  pub begins_fail : {A B : Known → List (Hosted C) → Audience → Type 0} (remote : RemoteService) (script : Script) (me inc moment : ℕ) (s q : Running C) (t u v : Telling) → Settles None (fresh_running remote script.config me inc moment) s t u → CallsFail A B s q (own_calls me script.lines) u v
       → BeginFails A B remote script me inc moment q t v
   begins_fail {A = A} {B = B} remote script me inc moment s q t u v h n =
       let d : Daemon = begun_for remote script.config me inc moment in
@@ -222,7 +223,7 @@ module _ {C : Type 0} where
       }
 
   -- that of what the start records failed
-  pub begins_fail_at_start : {A : Known → List (Hosted C) → Audience → Type 0} (remote : Bool) (script : Script) (me inc moment : ℕ) (s : Running C) (t u : Telling) → SettleFails (fresh_running remote script.config me inc moment) s t u → BeginFails A A remote script me inc moment s t u
+  pub begins_fail_at_start : {A : Known → List (Hosted C) → Audience → Type 0} (remote : RemoteService) (script : Script) (me inc moment : ℕ) (s : Running C) (t u : Telling) → SettleFails (fresh_running remote script.config me inc moment) s t u → BeginFails A A remote script me inc moment s t u
   unfolding did_all doings_of begun_for left_for
   begins_fail_at_start {A = A} remote script me inc moment s t u h = record {
     opening = [];
@@ -235,13 +236,13 @@ module _ {C : Type 0} where
 
 -- ---- it breaks off at once
 
-pub begins_none : (remote : Bool) (script : Script) (me inc moment : ℕ) (t : Telling) → BeginBreaks remote script me inc moment t t
+pub begins_none : (remote : RemoteService) (script : Script) (me inc moment : ℕ) (t : Telling) → BeginBreaks remote script me inc moment t t
 begins_none remote script me inc moment t =
     let os : List Opening = unanswered (own_calls me script.lines) in
     record { opening = os; are = unanswered_are (own_calls me script.lines); made = none_made t (opening_doings remote script.config me inc moment os) }
 
 -- what the start records broke off
-pub begins_stopped : (C : Type 0) (remote : Bool) (script : Script) (me inc moment : ℕ) (t u : Telling) → MadeFront t u (left_doings (fresh_running {C = C} remote script.config me inc moment)) → BeginBreaks remote script me inc moment t u
+pub begins_stopped : (C : Type 0) (remote : RemoteService) (script : Script) (me inc moment : ℕ) (t u : Telling) → MadeFront t u (left_doings (fresh_running {C = C} remote script.config me inc moment)) → BeginBreaks remote script me inc moment t u
 begins_stopped C remote script me inc moment t u h =
     let os : List Opening = unanswered (own_calls me script.lines) in
     let d : Daemon = begun_for remote script.config me inc moment in

@@ -7,7 +7,8 @@ use Rattle.daemon_model.specs.Sent.{Exchange}
 use Rattle.daemon_model.specs.Daemon.{Daemon}
 use Rattle.daemon_model.specs.Actions.{Action, did, did_all}
 use Rattle.daemon_model.specs.Doings.{Exchanges, writes, step_doings, since, doings_of, Made, MadeFront}
-use Rattle.daemon_model.proofs.AddLaws.{Adds, since_is, doings_append, did_append}
+use Rattle.daemon_model.proofs.AddLaws.{Adds, since_is, doings_append}
+use Rattle.daemon_model.proofs.ActionLaws.{did_append}
 use Rattle.daemon_model.proofs.MadeLaws.{made_nothing, made_on, all_made, none_made, made_front_on, made_front_more}
 use Rattle.daemon_run.specs.Hosting.{Known}
 use Rattle.daemon_run.specs.declared.hosted.Hosted.{Hosted}
@@ -165,7 +166,7 @@ module _ {C : Type 0} where
   }
 
   -- what is done in acts, and in more
-  doings_on : {A B : Known → List (Hosted C) → Audience → Type 0} (r s : Running C) (t u : Telling) (acts more : List Action) (p : Acts A B r s t u acts) (before : List Exchange) (noted : List Happened)
+  pub doings_on : {A B : Known → List (Hosted C) → Audience → Type 0} (r s : Running C) (t u : Telling) (acts more : List Action) (p : Acts A B r s t u acts) (before : List Exchange) (noted : List Happened)
       → doings_of (daemon_of r before noted) (acts ++ more) ≡ p.done ++ doings_of (daemon_of s (before ++ p.calls) (noted ++ p.records)) more
   doings_on r s t u acts more p before noted = doings_append (daemon_of r before noted) acts more ∙ ap₂ (λ x y. x ++ y) (p.are before noted) (ap (λ (d : Daemon). doings_of d more) (p.is before noted))
 

@@ -5,6 +5,7 @@ pub mod HostLaws
 pub mod AudienceLaws
 pub mod NodeLaws
 pub mod StepLaws
+pub mod KeepLaws
 pub mod TurnLaws
 pub mod ServeLaws
 pub mod CallLaws

@@ -13,7 +13,7 @@ use Rattle.node_state.specs.HandOn.{Answering}
 use Rattle.node_state.specs.Bytes.{event_of}
 use Rattle.node_state.specs.Step.{Calls, at_work, stepped}
 use Rattle.remote_session.specs.Messages.{UpIn, up_of}
-use Rattle.remote_session.specs.Daemon.{RemoteState, SeenUp, NotUp, KeysFull, KnownKey, CallMade, max_keys, is_full_for, call_made, kept, up_seen_as, up_seen, up_taken_as, up_taken}
+use Rattle.remote_session.specs.Daemon.{RemoteState, SeenUp, NotUp, EndedKey, KeysFull, KnownKey, CallMade, max_keys, is_full_for, call_made, kept, ended_up, up_seen_as, up_seen_by, up_seen, up_taken_as, up_taken_by, up_taken}
 use Rattle.remote_clients.specs.declared.sessions.Sessions.{Sessions}
 use Rattle.remote_clients.specs.Sessions.{is_refused, finished, turned_down}
 use Rattle.daemon_model.specs.Sent.{Exchange, said, number_if, message_calls}
@@ -28,7 +28,7 @@ use Rattle.daemon_run.proofs.GoesLaws.{AddsCalls, goes_none, goes_as, goes_still
 use Rattle.daemon_run.proofs.StepLaws.{silent}
 
 -- what the sessions make of a step that was a call of the key
-abbrev with_finished : ℕ → CallLine → Bool → Daemon → Daemon
+abbrev pub with_finished : ℕ → CallLine → Bool → Daemon → Daemon
 with_finished key c refused d = record d { sessions = option_map (finished key c (not refused)) d.sessions }
 
 finished_adds : (key : ℕ) (c : CallLine) (refused : Bool) (d : Daemon) → AddsCalls d (with_finished key c refused d)
@@ -54,6 +54,10 @@ known_only : (key : ℕ) → up_only (KnownKey key) key
 unfolding brought
 known_only key network message f d = refl
 
+ended_only : (key : ℕ) → up_only (EndedKey key) key
+unfolding brought
+ended_only key network message f d = refl
+
 full_only : (key limit : ℕ) → up_only (KeysFull key limit) key
 unfolding brought
 full_only key limit network message f d = refl
@@ -69,9 +73,13 @@ kept_as s (Some u) e = absurd (by (is_full_for u.key s.sessions) (call_made u (k
     by false true e = cc
     by false false e = cc
 
+kept_by : (s : RemoteState) (ended : Option ℕ) (o : Option UpIn) → NotUp ≡ up_seen_by ended s.sessions o → up_taken_by ended s.sessions o ≡ s.sessions
+kept_by s None o e = kept_as s o e
+kept_by s (Some key) o e = refl
+
 up_kept : (s : RemoteState) (bytes : List ℕ) → NotUp ≡ up_seen s bytes → up_taken s bytes ≡ s
 unfolding up_seen up_taken
-up_kept s bytes e = ap (λ t. record s { sessions = t }) (kept_as s (up_of bytes) e)
+up_kept s bytes e = ap (λ t. record s { sessions = t }) (kept_by s (ended_up s bytes) (up_of bytes) e)
 
 sessions_kept : (o : Option Sessions) (message : List ℕ) → NotUp ≡ up_in o message → option_map (λ (t : Sessions). record t { remote = up_taken t.remote message }) o ≡ o
 sessions_kept None message e = refl
@@ -81,7 +89,7 @@ module _ {C : Type 0} where
   not_taken : (r : Running C) (message : List ℕ) → NotUp ≡ up_in r.sessions message → is_up_taken r message ≡ r
   not_taken r message e = ap (λ o. record r { sessions = o }) (sessions_kept r.sessions message e)
 
-  abbrev with_sessions : Running C → Option Sessions → Running C
+  abbrev pub with_sessions : Running C → Option Sessions → Running C
   with_sessions r o = record r { sessions = o }
 
   -- ---- the sessions take an Up
@@ -271,6 +279,16 @@ module _ {C : Type 0} where
         attends = hands_as A r s (KnownKey key) message silent is (λ before noted z. (z, refl, λ known held. subst (λ (x : Running C). A known x.node.clients z) (sym h.is) held));
       }
 
+  pub ended_done : {A : Known → List (Hosted C) → Audience → Type 0} (r q s : Running C) (key network : ℕ) (message : List ℕ) (t u : Telling) → EndedKey key ≡ up_in r.sessions message → q ≡ is_up_taken r message → Sends q s t u network (down_in q.sessions key)
+      → GivesAs A r s t u network message
+  ended_done {A = A} r q s key network message t u is taken g =
+      let h : Sends (is_up_taken r message) s t u network (down_in (is_up_taken r message).sessions key) = subst (λ (x : Running C). Sends x s t u network (down_in x.sessions key)) taken g in
+      record {
+        answers = silent;
+        goes = only_goes r s (EndedKey key) key network message t u (ended_only key) is h;
+        attends = hands_as A r s (EndedKey key) message silent is (λ before noted z. (z, refl, λ known held. subst (λ (x : Running C). A known x.node.clients z) (sym h.is) held));
+      }
+
   pub full_done : {A : Known → List (Hosted C) → Audience → Type 0} (r q s : Running C) (key limit network : ℕ) (message : List ℕ) (t u : Telling) → KeysFull key limit ≡ up_in r.sessions message → q ≡ is_up_taken r message → Sends q s t u network (down_in q.sessions key)
       → GivesAs A r s t u network message
   full_done {A = A} r q s key limit network message t u is taken g =
@@ -284,6 +302,10 @@ module _ {C : Type 0} where
   pub known_broke : (r q : Running C) (key network : ℕ) (message : List ℕ) (t u : Telling) → KnownKey key ≡ up_in r.sessions message → q ≡ is_up_taken r message → SendsFront q t u network (down_in q.sessions key) → GiveBreaks r t u network message
   known_broke r q key network message t u is taken g =
       only_breaks r (KnownKey key) key network message t u (known_only key) is (subst (λ (x : Running C). SendsFront x t u network (down_in x.sessions key)) taken g)
+
+  pub ended_broke : (r q : Running C) (key network : ℕ) (message : List ℕ) (t u : Telling) → EndedKey key ≡ up_in r.sessions message → q ≡ is_up_taken r message → SendsFront q t u network (down_in q.sessions key) → GiveBreaks r t u network message
+  ended_broke r q key network message t u is taken g =
+      only_breaks r (EndedKey key) key network message t u (ended_only key) is (subst (λ (x : Running C). SendsFront x t u network (down_in x.sessions key)) taken g)
 
   pub full_broke : (r q : Running C) (key limit network : ℕ) (message : List ℕ) (t u : Telling) → KeysFull key limit ≡ up_in r.sessions message → q ≡ is_up_taken r message → SendsFront q t u network (down_in q.sessions key) → GiveBreaks r t u network message
   full_broke r q key limit network message t u is taken g =

@@ -1,6 +1,6 @@
 -- Steps of a daemon's node, with what they record and send.
-use Rattle.std.proofs.Common.{◌≡◌, ℕ, Bool, List, [], ◌++◌, Option, None, refl, sym, ◌∙◌, ap, subst}
-use Rattle.std.specs.Prelude.{map, option_map}
+use Rattle.std.proofs.Common.{◌≡◌, ℕ, Bool, List, [], ◌++◌, Option, None, refl, sym, ◌∙◌, ap, ap₂, subst}
+use Rattle.std.specs.Prelude.{option_map}
 use Rattle.hags_io.specs.Telling.{Telling}
 use Rattle.link_use.specs.declared.sending.Outbox.{Outbox}
 use Rattle.node_state.specs.declared.happened.Happened.{Happened}
@@ -9,19 +9,18 @@ use Rattle.node_state.specs.HandOn.{Answering}
 use Rattle.node_state.specs.declared.call.CallLine.{CallLine}
 use Rattle.node_state.specs.declared.packet.Packet.{Packet}
 use Rattle.node_state.specs.Step.{NodeEvent, Calls, at_work, stepped}
-use Rattle.remote_clients.specs.Sessions.{noted_all, is_refused}
+use Rattle.remote_clients.specs.Sessions.{is_refused}
+use Rattle.remote_clients.specs.Entries.{noted_with}
 use Rattle.node_core.specs.Node.{NodeView}
 use Rattle.daemon_model.specs.Sent.{Exchange, sent_calls, number_after}
 use Rattle.daemon_model.specs.Daemon.{Daemon, left_for, stepped_for}
-use Rattle.daemon_model.specs.Doings.{Exchanges, writes, since, Made, MadeFront}
+use Rattle.daemon_model.specs.Doings.{step_doings, since, Made, MadeFront}
 use Rattle.daemon_model.proofs.AddLaws.{since_is}
-use Rattle.daemon_model.proofs.MadeLaws.{made_on, made_front_on, made_front_more}
 use Rattle.daemon_run.specs.Hosting.{Known}
 use Rattle.daemon_run.specs.declared.hosted.Hosted.{Hosted}
 use Rattle.daemon_run.specs.declared.running.Running.{Running}
 use Rattle.daemon_run.specs.Audience.{Audience, StepHands}
 use Rattle.daemon_run.specs.Doing.{daemon_of, Passes, Goes, Breaks, WriteFails, Fails, left_doings, Settles, SettleFails, IsStep, StepsAs, StepBreaks, StepFails, CallSteps}
-use Rattle.daemon_run.proofs.FailLaws.{fails_more}
 use Rattle.daemon_run.proofs.GoesLaws.{breaks_none, fails_as}
 use Rattle.daemon_run.proofs.NodeLaws.{from_work}
 
@@ -36,44 +35,36 @@ module _ {C : Type 0} where
   pub records_left : (r : Running C) (n : NodeView (Hosted C)) (records : List Happened) → n ≡ record (r.node) { core = record (r.node.core) { sends = [] } } → records ≡ n.core.records → records ≡ r.node.core.records
   records_left r n records taken is = is ∙ ap (λ (m : NodeView (Hosted C)). m.core.records) taken
 
+  left_same : (r : Running C) (sends : List Packet) (records : List Happened) → sends ≡ r.node.core.sends → records ≡ r.node.core.records → step_doings records (sent_calls r.outbox.me r.outbox.incarnation r.outbox.number sends) ≡ left_doings r
+  left_same r sends records sent recorded = ap₂ (λ (ps : List Packet) (rs : List Happened). step_doings rs (sent_calls r.outbox.me r.outbox.incarnation r.outbox.number ps)) sent recorded
+
   -- its lines were written, and its packets went out
-  pub left_made : (r : Running C) (sends : List Packet) (records : List Happened) (t u v : Telling) → sends ≡ r.node.core.sends → records ≡ r.node.core.records → Made t u (writes records) → Made u v (map Exchanges (sent_calls r.outbox.me r.outbox.incarnation r.outbox.number sends))
-      → Made t v (left_doings r)
-  left_made r sends records t u v sent recorded wrote went =
-      made_on t u v (writes r.node.core.records) (map Exchanges (sent_calls r.outbox.me r.outbox.incarnation r.outbox.number r.node.core.sends)) (subst (λ (rs : List Happened). Made t u (writes rs)) recorded wrote)
-      (subst (λ (ps : List Packet). Made u v (map Exchanges (sent_calls r.outbox.me r.outbox.incarnation r.outbox.number ps))) sent went)
+  pub left_made : (r : Running C) (sends : List Packet) (records : List Happened) (t u : Telling) → sends ≡ r.node.core.sends → records ≡ r.node.core.records → Made t u (step_doings records (sent_calls r.outbox.me r.outbox.incarnation r.outbox.number sends)) → Made t u (left_doings r)
+  left_made r sends records t u sent recorded made = subst (Made t u) (left_same r sends records sent recorded) made
 
-  -- its lines were written, and of its packets a front went out
-  pub left_unsent : (r : Running C) (sends : List Packet) (records : List Happened) (t u v : Telling) → sends ≡ r.node.core.sends → records ≡ r.node.core.records → Made t u (writes records) → MadeFront u v (map Exchanges (sent_calls r.outbox.me r.outbox.incarnation r.outbox.number sends))
-      → MadeFront t v (left_doings r)
-  left_unsent r sends records t u v sent recorded wrote front =
-      made_front_on t u v (writes r.node.core.records) (map Exchanges (sent_calls r.outbox.me r.outbox.incarnation r.outbox.number r.node.core.sends)) (subst (λ (rs : List Happened). Made t u (writes rs)) recorded wrote)
-      (subst (λ (ps : List Packet). MadeFront u v (map Exchanges (sent_calls r.outbox.me r.outbox.incarnation r.outbox.number ps))) sent front)
-
-  -- not even its lines were written
-  pub left_unwritten : (r : Running C) (records : List Happened) (t u : Telling) → records ≡ r.node.core.records → MadeFront t u (writes records) → MadeFront t u (left_doings r)
-  left_unwritten r records t u recorded front =
-      made_front_more t u (writes r.node.core.records) (map Exchanges (sent_calls r.outbox.me r.outbox.incarnation r.outbox.number r.node.core.sends)) (subst (λ (rs : List Happened). MadeFront t u (writes rs)) recorded front)
+  -- a front of that was done
+  pub left_front : (r : Running C) (sends : List Packet) (records : List Happened) (t u : Telling) → sends ≡ r.node.core.sends → records ≡ r.node.core.records → MadeFront t u (step_doings records (sent_calls r.outbox.me r.outbox.incarnation r.outbox.number sends)) → MadeFront t u (left_doings r)
+  left_front r sends records t u sent recorded front = subst (MadeFront t u) (left_same r sends records sent recorded) front
 
   -- the write of its lines failed
-  pub left_fails : (r : Running C) (n m : NodeView (Hosted C)) (records : List Happened) (t u : Telling) → n ≡ record (r.node) { core = record (r.node.core) { sends = [] } } → m ≡ record n { core = record (n.core) { records = [] } } → records ≡ r.node.core.records
-      → WriteFails t u (writes records) → SettleFails r (record r { node = m }) t u
-  left_fails r n m records t u taken left recorded h = record {
+  pub left_fails : (r : Running C) (n m : NodeView (Hosted C)) (o : Outbox) (sends : List Packet) (records : List Happened) (t u : Telling) → n ≡ record (r.node) { core = record (r.node.core) { sends = [] } } → m ≡ record n { core = record (n.core) { records = [] } } → sends ≡ r.node.core.sends
+      → records ≡ r.node.core.records → WriteFails t u (step_doings records (sent_calls r.outbox.me r.outbox.incarnation r.outbox.number sends)) → SettleFails r (record r { node = m; outbox = o }) t u
+  left_fails r n m o sends records t u taken left sent recorded h = record {
     node = left ∙ ap (λ (x : NodeView (Hosted C)). record x { core = record (x.core) { records = [] } }) taken;
-    made = fails_more t u (writes r.node.core.records) (sent_calls r.outbox.me r.outbox.incarnation r.outbox.number r.node.core.sends) (subst (λ (rs : List Happened). WriteFails t u (writes rs)) recorded h);
+    made = subst (WriteFails t u) (left_same r sends records sent recorded) h;
   }
 
 module _ {C : Type 0} (calling : Option ℕ) where
   -- and the lines came to who is to hear them
   pub settles : (r s : Running C) (n m : NodeView (Hosted C)) (o : Outbox) (sends : List Packet) (records : List Happened) (t u : Telling) → n ≡ record (r.node) { core = record (r.node.core) { sends = [] } } → m ≡ record n { core = record (n.core) { records = [] } }
-      → sends ≡ r.node.core.sends → records ≡ r.node.core.records → o ≡ record (r.outbox) { number = number_after r.outbox.number sends } → s ≡ record r { node = m; outbox = o; sessions = option_map (noted_all calling records) r.sessions } → Made t u (left_doings r)
+      → sends ≡ r.node.core.sends → records ≡ r.node.core.records → o ≡ record (r.outbox) { number = number_after r.outbox.number sends } → s ≡ record r { node = m; outbox = o; sessions = option_map (noted_with r.entries calling records) r.sessions } → Made t u (left_doings r)
       → Settles calling r s t u
   settles r s n m o sends records t u taken left sent recorded number is made = record {
     is =
         is
-        ∙ (ap (λ (x : NodeView (Hosted C)). record r { node = x; outbox = o; sessions = option_map (noted_all calling records) r.sessions }) (left ∙ ap (λ (x : NodeView (Hosted C)). record x { core = record (x.core) { records = [] } }) taken)
-        ∙ (ap (λ (x : Outbox). record r { node = record (r.node) { core = at_work r.node.core }; outbox = x; sessions = option_map (noted_all calling records) r.sessions }) (number ∙ ap (λ (ps : List Packet). record (r.outbox) { number = number_after r.outbox.number ps }) sent)
-        ∙ ap (λ (rs : List Happened). record r { node = record (r.node) { core = at_work r.node.core }; outbox = record (r.outbox) { number = number_after r.outbox.number r.node.core.sends }; sessions = option_map (noted_all calling rs) r.sessions }) recorded));
+        ∙ (ap (λ (x : NodeView (Hosted C)). record r { node = x; outbox = o; sessions = option_map (noted_with r.entries calling records) r.sessions }) (left ∙ ap (λ (x : NodeView (Hosted C)). record x { core = record (x.core) { records = [] } }) taken)
+        ∙ (ap (λ (x : Outbox). record r { node = record (r.node) { core = at_work r.node.core }; outbox = x; sessions = option_map (noted_with r.entries calling records) r.sessions }) (number ∙ ap (λ (ps : List Packet). record (r.outbox) { number = number_after r.outbox.number ps }) sent)
+        ∙ ap (λ (rs : List Happened). record r { node = record (r.node) { core = at_work r.node.core }; outbox = record (r.outbox) { number = number_after r.outbox.number r.node.core.sends }; sessions = option_map (noted_with r.entries calling rs) r.sessions }) recorded));
     made = made;
   }
 
@@ -108,26 +99,26 @@ module _ {C : Type 0} (calling : Option ℕ) where
         subst (WriteFails t u) (sym (since_is (daemon_of r before noted) (left_for calling (daemon_of r before noted) r.node.core) (sent_calls r.outbox.me r.outbox.incarnation r.outbox.number r.node.core.sends) r.node.core.records refl refl)) h.made;
   }
 
-  left_same : (r : Running C) (n : NodeView (Hosted C)) (before : List Exchange) (noted : List Happened) → left_for calling (daemon_of r before noted) n.core ≡ left_for calling (daemon_of (record r { node = n }) before noted) n.core
+  left_at : (r : Running C) (n : NodeView (Hosted C)) (before : List Exchange) (noted : List Happened) → left_for calling (daemon_of r before noted) n.core ≡ left_for calling (daemon_of (record r { node = n }) before noted) n.core
   unfolding left_for
-  left_same r n before noted = refl
+  left_at r n before noted = refl
 
   done_at : (r s : Running C) (n : NodeView (Hosted C)) (t u : Telling) (e : NodeEvent) (f : Answering) → n.core ≡ stepped f r.node.core e → Settles calling (record r { node = n }) s t u → Goes r s t u (stepped_for calling f e)
   done_at r s n t u e f core h =
       let g = settled_goes (record r { node = n }) s t u h in
-      record { calls = g.calls; records = g.records; is = λ before noted. step_is r f n.core e before noted core ∙ (left_same r n before noted ∙ g.is before noted); made = g.made }
+      record { calls = g.calls; records = g.records; is = λ before noted. step_is r f n.core e before noted core ∙ (left_at r n before noted ∙ g.is before noted); made = g.made }
 
   broke_at : (r : Running C) (n : NodeView (Hosted C)) (t u : Telling) (e : NodeEvent) (f : Answering) → n.core ≡ stepped f r.node.core e → MadeFront t u (left_doings (record r { node = n })) → StepBreaks calling r t u e
   unfolding since
   broke_at r n t u e f core h = record {
     answers = f;
     breaks = λ before noted.
-        subst (λ (d : Daemon). MadeFront t u (since (daemon_of (record r { node = n }) before noted) d)) (sym (step_is r f n.core e before noted core ∙ left_same r n before noted)) (settled_breaks (record r { node = n }) t u h before noted);
+        subst (λ (d : Daemon). MadeFront t u (since (daemon_of (record r { node = n }) before noted) d)) (sym (step_is r f n.core e before noted core ∙ left_at r n before noted)) (settled_breaks (record r { node = n }) t u h before noted);
   }
 
   fails_at : (r s : Running C) (n : NodeView (Hosted C)) (t u : Telling) (e : NodeEvent) (f : Answering) → n.core ≡ stepped f r.node.core e → SettleFails (record r { node = n }) s t u → Fails r s t u (stepped_for calling f e)
   fails_at r s n t u e f core h =
-      fails_as r (record r { node = n }) s t u (stepped_for calling f e) (λ d. left_for calling d n.core) (λ before noted. step_is r f n.core e before noted core ∙ left_same r n before noted) (settled_fails (record r { node = n }) s t u h)
+      fails_as r (record r { node = n }) s t u (stepped_for calling f e) (λ d. left_for calling d n.core) (λ before noted. step_is r f n.core e before noted core ∙ left_at r n before noted) (settled_fails (record r { node = n }) s t u h)
 
   -- what the node did is written and sent
   pub step_done : {A B : Known → List (Hosted C) → Audience → Type 0} (r q s : Running C) (t u : Telling) (e : NodeEvent) → IsStep A B r q e → Settles calling q s t u → StepsAs A B calling r s t u e

@@ -1,6 +1,6 @@
 -- The parts of a turn, and turns.
-use Rattle.std.proofs.Common.{◌≡◌, ℕ, ◌-◌, ◌≤◌, ◌<◌, true, false, List, [], ◌∷◌, ◌++◌, Option, Some, None, refl, sym, ◌∙◌, ap, ap₂, subst, append_assoc, append-nil}
-use Rattle.std.specs.Prelude.{option_map}
+use Rattle.std.proofs.Common.{◌≡◌, ℕ, ◌+◌, ◌-◌, ◌≤◌, ◌<◌, Bool, true, false, List, [], ◌∷◌, ◌++◌, Option, Some, None, refl, sym, ◌∙◌, ap, ap₂, subst, append_assoc, append-nil}
+use Rattle.std.specs.Prelude.{option_map, is_some}
 use Rattle.std.proofs.lemmas.Bool.{le-leb, lt-leb}
 use Rattle.hags_io.specs.declared.link.LinkCall.{LinkCall}
 use Rattle.hags_io.specs.declared.link.LinkCall.TheVariants as call
@@ -14,22 +14,30 @@ use Rattle.link_use.specs.Receiving.{IsReceive, Receives, ReceivesFront, receive
 use Rattle.link_use.proofs.SendLaws.{each_front}
 use Rattle.piece_link.specs.Joining.{Joining}
 use Rattle.node_state.specs.declared.happened.Happened.{Happened}
+use Rattle.node_state.specs.declared.state.Core.{Core}
 use Rattle.node_state.specs.HandOn.{Answering}
 use Rattle.node_state.specs.Step.{Ticks, at_work}
+use Rattle.daemon_model.specs.declared.options.Options.{Options}
+use Rattle.daemon_model.specs.declared.options.Pace.{Pace}
 use Rattle.daemon_model.specs.Sent.{Exchange, plain, as_sent}
-use Rattle.daemon_model.specs.Daemon.{Daemon, stepped_by, is_due, ticked_if, ticked, joined_by, received, up_in, given_on, network_of, heard}
-use Rattle.daemon_model.specs.Actions.{Hears, did, did_all}
+use Rattle.daemon_model.specs.Daemon.{Daemon, KeyEnd, Turn, stepped_by, is_due, counted_in, counted, ticked_if, ticked, joined_by, received, up_in, given_on, network_of, heard, keys_over}
+use Rattle.daemon_model.specs.Actions.{Action, Hears, did, did_all}
 use Rattle.daemon_model.specs.Actions as actions
+use Rattle.daemon_model.specs.Options.{keys_due, apart_for, is_long_apart, is_pause, ended_by, KeepsIf, apart_left, apart_after}
+use Rattle.daemon_model.proofs.AddLaws.{doings_append}
 use Rattle.daemon_model.specs.Doings.{Reads, Exchanges, step_doings, since, doings, doings_of, Made, MadeFront}
 use Rattle.daemon_model.proofs.MadeLaws.{made_nothing, made_on, made_front_on, made_front_more}
 use Rattle.daemon_run.specs.Hosting.{Known}
 use Rattle.daemon_run.specs.declared.hosted.Hosted.{Hosted}
 use Rattle.daemon_run.specs.declared.running.Running.{Running}
-use Rattle.remote_session.specs.Daemon.{SeenUp, NotUp, KeysFull, KnownKey, CallMade}
+use Rattle.remote_session.specs.Daemon.{SeenUp, NotUp, EndedKey, KeysFull, KnownKey, CallMade}
 use Rattle.daemon_run.specs.Audience.{Audience, StepHands, TickHands, BroughtHands, GivenHands, HeardHands}
-use Rattle.daemon_run.specs.Doing.{daemon_of, Comes, Acts, ActsBreak, Passes, Attends, WriteFails, ActsFail, StepsAs, StepBreaks, StepFails, TicksAs, TickBreaks, TickFails, GivesAs, GiveBreaks, GiveFails, HearsAs, HearBreaks, HearFails, TurnsAs, TurnBreaks, TurnFails}
+use Rattle.daemon_run.specs.Doing.{daemon_of, Comes, Breaks, Fails, Acts, ActsBreak, Passes, Attends, WriteFails, ActsFail, StepsAs, StepBreaks, StepFails, TicksAs, TickBreaks, TickFails, GivesAs, GiveBreaks, GiveFails, HearsAs, HearBreaks, HearFails}
+use Rattle.daemon_run.specs.Keeping.{OwnTurn, own_acts, OwnAs, OwnFront, OwnBreaks, OwnRest, OwnFails}
+use Rattle.daemon_run.specs.Turning.{TurnsAs, TurnBreaks, TurnFails, TurnPauses}
 use Rattle.daemon_run.proofs.FailLaws.{fails_on}
-use Rattle.daemon_run.proofs.GoesLaws.{goes_none, goes_as, since_comes, breaks_as, fails_as, one_hands, acts_on, acts_break_on, acts_break_more, acts_fail_on}
+use Rattle.daemon_run.proofs.GoesLaws.{goes_none, goes_as, goes_still, since_comes, breaks_as, fails_as, one_hands, acts_on, doings_on, acts_break_on, acts_break_more, acts_fail_on}
+use Rattle.daemon_run.proofs.KeepLaws.{own_whole}
 use Rattle.daemon_run.proofs.StepLaws.{silent}
 
 -- ---- when a tick is due
@@ -64,6 +72,7 @@ got_front t u got r w =
 -- what an Up or a message hands does not hang on what is joined, or on how many receives failed
 brought_alike : (u : SeenUp) (message : List ℕ) (f : Answering) (d : Daemon) (j : Joining) (n : ℕ) (cs : List Exchange) (old new : Audience) → BroughtHands u message f (record d { joining = j; failed = n; calls = cs }) old new → BroughtHands u message f d old new
 brought_alike NotUp message f d j n cs old new h = h
+brought_alike (EndedKey key) message f d j n cs old new h = h
 brought_alike (KeysFull key limit) message f d j n cs old new h = h
 brought_alike (KnownKey key) message f d j n cs old new h = h
 brought_alike (CallMade key line) message f d j n cs old new h = h
@@ -103,11 +112,49 @@ none_same m n f = refl
 given_at : (got : LinkCall) (network : ℕ) (message : List ℕ) (f : Answering) → network_of got ≡ network → given_on (network_of got) (Some message) f ≡ given_on network (Some message) f
 given_at got network message f same = ap (λ (n : ℕ). given_on n (Some message) f) same
 
+-- one in which these keys end, and the daemon mends or not
+abbrev turn_of : ℕ → Answering → List KeyEnd → Option Answering → LinkCall → Answering → Turn
+turn_of moment tick ends mends got answers = record { moment = moment; tick = tick; ends = ends; mends = mends; got = got; answers = answers }
+
+quiet_act : Action
+quiet_act = Hears call.Quiet silent
+
+-- what it does of its own behind the node's tick is what the options ask
+keeps_own : (o : Options) (ticks moment : ℕ) (d e : Daemon) (f : Answering) (x : OwnTurn o ticks e) (got : LinkCall) (answers : Answering) → ticked moment f d ≡ e → is_due d.last moment ≡ true → KeepsIf (is_due d.last moment) o ticks d (turn_of moment f x.ends x.mends got answers)
+keeps_own o ticks moment d e f x got answers is due =
+    subst (λ (b : Bool). KeepsIf b o ticks d (turn_of moment f x.ends x.mends got answers)) (sym due) (record {
+      ends = x.due ∙ sym (ap (λ (y : Daemon). keys_due o.silence y.sessions) is);
+      mends = x.long ∙ sym (ap (λ (y : Daemon). is_long_apart o.mend (apart_for o.mend ticks (keys_over x.ends y).core)) is);
+    })
+
+keeps_none : (o : Options) (ticks moment : ℕ) (d : Daemon) (f : Answering) (got : LinkCall) (answers : Answering) → is_due d.last moment ≡ false → KeepsIf (is_due d.last moment) o ticks d (turn_of moment f [] None got answers)
+keeps_none o ticks moment d f got answers undue = subst (λ (b : Bool). KeepsIf b o ticks d (turn_of moment f [] None got answers)) (sym undue) (record { ends = refl; mends = refl })
+
+-- whatever is left of a turn whose tick broke off
+record WholeTick (o : Options) (ticks moment : ℕ) (d : Daemon) (f : Answering) : Type 0 where
+  ends : List KeyEnd
+  mends : Option Answering
+  keeps : KeepsIf (is_due d.last moment) o ticks d (turn_of moment f ends mends call.Quiet silent)
+
+whole_tick : (o : Options) (ticks moment : ℕ) (d : Daemon) (f : Answering) → WholeTick o ticks moment d f
+whole_tick o ticks moment d f = by (is_due d.last moment) refl
+  where
+    by : (b : Bool) → is_due d.last moment ≡ b → WholeTick o ticks moment d f
+    by true due =
+        let x : OwnTurn o ticks (ticked moment f d) = own_whole o ticks (ticked moment f d) in
+        record { ends = x.ends; mends = x.mends; keeps = keeps_own o ticks moment d (ticked moment f d) f x call.Quiet silent refl due }
+    by false undue = record { ends = []; mends = None; keeps = keeps_none o ticks moment d f call.Quiet silent undue }
+
+-- ---- a pause
+
+pub turn_pauses : (o : Options) (p : Pace) (moment : ℕ) (t u : Telling) → Did t u (Read moment ∷ []) → is_pause o.gap p.before moment ≡ true → TurnPauses o p t u
+turn_pauses o p moment t u at pause = record { moment = moment; read = at; pause = pause }
+
 module _ {C : Type 0} where
   -- ---- a tick
 
   tick_is : (r : Running C) (moment : ℕ) (f : Answering) → 100 ≤ moment - r.last → (before : List Exchange) (noted : List Happened)
-      → ticked moment f (daemon_of r before noted) ≡ stepped_by f Ticks (daemon_of (record r { last = moment }) before noted)
+      → ticked moment f (daemon_of r before noted) ≡ counted (stepped_by f Ticks (daemon_of (record r { last = moment }) before noted))
   tick_is r moment f le before noted = ap (λ q. ticked_if q moment f (daemon_of r before noted)) (due r.last moment le)
 
   tick_hands : (A : Known → List (Hosted C) → Audience → Type 0) (r s : Running C) (moment : ℕ) (f : Answering) → 100 ≤ moment - r.last → Attends A A (record r { last = moment }) s (λ d. StepHands f Ticks d.core) → Attends A A r s (λ d. TickHands (is_due d.last moment) f d.core)
@@ -118,20 +165,34 @@ module _ {C : Type 0} where
         a.2,
       )
 
-  pub tick_done : {A : Known → List (Hosted C) → Audience → Type 0} (r s : Running C) (moment : ℕ) (t u : Telling) → 100 ≤ moment - r.last → StepsAs A A None (record r { last = moment }) s t u Ticks → TicksAs A r s t u moment
-  tick_done {A = A} r s moment t u le h = record {
+  -- what a step did is what it did, however many ticks keys were silent
+  counted_breaks : (r : Running C) (t u : Telling) (f : Daemon → Daemon) → Breaks r t u f → Breaks r t u (λ d. counted (f d))
+  unfolding since
+  counted_breaks r t u f p = p
+
+  counted_fails : (r s : Running C) (t u : Telling) (f : Daemon → Daemon) → Fails r s t u f → Fails r s t u (λ d. counted (f d))
+  unfolding since
+  counted_fails r s t u f p = record { core = p.core; made = p.made }
+
+  pub tick_done : {A : Known → List (Hosted C) → Audience → Type 0} (r q s : Running C) (moment : ℕ) (t u : Telling) → 100 ≤ moment - r.last → StepsAs A A None (record r { last = moment }) q t u Ticks → s ≡ record q { sessions = counted_in q.sessions }
+      → TicksAs A r s t u moment
+  tick_done {A = A} r q s moment t u le h is = record {
     answers = h.answers;
-    goes = goes_as r (record r { last = moment }) s t u (ticked moment h.answers) (stepped_by h.answers Ticks) (tick_is r moment h.answers le) h.goes;
-    attends = tick_hands A r s moment h.answers le h.attends;
+    goes = goes_as r (record r { last = moment }) s t u (ticked moment h.answers) (λ d. counted (stepped_by h.answers Ticks d)) (tick_is r moment h.answers le)
+        (goes_still (record r { last = moment }) q s t u (stepped_by h.answers Ticks) counted h.goes (λ before noted. ap (λ (x : Running C). daemon_of x before noted) (sym is)));
+    attends = tick_hands A r s moment h.answers le
+        (λ before noted z.
+        let a : (v : Audience) × StepHands h.answers Ticks (at_work r.node.core) z v × Passes A A r.node.clients q.node.clients z v = h.attends before noted z in
+        (a.0, a.1, λ known held. subst (λ (x : Running C). A known x.node.clients a.0) (sym is) (a.2 known held)));
   }
 
   pub tick_broke : (r : Running C) (moment : ℕ) (t u : Telling) → 100 ≤ moment - r.last → StepBreaks None (record r { last = moment }) t u Ticks → TickBreaks r t u moment
-  tick_broke r moment t u le h = record { answers = h.answers; breaks = breaks_as r (record r { last = moment }) t u (ticked moment h.answers) (stepped_by h.answers Ticks) (tick_is r moment h.answers le) h.breaks }
+  tick_broke r moment t u le h = record { answers = h.answers; breaks = breaks_as r (record r { last = moment }) t u (ticked moment h.answers) (λ d. counted (stepped_by h.answers Ticks d)) (tick_is r moment h.answers le) (counted_breaks (record r { last = moment }) t u (stepped_by h.answers Ticks) h.breaks) }
 
   pub tick_fails : {A : Known → List (Hosted C) → Audience → Type 0} (r s : Running C) (moment : ℕ) (t u : Telling) → 100 ≤ moment - r.last → StepFails A A None (record r { last = moment }) s t u Ticks → TickFails A r s t u moment
   tick_fails {A = A} r s moment t u le h = record {
     answers = h.answers;
-    fails = fails_as r (record r { last = moment }) s t u (ticked moment h.answers) (stepped_by h.answers Ticks) (tick_is r moment h.answers le) h.fails;
+    fails = fails_as r (record r { last = moment }) s t u (ticked moment h.answers) (λ d. counted (stepped_by h.answers Ticks d)) (tick_is r moment h.answers le) (counted_fails (record r { last = moment }) s t u (stepped_by h.answers Ticks) h.fails);
     attends = tick_hands A r s moment h.answers le h.attends;
   }
 
@@ -308,38 +369,153 @@ module _ {C : Type 0} where
 
   -- ---- a turn
 
-  pub turn_done : {A : Known → List (Hosted C) → Audience → Type 0} (r q s : Running C) (moment : ℕ) (t u v w : Telling) → Did t u (Read moment ∷ []) → TicksAs A r q u v moment → HearsAs A q s v w → TurnsAs A r s t w
-  turn_done r q s moment t u v w at p h = record {
-    turn = record { moment = moment; tick = p.answers; got = h.got; answers = h.answers };
-    acts = acts_on r q s t v w (actions.Ticks moment p.answers ∷ []) (Hears h.got h.answers ∷ []) (tick_acts r q moment t u v at p) h.acts;
+  -- what was done of its own, seen from before the tick
+  own_seen : {A : Known → List (Hosted C) → Audience → Type 0} (o : Options) (ticks left : ℕ) (q w : Running C) (v x : Telling) → OwnAs A o ticks left q w v x → (before : List Exchange) (noted : List Happened) → OwnTurn o ticks (daemon_of q before noted)
+  own_seen o ticks left q w v x own before noted = record {
+    ends = own.ends;
+    mends = own.mends;
+    due = own.due;
+    long = own.long ∙ sym (ap (λ (s : Core). is_long_apart o.mend (apart_for o.mend ticks s)) (own.core_is before noted));
   }
 
-  pub turn_broke : {A : Known → List (Hosted C) → Audience → Type 0} (r q : Running C) (moment : ℕ) (t u v w : Telling) → Did t u (Read moment ∷ []) → TicksAs A r q u v moment → HearBreaks q v w → TurnBreaks r t w
-  turn_broke r q moment t u v w at p h = record {
-    turn = record { moment = moment; tick = p.answers; got = h.got; answers = h.answers };
-    breaks = acts_break_on r q t v w (actions.Ticks moment p.answers ∷ []) (Hears h.got h.answers ∷ []) (tick_acts r q moment t u v at p) h.breaks;
+  -- no tick was due
+  pub turn_plain : {A : Known → List (Hosted C) → Audience → Type 0} (o : Options) (p : Pace) (r q s : Running C) (moment : ℕ) (t u v w : Telling) → Did t u (Read moment ∷ []) → is_pause o.gap p.before moment ≡ false → moment - r.last < 100 → TicksAs A r q u v moment → HearsAs A q s v w
+      → TurnsAs A o p (record { before = moment; apart = p.apart }) r s t w
+  turn_plain o p r q s moment t u v w at in_time lt k h = record {
+    turn = turn_of moment k.answers [] None h.got h.answers;
+    follows = λ before noted. record { in_time = in_time; keeps = keeps_none o p.apart moment (daemon_of r before noted) k.answers h.got h.answers (undue r.last moment lt) };
+    paces = λ before noted. ap (λ (b : Bool). record { before = moment; apart = apart_after b o p.apart (daemon_of r before noted) (turn_of moment k.answers [] None h.got h.answers) }) (sym (undue r.last moment lt));
+    acts = acts_on r q s t v w (actions.Ticks moment k.answers ∷ []) (Hears h.got h.answers ∷ []) (tick_acts r q moment t u v at k) h.acts;
   }
 
-  pub turn_ends : (r : Running C) (moment : ℕ) (t u v : Telling) → Did t u (Read moment ∷ []) → TickBreaks r u v moment → TurnBreaks r t v
-  turn_ends r moment t u v at p = record {
-    turn = record { moment = moment; tick = p.answers; got = call.Quiet; answers = silent };
-    breaks = acts_break_more r t v (actions.Ticks moment p.answers ∷ []) (Hears call.Quiet silent ∷ []) (tick_acts_break r moment t u v at p);
+  -- one was due
+  pub turn_kept : {A : Known → List (Hosted C) → Audience → Type 0} (o : Options) (p : Pace) (left : ℕ) (r q w s : Running C) (moment : ℕ) (t u v x y : Telling) → Did t u (Read moment ∷ []) → is_pause o.gap p.before moment ≡ false → 100 ≤ moment - r.last → TicksAs A r q u v moment
+      → OwnAs A o p.apart left q w v x → HearsAs A w s x y → TurnsAs A o p (record { before = moment; apart = left }) r s t y
+  unfolding own_seen
+  turn_kept o p left r q w s moment t u v x y at in_time le k own h = record {
+    turn = turn_of moment k.answers own.ends own.mends h.got h.answers;
+    follows = λ before noted. record {
+      in_time = in_time;
+      keeps = keeps_own o p.apart moment (daemon_of r before noted) (daemon_of q (before ++ k.goes.calls) (noted ++ k.goes.records)) k.answers (own_seen o p.apart left q w v x own (before ++ k.goes.calls) (noted ++ k.goes.records)) h.got h.answers (k.goes.is before noted) (due r.last moment le);
+    };
+    paces = λ before noted.
+        let d : Daemon = daemon_of r before noted in
+        let turn : Turn = turn_of moment k.answers own.ends own.mends h.got h.answers in
+        let core : (ended_by d turn).core ≡ own.core = ap (λ (e : Daemon). (keys_over own.ends e).core) (k.goes.is before noted) ∙ own.core_is (before ++ k.goes.calls) (noted ++ k.goes.records) in
+        ap (λ (n : ℕ). record { before = moment; apart = n }) (own.left_is ∙ sym (ap (λ (c : Core). apart_left (apart_for o.mend p.apart c) (is_some own.mends)) core))
+        ∙ ap (λ (b : Bool). record { before = moment; apart = apart_after b o p.apart d turn }) (sym (due r.last moment le));
+    acts = acts_on r q s t v y (actions.Ticks moment k.answers ∷ []) (own_acts own.ends own.mends ++ Hears h.got h.answers ∷ []) (tick_acts r q moment t u v at k)
+        (acts_on q w s v x y (own_acts own.ends own.mends) (Hears h.got h.answers ∷ []) own.acts h.acts);
   }
 
-  pub turn_fails : {A : Known → List (Hosted C) → Audience → Type 0} (r q s : Running C) (moment : ℕ) (t u v w : Telling) → Did t u (Read moment ∷ []) → TicksAs A r q u v moment → HearFails A q s v w → TurnFails A r s t w
-  turn_fails r q s moment t u v w at p h = record {
-    turn = record { moment = moment; tick = p.answers; got = h.got; answers = h.answers };
-    acts = actions.Ticks moment p.answers ∷ Hears h.got h.answers ∷ [];
-    later = [];
-    are = refl;
-    fails = acts_fail_on r q s t v w (actions.Ticks moment p.answers ∷ []) (Hears h.got h.answers ∷ []) (tick_acts r q moment t u v at p) h.fails;
+  -- ---- a turn that broke off
+
+  pub turn_ends : (o : Options) (p : Pace) (r : Running C) (moment : ℕ) (t u v : Telling) → Did t u (Read moment ∷ []) → is_pause o.gap p.before moment ≡ false → TickBreaks r u v moment → TurnBreaks o p r t v
+  unfolding quiet_act
+  turn_ends o p r moment t u v at in_time k before noted =
+      let x : WholeTick o p.apart moment (daemon_of r before noted) k.answers = whole_tick o p.apart moment (daemon_of r before noted) k.answers in
+      record {
+        turn = turn_of moment k.answers x.ends x.mends call.Quiet silent;
+        follows = record { in_time = in_time; keeps = x.keeps };
+        made = acts_break_more r t v (actions.Ticks moment k.answers ∷ []) (own_acts x.ends x.mends ++ quiet_act ∷ []) (tick_acts_break r moment t u v at k) before noted;
+      }
+
+  pub turn_ends_own : {A : Known → List (Hosted C) → Audience → Type 0} (o : Options) (p : Pace) (r q : Running C) (moment : ℕ) (t u v w : Telling) → Did t u (Read moment ∷ []) → is_pause o.gap p.before moment ≡ false → 100 ≤ moment - r.last → TicksAs A r q u v moment → OwnBreaks o p.apart q v w
+      → TurnBreaks o p r t w
+  unfolding quiet_act tick_acts
+  turn_ends_own o p r q moment t u v w at in_time le k h before noted =
+      let e : Daemon = daemon_of q (before ++ k.goes.calls) (noted ++ k.goes.records) in
+      let x : OwnFront o p.apart e v w = h (before ++ k.goes.calls) (noted ++ k.goes.records) in
+      let acts : List Action = own_acts x.own.ends x.own.mends in
+      record {
+        turn = turn_of moment k.answers x.own.ends x.own.mends call.Quiet silent;
+        follows = record { in_time = in_time; keeps = keeps_own o p.apart moment (daemon_of r before noted) e k.answers x.own call.Quiet silent (k.goes.is before noted) (due r.last moment le) };
+        made = subst (MadeFront t w) (sym (doings_on r q t v (actions.Ticks moment k.answers ∷ []) (acts ++ quiet_act ∷ []) (tick_acts r q moment t u v at k) before noted))
+            (made_front_on t v w (tick_acts r q moment t u v at k).done (doings_of e (acts ++ quiet_act ∷ [])) (tick_acts r q moment t u v at k).made
+            (subst (MadeFront v w) (sym (doings_append e acts (quiet_act ∷ []))) (made_front_more v w (doings_of e acts) (doings_of (did_all e acts) (quiet_act ∷ [])) x.made)));
+      }
+
+  pub turn_broke_plain : {A : Known → List (Hosted C) → Audience → Type 0} (o : Options) (p : Pace) (r q : Running C) (moment : ℕ) (t u v w : Telling) → Did t u (Read moment ∷ []) → is_pause o.gap p.before moment ≡ false → moment - r.last < 100 → TicksAs A r q u v moment → HearBreaks q v w
+      → TurnBreaks o p r t w
+  turn_broke_plain o p r q moment t u v w at in_time lt k h before noted = record {
+    turn = turn_of moment k.answers [] None h.got h.answers;
+    follows = record { in_time = in_time; keeps = keeps_none o p.apart moment (daemon_of r before noted) k.answers h.got h.answers (undue r.last moment lt) };
+    made = acts_break_on r q t v w (actions.Ticks moment k.answers ∷ []) (Hears h.got h.answers ∷ []) (tick_acts r q moment t u v at k) h.breaks before noted;
   }
 
-  pub turn_fails_at_tick : {A : Known → List (Hosted C) → Audience → Type 0} (r s : Running C) (moment : ℕ) (t u v : Telling) → Did t u (Read moment ∷ []) → TickFails A r s u v moment → TurnFails A r s t v
-  turn_fails_at_tick r s moment t u v at p = record {
-    turn = record { moment = moment; tick = p.answers; got = call.Quiet; answers = silent };
-    acts = actions.Ticks moment p.answers ∷ [];
-    later = Hears call.Quiet silent ∷ [];
-    are = refl;
-    fails = tick_acts_fail r s moment t u v at p;
+  pub turn_broke_kept : {A : Known → List (Hosted C) → Audience → Type 0} (o : Options) (p : Pace) (left : ℕ) (r q w : Running C) (moment : ℕ) (t u v x y : Telling) → Did t u (Read moment ∷ []) → is_pause o.gap p.before moment ≡ false → 100 ≤ moment - r.last → TicksAs A r q u v moment
+      → OwnAs A o p.apart left q w v x → HearBreaks w x y → TurnBreaks o p r t y
+  unfolding own_seen
+  turn_broke_kept o p left r q w moment t u v x y at in_time le k own h before noted = record {
+    turn = turn_of moment k.answers own.ends own.mends h.got h.answers;
+    follows = record {
+      in_time = in_time;
+      keeps = keeps_own o p.apart moment (daemon_of r before noted) (daemon_of q (before ++ k.goes.calls) (noted ++ k.goes.records)) k.answers (own_seen o p.apart left q w v x own (before ++ k.goes.calls) (noted ++ k.goes.records)) h.got h.answers (k.goes.is before noted) (due r.last moment le);
+    };
+    made = acts_break_on r w t x y (actions.Ticks moment k.answers ∷ own_acts own.ends own.mends) (Hears h.got h.answers ∷ [])
+        (acts_on r q w t v x (actions.Ticks moment k.answers ∷ []) (own_acts own.ends own.mends) (tick_acts r q moment t u v at k) own.acts) h.breaks before noted;
+  }
+
+  -- ---- a write that failed
+
+  pub turn_fails_at_tick : {A : Known → List (Hosted C) → Audience → Type 0} (o : Options) (p : Pace) (r s : Running C) (moment : ℕ) (t u v : Telling) → Did t u (Read moment ∷ []) → is_pause o.gap p.before moment ≡ false → TickFails A r s u v moment → TurnFails A o p r s t v
+  turn_fails_at_tick o p r s moment t u v at in_time k = record {
+    acts = actions.Ticks moment k.answers ∷ [];
+    fails = tick_acts_fail r s moment t u v at k;
+    rest = λ before noted.
+        let x : WholeTick o p.apart moment (daemon_of r before noted) k.answers = whole_tick o p.apart moment (daemon_of r before noted) k.answers in
+        record {
+          turn = turn_of moment k.answers x.ends x.mends call.Quiet silent;
+          follows = record { in_time = in_time; keeps = x.keeps };
+          later = own_acts x.ends x.mends ++ Hears call.Quiet silent ∷ [];
+          are = refl;
+        };
+  }
+
+  pub turn_fails_own : {A : Known → List (Hosted C) → Audience → Type 0} (o : Options) (p : Pace) (r q s : Running C) (moment : ℕ) (t u v w : Telling) → Did t u (Read moment ∷ []) → is_pause o.gap p.before moment ≡ false → 100 ≤ moment - r.last → TicksAs A r q u v moment
+      → OwnFails A o p.apart q s v w → TurnFails A o p r s t w
+  turn_fails_own o p r q s moment t u v w at in_time le k h = record {
+    acts = actions.Ticks moment k.answers ∷ h.acts;
+    fails = acts_fail_on r q s t v w (actions.Ticks moment k.answers ∷ []) h.acts (tick_acts r q moment t u v at k) h.fails;
+    rest = λ before noted.
+        let e : Daemon = daemon_of q (before ++ k.goes.calls) (noted ++ k.goes.records) in
+        let x : OwnRest o p.apart e h.acts = h.rest (before ++ k.goes.calls) (noted ++ k.goes.records) in
+        let last : List Action = Hears call.Quiet silent ∷ [] in
+        record {
+          turn = turn_of moment k.answers x.own.ends x.own.mends call.Quiet silent;
+          follows = record { in_time = in_time; keeps = keeps_own o p.apart moment (daemon_of r before noted) e k.answers x.own call.Quiet silent (k.goes.is before noted) (due r.last moment le) };
+          later = x.later ++ last;
+          are = ap (λ z. actions.Ticks moment k.answers ∷ z) (sym (append_assoc h.acts x.later last) ∙ ap (λ z. z ++ last) x.are);
+        };
+  }
+
+  pub turn_fails_plain : {A : Known → List (Hosted C) → Audience → Type 0} (o : Options) (p : Pace) (r q s : Running C) (moment : ℕ) (t u v w : Telling) → Did t u (Read moment ∷ []) → is_pause o.gap p.before moment ≡ false → moment - r.last < 100 → TicksAs A r q u v moment → HearFails A q s v w
+      → TurnFails A o p r s t w
+  turn_fails_plain o p r q s moment t u v w at in_time lt k h = record {
+    acts = actions.Ticks moment k.answers ∷ Hears h.got h.answers ∷ [];
+    fails = acts_fail_on r q s t v w (actions.Ticks moment k.answers ∷ []) (Hears h.got h.answers ∷ []) (tick_acts r q moment t u v at k) h.fails;
+    rest = λ before noted. record {
+      turn = turn_of moment k.answers [] None h.got h.answers;
+      follows = record { in_time = in_time; keeps = keeps_none o p.apart moment (daemon_of r before noted) k.answers h.got h.answers (undue r.last moment lt) };
+      later = [];
+      are = refl;
+    };
+  }
+
+  pub turn_fails_kept : {A : Known → List (Hosted C) → Audience → Type 0} (o : Options) (p : Pace) (left : ℕ) (r q w s : Running C) (moment : ℕ) (t u v x y : Telling) → Did t u (Read moment ∷ []) → is_pause o.gap p.before moment ≡ false → 100 ≤ moment - r.last → TicksAs A r q u v moment
+      → OwnAs A o p.apart left q w v x → HearFails A w s x y → TurnFails A o p r s t y
+  unfolding own_seen
+  turn_fails_kept o p left r q w s moment t u v x y at in_time le k own h = record {
+    acts = (actions.Ticks moment k.answers ∷ own_acts own.ends own.mends) ++ Hears h.got h.answers ∷ [];
+    fails = acts_fail_on r w s t x y (actions.Ticks moment k.answers ∷ own_acts own.ends own.mends) (Hears h.got h.answers ∷ [])
+        (acts_on r q w t v x (actions.Ticks moment k.answers ∷ []) (own_acts own.ends own.mends) (tick_acts r q moment t u v at k) own.acts) h.fails;
+    rest = λ before noted. record {
+      turn = turn_of moment k.answers own.ends own.mends h.got h.answers;
+      follows = record {
+        in_time = in_time;
+        keeps = keeps_own o p.apart moment (daemon_of r before noted) (daemon_of q (before ++ k.goes.calls) (noted ++ k.goes.records)) k.answers (own_seen o p.apart left q w v x own (before ++ k.goes.calls) (noted ++ k.goes.records)) h.got h.answers (k.goes.is before noted) (due r.last moment le);
+      };
+      later = [];
+      are = append-nil _;
+    };
   }

@@ -6,6 +6,7 @@ use Rattle.client_callbacks.specs.declared.votes.VoteItem.{VoteItem}
 use Rattle.client_callbacks.specs.Handed.{Handed}
 use Rattle.session_state.specs.State.{client_token, client_place}
 use Rattle.session_state.specs.Calls.{inited, removed_at}
+use Rattle.node_reach.specs.Reach.{reach_of}
 use Rattle.node_state.specs.declared.call.CallLine.{CallLine}
 use Rattle.node_state.specs.declared.call.CallLine.TheVariants as call
 use Rattle.node_state.specs.declared.happened.Happened.{Happened}
@@ -21,8 +22,8 @@ use Rattle.entry_delivery.specs.Received.{handed_by, AreLogs, Handing, AreFor, l
 use Rattle.node_core.specs.Event.{called}
 use Rattle.world_model.specs.declared.script.Script.{Script}
 use Rattle.world_model.specs.Reading.{boxed_word}
-use Rattle.remote_session.specs.Daemon.{SeenUp, NotUp, KeysFull, KnownKey, CallMade}
-use Rattle.daemon_model.specs.Daemon.{Daemon, Life, is_due, joined_by, up_in, with_up, call_in, begun_for}
+use Rattle.remote_session.specs.Daemon.{SeenUp, NotUp, EndedKey, KeysFull, KnownKey, CallMade}
+use Rattle.daemon_model.specs.Daemon.{Daemon, Life, is_due, joined_by, up_in, with_up, call_in, goodbye_in, begun_for}
 use Rattle.daemon_model.specs.Actions.{Action, did}
 use Rattle.daemon_model.specs.Actions as actions
 use Rattle.daemon_run.specs.declared.hosted.Hosted.{Hosted}
@@ -130,6 +131,7 @@ LineHands (Some a) f s old new = StepHands f (Calls a) s old new
 -- what an Up brings; every other message is the node's
 abbrev pub BroughtHands : SeenUp → List ℕ → Answering → Daemon → Audience → Audience → Type 0
 BroughtHands NotUp message f d old new = StepHands f (event_of message) d.core old new
+BroughtHands (EndedKey key) message f d old new = new ≡ old
 BroughtHands (KeysFull key limit) message f d old new = new ≡ old
 BroughtHands (KnownKey key) message f d old new = new ≡ old
 BroughtHands (CallMade key line) message f d old new = LineHands (call_in (with_up message d).sessions d.me key line) f d.core old new
@@ -145,6 +147,8 @@ HeardHands got f d old new = GivenHands (joined_by got d.joining).message f d ol
 abbrev pub ActionHands : Daemon → Action → Audience → Audience → Type 0
 ActionHands d (actions.Opens o) old new = StepHands o.answers (Calls o.call) d.core old new
 ActionHands d (actions.Ticks moment f) old new = TickHands (is_due d.last moment) f d.core old new
+ActionHands d (actions.EndsKey key f) old new = LineHands (goodbye_in d.sessions key) f d.core old new
+ActionHands d (actions.Mends f) old new = StepHands f (Asks (reach_of d.core.reach)) d.core old new
 ActionHands d (actions.Hears got f) old new = HeardHands got f d old new
 
 -- acts, one after another

@@ -1,12 +1,13 @@
 -- How the calls of the settings follow one another, and how a daemon begins.
-use Rattle.std.specs.Prelude.{◌≡◌, ℕ, Bool, false, List, [], ◌++◌, map}
+use Rattle.std.specs.Prelude.{◌≡◌, ℕ, false, List, [], ◌++◌, map}
 use Rattle.hags_io.specs.Telling.{Telling}
 use Rattle.link_use.specs.Receiving.{nothing_received}
 use Rattle.node_state.specs.declared.call.CallLine.{CallLine}
 use Rattle.node_state.specs.declared.config.Config.{Config}
 use Rattle.node_state.specs.Step.{at_work, started}
 use Rattle.world_model.specs.declared.script.Script.{Script}
-use Rattle.daemon_model.specs.Daemon.{Daemon, Opening, sessions_if, fresh, begun_for, own_calls}
+use Rattle.daemon_model.specs.declared.options.RemoteService.{RemoteService}
+use Rattle.daemon_model.specs.Daemon.{Daemon, Opening, sessions_if, tells_entries, fresh, begun_for, own_calls}
 use Rattle.daemon_model.specs.Actions.{Opens, did_all}
 use Rattle.daemon_model.specs.Doings.{Doing, since, doings_of, Made, MadeFront}
 use Rattle.daemon_run.specs.declared.hosted.Hosted.{Hosted}
@@ -40,31 +41,32 @@ pub record CallsFail {C : Type 0} (A B : Known → List (Hosted C) → Audience 
 -- ---- from the start on
 
 -- one whose node has just started; whether it serves clients on other machines
-abbrev pub fresh_running : {C : Type 0} → Bool → Config → ℕ → ℕ → ℕ → Running C
+abbrev pub fresh_running : {C : Type 0} → RemoteService → Config → ℕ → ℕ → ℕ → Running C
 fresh_running remote c me incarnation moment = record {
   outbox = record { me = me; incarnation = incarnation; number = 1 };
   node = record { core = started c me incarnation; clients = []; halted = false };
   receiving = nothing_received;
   last = moment;
   sessions = sessions_if remote incarnation;
+  entries = tells_entries remote;
 }
 
 -- the doings of the node's start, and of these calls of the settings
-abbrev pub opening_doings : Bool → Config → ℕ → ℕ → ℕ → List Opening → List Doing
+abbrev pub opening_doings : RemoteService → Config → ℕ → ℕ → ℕ → List Opening → List Doing
 opening_doings remote c me incarnation moment opening =
     since (fresh remote c me incarnation moment) (begun_for remote c me incarnation moment) ++ doings_of (begun_for remote c me incarnation moment) (map Opens opening)
 
 -- the daemon after them
-abbrev pub opened_by : Bool → Config → ℕ → ℕ → ℕ → List Opening → Daemon
+abbrev pub opened_by : RemoteService → Config → ℕ → ℕ → ℕ → List Opening → Daemon
 opened_by remote c me incarnation moment opening = did_all (begun_for remote c me incarnation moment) (map Opens opening)
 
 -- from no clients what these calls hand, of a daemon that has just started, comes to those now
-abbrev pub BeginsWith : {C : Type 0} → (Known → List (Hosted C) → Audience → Type 0) → (Known → List (Hosted C) → Audience → Type 0) → Bool → Config → ℕ → ℕ → ℕ → Running C → List Opening → Type 0
+abbrev pub BeginsWith : {C : Type 0} → (Known → List (Hosted C) → Audience → Type 0) → (Known → List (Hosted C) → Audience → Type 0) → RemoteService → Config → ℕ → ℕ → ℕ → Running C → List Opening → Type 0
 BeginsWith A B remote c me incarnation moment s opening =
     (z : Audience) → (v : Audience) × ActionsHand (begun_for remote c me incarnation moment) (map Opens opening) z v × Passes A B [] s.node.clients z v
 
 -- the node started, and the calls of the settings are carried out
-pub record BeginsAs {C : Type 0} (A B : Known → List (Hosted C) → Audience → Type 0) (remote : Bool) (script : Script) (me incarnation moment : ℕ) (s : Running C) (old new : Telling) : Type 0 where
+pub record BeginsAs {C : Type 0} (A B : Known → List (Hosted C) → Audience → Type 0) (remote : RemoteService) (script : Script) (me incarnation moment : ℕ) (s : Running C) (old new : Telling) : Type 0 where
   pub opening : List Opening
   pub are : calls_in opening ≡ own_calls me script.lines
   pub is : opened_by remote script.config me incarnation moment opening
@@ -72,14 +74,14 @@ pub record BeginsAs {C : Type 0} (A B : Known → List (Hosted C) → Audience �
   pub made : Made old new (opening_doings remote script.config me incarnation moment opening)
   pub attends : BeginsWith A B remote script.config me incarnation moment s opening
 
-pub record BeginBreaks (remote : Bool) (script : Script) (me incarnation moment : ℕ) (old new : Telling) : Type 0 where
+pub record BeginBreaks (remote : RemoteService) (script : Script) (me incarnation moment : ℕ) (old new : Telling) : Type 0 where
   pub opening : List Opening
   pub are : calls_in opening ≡ own_calls me script.lines
   pub made : MadeFront old new (opening_doings remote script.config me incarnation moment opening)
 
 -- A write failed in the last of the calls that were carried out, or, where there is none, as the node started. Its clients
 -- have what they handed.
-pub record BeginFails {C : Type 0} (A B : Known → List (Hosted C) → Audience → Type 0) (remote : Bool) (script : Script) (me incarnation moment : ℕ) (s : Running C) (old new : Telling) : Type 0 where
+pub record BeginFails {C : Type 0} (A B : Known → List (Hosted C) → Audience → Type 0) (remote : RemoteService) (script : Script) (me incarnation moment : ℕ) (s : Running C) (old new : Telling) : Type 0 where
   pub opening : List Opening
   pub later : List CallLine
   pub are : calls_in opening ++ later ≡ own_calls me script.lines

@@ -10,10 +10,11 @@ use Rattle.node_state.specs.declared.call.CallLine.{CallLine}
 use Rattle.node_state.specs.Step.{NodeEvent, Calls, at_work, stepped}
 use Rattle.remote_session.specs.Daemon.{up_taken}
 use Rattle.remote_clients.specs.declared.sessions.Sessions.{Sessions}
-use Rattle.remote_clients.specs.Sessions.{noted_all, is_refused}
+use Rattle.remote_clients.specs.Sessions.{is_refused}
+use Rattle.remote_clients.specs.Entries.{noted_with}
 use Rattle.daemon_model.specs.Sent.{Exchange, said, number_if, message_calls, sent_calls, number_after}
-use Rattle.daemon_model.specs.Daemon.{Daemon, Turn, stepped_for, is_due, ticked, call_in, called_by, given_on, records_text}
-use Rattle.daemon_model.specs.Actions.{Action, Hears, did_all, turn_actions}
+use Rattle.daemon_model.specs.Daemon.{Daemon, stepped_for, is_due, ticked, call_in, called_by, given_on, records_text}
+use Rattle.daemon_model.specs.Actions.{Action, Hears, did_all}
 use Rattle.daemon_model.specs.Doings.{Doing, Exchanges, Writes, step_doings, since, doings_of, Made, MadeFront}
 use Rattle.daemon_run.specs.declared.hosted.Hosted.{Hosted}
 use Rattle.daemon_run.specs.declared.running.Running.{Running}
@@ -33,6 +34,7 @@ daemon_of r calls records = record {
   calls = calls;
   records = records;
   sessions = r.sessions;
+  entries = r.entries;
 }
 
 -- the one that runs came from r to s as f says, with these calls and records more
@@ -108,7 +110,7 @@ left_doings r = step_doings r.node.core.records (sent_calls r.outbox.me r.outbox
 
 -- what the node left is written and sent, and comes to who is to hear it; the step was a call of this key, or of none
 pub record Settles {C : Type 0} (calling : Option ℕ) (r s : Running C) (old new : Telling) : Type 0 where
-  pub is : s ≡ record r { node = record (r.node) { core = at_work r.node.core }; outbox = record (r.outbox) { number = number_after r.outbox.number r.node.core.sends }; sessions = option_map (noted_all calling r.node.core.records) r.sessions }
+  pub is : s ≡ record r { node = record (r.node) { core = at_work r.node.core }; outbox = record (r.outbox) { number = number_after r.outbox.number r.node.core.sends }; sessions = option_map (noted_with r.entries calling r.node.core.records) r.sessions }
   pub made : Made old new (left_doings r)
 
 -- The write failed: the node did what it left, and has nothing left.
@@ -225,21 +227,3 @@ pub record HearFails {C : Type 0} (A : Known → List (Hosted C) → Audience �
   pub got : LinkCall
   pub answers : Answering
   pub fails : ActsFail A A r s old new (Hears got answers ∷ [])
-
--- ---- a turn
-
-pub record TurnsAs {C : Type 0} (A : Known → List (Hosted C) → Audience → Type 0) (r s : Running C) (old new : Telling) : Type 0 where
-  pub turn : Turn
-  pub acts : Acts A A r s old new (turn_actions turn)
-
-pub record TurnBreaks {C : Type 0} (r : Running C) (old new : Telling) : Type 0 where
-  pub turn : Turn
-  pub breaks : ActsBreak r old new (turn_actions turn)
-
--- in the last of the acts that it did
-pub record TurnFails {C : Type 0} (A : Known → List (Hosted C) → Audience → Type 0) (r s : Running C) (old new : Telling) : Type 0 where
-  pub turn : Turn
-  pub acts : List Action
-  pub later : List Action
-  pub are : acts ++ later ≡ turn_actions turn
-  pub fails : ActsFail A A r s old new acts

@@ -1,6 +1,8 @@
 pub mod Hosting
 pub mod Audience
 pub mod Doing
+pub mod Keeping
+pub mod Turning
 pub mod Calling
 pub mod Serving
 pub mod Ends

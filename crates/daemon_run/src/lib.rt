@@ -4,6 +4,7 @@
 mod calls;
 mod first;
 mod hosted;
+mod keeping;
 mod remote;
 mod running;
 mod serving;

@@ -57,7 +57,7 @@ impl<C: Callbacks> Running<C> {
     }
 
     /// A call of the key was a step, in which it was taken or refused.
-    fn finish(
+    pub(crate) fn finish(
         &mut self,
         alloc: Global,
         key: u32,
@@ -139,7 +139,7 @@ impl<C: Callbacks> Running<C> {
 
     /// A whole message that came on this network: an Up of a client on another machine, where those are served, after
     /// which its Down is sent; or one for the node.
-    #[tactic(auto, using(crate::proofs::RemoteLaws::give_done, crate::proofs::RemoteLaws::give_broke, crate::proofs::RemoteLaws::known_done, crate::proofs::RemoteLaws::full_done, crate::proofs::RemoteLaws::call_done, crate::proofs::RemoteLaws::call_broke_off, crate::proofs::RemoteLaws::give_fails, crate::proofs::RemoteLaws::call_fails_in, crate::proofs::RemoteLaws::give_none))]
+    #[tactic(auto, using(crate::proofs::RemoteLaws::give_done, crate::proofs::RemoteLaws::give_broke, crate::proofs::RemoteLaws::known_done, crate::proofs::RemoteLaws::ended_done, crate::proofs::RemoteLaws::full_done, crate::proofs::RemoteLaws::call_done, crate::proofs::RemoteLaws::call_broke_off, crate::proofs::RemoteLaws::give_fails, crate::proofs::RemoteLaws::call_fails_in, crate::proofs::RemoteLaws::give_none))]
     pub(crate) fn give<H: Hosts<C>, O: Outside>(
         &mut self,
         alloc: Global,
@@ -163,6 +163,7 @@ impl<C: Callbacks> Running<C> {
             UpSeen::NoMessage => {
                 return self.step(alloc, NodeEvent::Datagram(message), outside);
             }
+            UpSeen::Ended(key) => key,
             UpSeen::Full(key, _) => key,
             UpSeen::Known(key) => key,
             UpSeen::Call { key, line } => {

@@ -2,13 +2,15 @@
 ghost use Rattle.std.specs.Prelude.{◌≡◌, ◌≤◌, OnOk, OnErr, IfOk, IfErr, IsTrue, None, option_map};
 ghost use Rattle.link_use.specs.Stops.{StopsBy};
 ghost use Rattle.node_core.specs.Event.{event_in, is_taken};
-ghost use Rattle.remote_clients.specs.Sessions.{noted_all, is_refused};
+ghost use Rattle.remote_clients.specs.Sessions.{is_refused};
+ghost use Rattle.remote_clients.specs.Entries.{noted_with};
+ghost use Rattle.daemon_model.specs.Daemon.{counted_in};
 ghost use Rattle.daemon_model.specs.Doings.{MadeFront};
 ghost use Rattle.daemon_run.specs.Audience.{Attend};
 ghost use Rattle.daemon_run.specs.Doing.{IsSame, left_doings, Settles, SettleFails, IsStep, StepsAs, StepBreaks, StepFails};
 
 use crate::hosted::Hosted;
-use crate::writing::write_records;
+use crate::writing::write_and_send;
 use client_callbacks::Callbacks;
 use hags_io::Outside;
 use link_use::{Outbox, Receiving, Stop};
@@ -19,8 +21,8 @@ use rsct_packet::NoMemory;
 use std::alloc::Global;
 
 /// A daemon that runs: what it sends by, with the number of its node, which is at most 32, and its incarnation; the node
-/// with its clients; what it receives; the moment of its last tick, or of its start; and the sessions of clients on
-/// other machines, where it serves them.
+/// with its clients; what it receives; the moment of its last tick, or of its start; the sessions of clients on other
+/// machines, where it serves them; and whether it tells those the lines of entries.
 #[derive(Drop)]
 pub struct Running<C: Callbacks> {
     pub outbox: Outbox,
@@ -28,6 +30,7 @@ pub struct Running<C: Callbacks> {
     pub receiving: Receiving,
     pub last: u64,
     pub sessions: Option<Sessions>,
+    pub entries: bool,
 }
 
 impl<C: Callbacks> Running<C> {
@@ -39,13 +42,27 @@ impl<C: Callbacks> Running<C> {
         calling: Option<u32>,
         records: &[Happened],
     ) -> Result<(), NoMemory>
-        ensures noted { OnOk result (self.new ≡ record self.old
-            { sessions = option_map (noted_all calling records.now) self.old.sessions }) }
+        ensures noted { OnOk result (self.new ≡ record self.old {
+          sessions = option_map (noted_with self.old.entries calling records.now)
+              self.old.sessions;
+        }) }
         ensures same { IsSame self.old self.new }
     {
+        let entries = self.entries;
         match &mut self.sessions {
             None => Ok(()),
-            Some(sessions) => sessions.note_all(alloc, calling, records),
+            Some(sessions) => sessions.note_all_with(alloc, entries, calling, records),
+        }
+    }
+
+    /// The daemon ticked: each key was silent for one tick more.
+    pub(crate) fn count(&mut self)
+        ensures counted { self.new ≡ record self.old
+            { sessions = counted_in self.old.sessions } }
+        ensures same { IsSame self.old self.new }
+    {
+        if let Some(sessions) = &mut self.sessions {
+            sessions.remote.tick();
         }
     }
 
@@ -73,8 +90,13 @@ impl<C: Callbacks> Running<C> {
     {
         let sends = self.node.take_sends(alloc);
         let records = self.node.take_records(alloc);
-        write_records(alloc, records.as_slice(), outside)?;
-        self.outbox.send_packets(alloc, sends.as_slice(), outside)?;
+        write_and_send(
+            &mut self.outbox,
+            alloc,
+            records.as_slice(),
+            sends.as_slice(),
+            outside,
+        )?;
         self.note(alloc, calling, records.as_slice())?;
         Ok(is_refused(records.as_slice()))
     }

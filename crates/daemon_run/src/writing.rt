@@ -1,13 +1,14 @@
-//! What a daemon writes: the lines of records.
-ghost use Rattle.std.specs.Prelude.{◌≡◌, OnOk, OnErr, IfOk, IfErr};
+//! What a daemon writes, the lines of records, and what it sends behind that.
+ghost use Rattle.std.specs.Prelude.{◌≡◌, ◌≤◌, OnOk, OnErr, IfOk, IfErr};
 ghost use Rattle.link_use.specs.Stops.{StopsBy};
 ghost use Rattle.daemon_model.specs.Daemon.{records_text};
-ghost use Rattle.daemon_model.specs.Doings.{writes, Made, MadeFront};
+ghost use Rattle.daemon_model.specs.Sent.{sent_calls, number_after};
+ghost use Rattle.daemon_model.specs.Doings.{writes, step_doings, Made, MadeFront};
 ghost use Rattle.daemon_run.specs.Doing.{WriteFails};
 
 use hags_io::{Outside, Put};
-use link_use::Stop;
-use node_state::Happened;
+use link_use::{Outbox, Stop};
+use node_state::{Happened, Packet};
 use rsct_packet::NoMemory;
 use std::alloc::Global;
 use transcript::line_of;
@@ -27,7 +28,7 @@ fn text_of(alloc: Global, records: &[Happened]) -> Result<Vec<u8>, NoMemory>
 
 /// Writes the lines of what a step recorded, all at once; nothing where it recorded nothing.
 #[tactic(auto, using(crate::proofs::WriteLaws::none_written, crate::proofs::WriteLaws::all_written, crate::proofs::WriteLaws::front_written, crate::proofs::WriteLaws::still_written, crate::proofs::FailLaws::write_fails, daemon_model::proofs::MadeLaws::none_made, hags_io::proofs::FrontLaws::ends_by_write))]
-pub fn write_records<O: Outside>(
+fn write_records<O: Outside>(
     alloc: Global,
     records: &[Happened],
     outside: &mut O,
@@ -49,4 +50,33 @@ pub fn write_records<O: Outside>(
         Put::Failed => Err(Stop::WriteFault),
         Put::NoMemory => Err(Stop::NoMemory),
     }
+}
+
+/// What a step recorded is written, and then what it sends goes out.
+#[tactic(auto, using(daemon_model::proofs::MadeLaws::made_on, daemon_model::proofs::MadeLaws::made_front_on, daemon_model::proofs::MadeLaws::made_front_more, crate::proofs::FailLaws::fails_more))]
+pub(crate) fn write_and_send<O: Outside>(
+    outbox: &mut Outbox,
+    alloc: Global,
+    records: &[Happened],
+    sends: &[Packet],
+    outside: &mut O,
+) -> Result<(), Stop>
+    requires { outbox.old.me ≤ 32 }
+    ensures done { OnOk result (Made (O.told outside.old) (O.told outside.new)
+        (step_doings records.now (sent_calls outbox.old.me outbox.old.incarnation
+        outbox.old.number sends.now))) }
+    ensures number { OnOk result (outbox.new ≡ record outbox.old
+        { number = number_after outbox.old.number sends.now }) }
+    ensures broke { OnErr result (MadeFront (O.told outside.old) (O.told outside.new)
+        (step_doings records.now (sent_calls outbox.old.me outbox.old.incarnation
+        outbox.old.number sends.now))) }
+    ensures unwritten { IfErr result (λ stop. stop ≡ Stop.WriteFault
+        → WriteFails (O.told outside.old) (O.told outside.new) (step_doings records.now
+        (sent_calls outbox.old.me outbox.old.incarnation outbox.old.number sends.now))) }
+    ensures same { outbox.new.me ≡ outbox.old.me }
+    ensures fault { IfErr result (StopsBy (O.told outside.new)) }
+{
+    write_records(alloc, records, outside)?;
+    outbox.send_packets(alloc, sends, outside)?;
+    Ok(())
 }

@@ -1,6 +1,10 @@
 //! How a daemon ends, and settings that are refused.
-use crate::runs::{ALONE, ALONE_TEXT, Edges, Failing, end_of, served, settings};
+use crate::runs::{
+    ALONE, ALONE_TEXT, Edges, Failing, end_of, served, served_as, serving, settings,
+};
+use daemon_run::Serving;
 use link_use::Stop;
+use std::alloc::Global;
 use std::test::Fail;
 
 const FIFTEEN: &[u32] = &[1, 2, 3, 4, 5, 6, 7, 8, 9, 10, 11, 12, 13, 14, 15];
@@ -55,6 +59,36 @@ fn sixteen_failed_receives_in_a_row_end_it(rt: HostRuntime) -> Result<(), Fail> 
         let mut edges = Edges::new(alloc, &[], &[0], failing)?;
         assert!(rt; end_of(alloc, ALONE, turns, &mut edges) == Some(want));
         assert!(rt; edges.wrote(ALONE_TEXT));
+    }
+    Ok(())
+}
+
+/// How a daemon of a node alone ends that is to do so many turns.
+fn end_after(alloc: Global, turns: u64, edges: &mut Edges) -> Option<Result<(), Stop>> {
+    let script = settings(alloc, ALONE, 0)?;
+    let lasting = Serving {
+        turns,
+        ..serving(1, false)
+    };
+    let left = Vec::new(alloc);
+    Some(served_as(alloc, &script, lasting, edges, left))
+}
+
+/// A count of 32 bits would end these daemons after no turn, and after three.
+#[test]
+fn turns_are_counted_beyond_32_bits(rt: HostRuntime) -> Result<(), Fail> {
+    let alloc = rt.alloc();
+    for turns in [1 << 32, (1 << 32) + 3, u64::MAX] {
+        let failing = Failing {
+            recvs: SIXTEEN,
+            ..Failing::nothing()
+        };
+        let mut edges = Edges::new(alloc, &[], &[0], failing)?;
+        assert!(rt;
+            end_after(alloc, turns, &mut edges) == Some(Err(Stop::LinkFault)),
+            "turns {turns}"
+        );
+        assert!(rt; edges.called(b"FFFFFFFFFFFFFFFF"), "turns {turns}");
     }
     Ok(())
 }

@@ -5,19 +5,19 @@ use std::alloc::Global;
 use std::test::Fail;
 
 /// The first Up of key 7 in its piece, as the first message of who sends it: its call is `client 1 a -`.
-const CLIENT_ASKED: &[u8] =
+pub(crate) const CLIENT_ASKED: &[u8] =
     b"RP\0\0\0\0\0\0\0\0\0\0\0\0\0\x01\0\0\0\0\0\0\0\x01RS\x01\0\0\0\0\x07\0\0\0\x01\0\0\0\0\0\x0cclient 1 a -";
 
 /// The same Up, as the second message.
-const CLIENT_ASKED_AGAIN: &[u8] =
+pub(crate) const CLIENT_ASKED_AGAIN: &[u8] =
     b"RP\0\0\0\0\0\0\0\0\0\0\0\0\0\x02\0\0\0\0\0\0\0\x01RS\x01\0\0\0\0\x07\0\0\0\x01\0\0\0\0\0\x0cclient 1 a -";
 
 /// The Down that answers it, as the first message of the daemon: one call is answered, and taken; no event.
-const CLIENT_TAKEN: &[u8] =
+pub(crate) const CLIENT_TAKEN: &[u8] =
     b"RP\x01\0\0\0\0\x05\0\0\0\0\0\0\0\x01\0\0\0\0\0\0\0\x01RS\x02\0\0\0\0\x07\0\0\0\x05\0\0\0\x01\x01\0\0\0\x01\0";
 
 /// The same, as the second message.
-const CLIENT_STILL_TAKEN: &[u8] =
+pub(crate) const CLIENT_STILL_TAKEN: &[u8] =
     b"RP\x01\0\0\0\0\x05\0\0\0\0\0\0\0\x02\0\0\0\0\0\0\0\x01RS\x02\0\0\0\0\x07\0\0\0\x05\0\0\0\x01\x01\0\0\0\x01\0";
 
 /// An Up with the second call, `leave a db 1`.
