@@ -13,6 +13,7 @@ use Rattle.script_reader.specs.declared.faults.ScriptFault.{ScriptFault}
 use Rattle.script_reader.specs.declared.faults.ScriptFault.TheVariants as script_fault
 use Rattle.link_use.specs.declared.stop.Stop.{Stop}
 use Rattle.link_use.specs.declared.stop.Stop.TheVariants as stop
+use Rattle.link_use.specs.Stops.{StopsClient}
 use Rattle.client_run.specs.declared.serving.Usage.{Usage}
 use Rattle.hags_cli.specs.declared.ending.Ending.{Ending}
 use Rattle.hags_cli.specs.declared.ending.Ending.TheVariants as ending
@@ -69,6 +70,7 @@ uses_settings ending.TooMuchKept u x still touched h = absurd h
 uses_settings (ending.Stop stop.NoReply) u x still touched h = absurd h
 uses_settings (ending.Stop stop.SessionLost) u x still touched h = absurd h
 uses_settings (ending.Stop stop.DaemonFull) u x still touched h = absurd h
+uses_settings (ending.Stop stop.Paused) u x still touched h = absurd h
 
 -- ---- a client that ran
 
@@ -80,17 +82,18 @@ module _ (u : Usage) (x : Seen) (s : Script) (spelled : IfSome x.left (λ b. cli
   uses_done end h = (used_by (UsesOver x u (UsesAll x u)) h, end)
 
   -- by whatever fault it ended
-  pub uses_fault : (r : Result (Unit {0}) Ending) (f : Stop) → IsErr r × IsErrAnd r (λ e. e ≡ ending.Stop f) → (f ≡ stop.NoReply → UsesOver x u (WaitsOn x u) s) → (f ≡ stop.SessionLost → UsesOver x u (LosesSession x u) s) → (f ≡ stop.DaemonFull → UsesOver x u (FindsFull x u) s)
+  pub uses_fault : (r : Result (Unit {0}) Ending) (f : Stop) → IsErr r × IsErrAnd r (λ e. e ≡ ending.Stop f) → StopsClient f → (f ≡ stop.NoReply → UsesOver x u (WaitsOn x u) s) → (f ≡ stop.SessionLost → UsesOver x u (LosesSession x u) s) → (f ≡ stop.DaemonFull → UsesOver x u (FindsFull x u) s)
       → (f ≡ stop.LinkFault → UsesNoMore x u s) → UsesPart x u s → (f ≡ stop.WriteFault → Rose x.before.write_faults x.now.write_faults) → (f ≡ stop.LinkFault → Rose x.before.link_faults x.now.link_faults)
       → EndsAs r (Some (uses u)) x
-  uses_fault r f is unanswered lost full failing part wrote failed = ended_by r (ending.Stop f) (λ q. EndsAs q (Some (uses u)) x) is (by f unanswered lost full failing wrote failed)
+  uses_fault r f is stops unanswered lost full failing part wrote failed = ended_by r (ending.Stop f) (λ q. EndsAs q (Some (uses u)) x) is (by f stops unanswered lost full failing wrote failed)
     where
-      by : (f : Stop) → (f ≡ stop.NoReply → UsesOver x u (WaitsOn x u) s) → (f ≡ stop.SessionLost → UsesOver x u (LosesSession x u) s) → (f ≡ stop.DaemonFull → UsesOver x u (FindsFull x u) s)
+      by : (f : Stop) → StopsClient f → (f ≡ stop.NoReply → UsesOver x u (WaitsOn x u) s) → (f ≡ stop.SessionLost → UsesOver x u (LosesSession x u) s) → (f ≡ stop.DaemonFull → UsesOver x u (FindsFull x u) s)
           → (f ≡ stop.LinkFault → UsesNoMore x u s) → (f ≡ stop.WriteFault → Rose x.before.write_faults x.now.write_faults) → (f ≡ stop.LinkFault → Rose x.before.link_faults x.now.link_faults)
           → FailsAs (ending.Stop f) (Some (uses u)) x
-      by stop.NoMemory unanswered lost full failing wrote failed = inr (used_by (UsesPart x u) part)
-      by stop.WriteFault unanswered lost full failing wrote failed = (wrote refl, used_by (UsesPart x u) part)
-      by stop.LinkFault unanswered lost full failing wrote failed = (failed refl, used_by (UsesNoMore x u) (failing refl))
-      by stop.NoReply unanswered lost full failing wrote failed = used_by (UsesOver x u (WaitsOn x u)) (unanswered refl)
-      by stop.SessionLost unanswered lost full failing wrote failed = used_by (UsesOver x u (LosesSession x u)) (lost refl)
-      by stop.DaemonFull unanswered lost full failing wrote failed = used_by (UsesOver x u (FindsFull x u)) (full refl)
+      by stop.NoMemory stops unanswered lost full failing wrote failed = inr (used_by (UsesPart x u) part)
+      by stop.WriteFault stops unanswered lost full failing wrote failed = (wrote refl, used_by (UsesPart x u) part)
+      by stop.LinkFault stops unanswered lost full failing wrote failed = (failed refl, used_by (UsesNoMore x u) (failing refl))
+      by stop.NoReply stops unanswered lost full failing wrote failed = used_by (UsesOver x u (WaitsOn x u)) (unanswered refl)
+      by stop.SessionLost stops unanswered lost full failing wrote failed = used_by (UsesOver x u (LosesSession x u)) (lost refl)
+      by stop.DaemonFull stops unanswered lost full failing wrote failed = used_by (UsesOver x u (FindsFull x u)) (full refl)
+      by stop.Paused stops unanswered lost full failing wrote failed = absurd stops

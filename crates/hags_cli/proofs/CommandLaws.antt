@@ -13,7 +13,7 @@ use Rattle.world_model.specs.declared.script.Script.{Script}
 use Rattle.world_model.specs.Reading.{IsScript, IsNone}
 use Rattle.world_model.specs.Settings.{daemon_script}
 use Rattle.daemon_model.specs.Settings.{OverLink, OverLinkIf}
-use Rattle.daemon_model.specs.Lives.{ServesAs, ServesTo, ServesFront}
+use Rattle.daemon_model.specs.Lives.{ServesAs, ServesTo, ServesToPause, ServesFront}
 use Rattle.status_client.specs.declared.question.Asking.{Asking}
 use Rattle.status_client.specs.Asked.{IsUnwritten, Answered}
 use Rattle.link_use.specs.declared.stop.Stop.{Stop}
@@ -22,7 +22,7 @@ use Rattle.link_use.specs.Stops.{StopsDaemon, StopsQuestion}
 use Rattle.hags_cli.specs.declared.daemon_command.Service.{Service}
 use Rattle.hags_cli.specs.declared.ending.Ending.{Ending}
 use Rattle.hags_cli.specs.declared.ending.Ending.TheVariants as ending
-use Rattle.hags_cli.specs.Tasks.{serves, asks, Seen, Untouched, counted, SettingsEnd, incarnation_at, ByClock, Incarnates, Running, Runs, ServesAll, ServesPart, ServesNoMore, AsksBy, AsksOver, GivesNone, AsksNoMore, TellEnds, FailsAs, EndsAs}
+use Rattle.hags_cli.specs.Tasks.{serves, asks, Seen, Untouched, counted, SettingsEnd, incarnation_at, ByClock, Incarnates, Running, Runs, ServesAll, ServesPart, ServesNoMore, ServesUpToPause, AsksBy, AsksOver, GivesNone, AsksNoMore, TellEnds, FailsAs, EndsAs}
 use Rattle.hags_cli.proofs.EndLaws.{ended_by}
 use Rattle.hags_cli.proofs.OutputLaws.{rose_within}
 use Rattle.hags_cli.proofs.TaskLaws.{keeps_same, memory_ends}
@@ -40,6 +40,7 @@ serves_settings ending.TooMuchKept s objects n x is still touched h = absurd h
 serves_settings (ending.Stop stop.NoReply) s objects n x is still touched h = absurd h
 serves_settings (ending.Stop stop.SessionLost) s objects n x is still touched h = absurd h
 serves_settings (ending.Stop stop.DaemonFull) s objects n x is still touched h = absurd h
+serves_settings (ending.Stop stop.Paused) s objects n x is still touched h = absurd h
 
 pub asks_settings : (e : Ending) (a : Asking) (x : Seen) → x.now.held ≡ x.before.held → Untouched x → SettingsEnd a.node None x.left x.reads x.reads_now e → FailsAs e (Some (asks a)) x
 asks_settings ending.Usage a x still touched h = absurd h
@@ -52,6 +53,7 @@ asks_settings ending.TooMuchKept a x still touched h = absurd h
 asks_settings (ending.Stop stop.NoReply) a x still touched h = absurd h
 asks_settings (ending.Stop stop.SessionLost) a x still touched h = absurd h
 asks_settings (ending.Stop stop.DaemonFull) a x still touched h = absurd h
+asks_settings (ending.Stop stop.Paused) a x still touched h = absurd h
 
 -- ---- a question
 
@@ -83,6 +85,7 @@ told_so (Err ending.TooMuchKept) a x s text answered spelled end asked kept h = 
 told_so (Err (ending.Stop stop.NoReply)) a x s text answered spelled end asked kept h = absurd h
 told_so (Err (ending.Stop stop.SessionLost)) a x s text answered spelled end asked kept h = absurd h
 told_so (Err (ending.Stop stop.DaemonFull)) a x s text answered spelled end asked kept h = absurd h
+told_so (Err (ending.Stop stop.Paused)) a x s text answered spelled end asked kept h = absurd h
 
 pub asks_answered : (r : Result (Unit {0}) Ending) (a : Asking) (x : Seen) (s : Script) (text told : List ℕ) (answered : Telling) → told ≡ text → IfSome x.left (λ b. daemon_script a.node None b ≡ IsScript s) → IsAtEnd x.rest
     → AsksOver x a (λ question sent. Answered question a.turns nothing_received text sent answered) s.config → IsUnwritten x.before answered
@@ -102,6 +105,7 @@ asks_fault a x s f e is stops spelled kept unanswered failing failed = subst (λ
     by stop.NoReply stops unanswered failing failed = (asked_by x a s _ spelled (unanswered refl), kept)
     by stop.SessionLost stops unanswered failing failed = absurd stops
     by stop.DaemonFull stops unanswered failing failed = absurd stops
+    by stop.Paused stops unanswered failing failed = absurd stops
 
 -- ---- a daemon
 
@@ -125,24 +129,25 @@ module _ (s : Service) (objects n : ℕ) (x : Seen) (script : Script) (incarnati
     holds = h;
   }
 
-  pub serves_done : {N : Type 0} (node : Option N) (core : N → Core) → IsAtEnd x.rest → IsSomeAnd node (λ n. OverLink script.config (script.config.port + s.node) start (λ opened. ServesAs script s.node incarnation s.remote s.turns (core n) opened x.now)) → EndsAs (Ok tt) (Some (serves s objects)) x
+  pub serves_done : {N : Type 0} (node : Option N) (core : N → Core) → IsAtEnd x.rest → IsSomeAnd node (λ n. OverLink script.config (script.config.port + s.node) start (λ opened. ServesAs script s.node incarnation s.options s.turns (core n) opened x.now)) → EndsAs (Ok tt) (Some (serves s objects)) x
   serves_done None core end h = absurd h
   serves_done (Some n) core end h = (runs (ServesAll x s) (record { opened = h.opened; did = h.did; holds = record { core = core n; serves = h.holds } }), end)
 
   -- whatever stopped it
-  pub serves_stop : (r : Result (Unit {0}) Ending) (f : Stop) → IsErr r × IsErrAnd r (λ e. e ≡ ending.Stop f) → StopsDaemon f → (f ≡ stop.NoMemory → OverLink script.config (script.config.port + s.node) start (λ opened. ServesFront script s.node incarnation s.remote s.turns opened x.now))
-      → (f ≡ stop.WriteFault → OverLink script.config (script.config.port + s.node) start (λ opened. ServesFront script s.node incarnation s.remote s.turns opened x.now))
-      → (f ≡ stop.LinkFault → OverLinkIf script.config (script.config.port + s.node) start x.now (λ opened. ServesTo script s.node incarnation s.remote s.turns opened x.now)) → (f ≡ stop.WriteFault → Rose start.write_faults x.now.write_faults)
+  pub serves_stop : (r : Result (Unit {0}) Ending) (f : Stop) → IsErr r × IsErrAnd r (λ e. e ≡ ending.Stop f) → StopsDaemon f → (f ≡ stop.NoMemory → OverLink script.config (script.config.port + s.node) start (λ opened. ServesFront script s.node incarnation s.options s.turns opened x.now))
+      → (f ≡ stop.WriteFault → OverLink script.config (script.config.port + s.node) start (λ opened. ServesFront script s.node incarnation s.options s.turns opened x.now))
+      → (f ≡ stop.Paused → OverLink script.config (script.config.port + s.node) start (λ opened. ServesToPause script s.node incarnation s.options s.turns opened x.now)) → (f ≡ stop.LinkFault → OverLinkIf script.config (script.config.port + s.node) start x.now (λ opened. ServesTo script s.node incarnation s.options s.turns opened x.now)) → (f ≡ stop.WriteFault → Rose start.write_faults x.now.write_faults)
       → (f ≡ stop.LinkFault → Rose start.link_faults x.now.link_faults) → EndsAs r (Some (serves s objects)) x
-  serves_stop r f is stops memory written link wrote failed = ended_by r (ending.Stop f) (λ q. EndsAs q (Some (serves s objects)) x) is (by f stops memory written link wrote failed)
+  serves_stop r f is stops memory written paused link wrote failed = ended_by r (ending.Stop f) (λ q. EndsAs q (Some (serves s objects)) x) is (by f stops memory written paused link wrote failed)
     where
-      by : (f : Stop) → StopsDaemon f → (f ≡ stop.NoMemory → OverLink script.config (script.config.port + s.node) start (λ opened. ServesFront script s.node incarnation s.remote s.turns opened x.now))
-          → (f ≡ stop.WriteFault → OverLink script.config (script.config.port + s.node) start (λ opened. ServesFront script s.node incarnation s.remote s.turns opened x.now))
-          → (f ≡ stop.LinkFault → OverLinkIf script.config (script.config.port + s.node) start x.now (λ opened. ServesTo script s.node incarnation s.remote s.turns opened x.now)) → (f ≡ stop.WriteFault → Rose start.write_faults x.now.write_faults)
+      by : (f : Stop) → StopsDaemon f → (f ≡ stop.NoMemory → OverLink script.config (script.config.port + s.node) start (λ opened. ServesFront script s.node incarnation s.options s.turns opened x.now))
+          → (f ≡ stop.WriteFault → OverLink script.config (script.config.port + s.node) start (λ opened. ServesFront script s.node incarnation s.options s.turns opened x.now))
+          → (f ≡ stop.Paused → OverLink script.config (script.config.port + s.node) start (λ opened. ServesToPause script s.node incarnation s.options s.turns opened x.now)) → (f ≡ stop.LinkFault → OverLinkIf script.config (script.config.port + s.node) start x.now (λ opened. ServesTo script s.node incarnation s.options s.turns opened x.now)) → (f ≡ stop.WriteFault → Rose start.write_faults x.now.write_faults)
           → (f ≡ stop.LinkFault → Rose start.link_faults x.now.link_faults) → FailsAs (ending.Stop f) (Some (serves s objects)) x
-      by stop.NoMemory stops memory written link wrote failed = inr (runs (ServesPart x s) (memory refl))
-      by stop.WriteFault stops memory written link wrote failed = (written_from s.incarnation x.before start incarnation x.now.write_faults incarnates (wrote refl), runs (ServesPart x s) (written refl))
-      by stop.LinkFault stops memory written link wrote failed = (linked_from s.incarnation x.before start incarnation x.now.link_faults incarnates (failed refl), runs (ServesNoMore x s) (link refl))
-      by stop.NoReply stops memory written link wrote failed = absurd stops
-      by stop.SessionLost stops memory written link wrote failed = absurd stops
-      by stop.DaemonFull stops memory written link wrote failed = absurd stops
+      by stop.NoMemory stops memory written paused link wrote failed = inr (runs (ServesPart x s) (memory refl))
+      by stop.WriteFault stops memory written paused link wrote failed = (written_from s.incarnation x.before start incarnation x.now.write_faults incarnates (wrote refl), runs (ServesPart x s) (written refl))
+      by stop.LinkFault stops memory written paused link wrote failed = (linked_from s.incarnation x.before start incarnation x.now.link_faults incarnates (failed refl), runs (ServesNoMore x s) (link refl))
+      by stop.NoReply stops memory written paused link wrote failed = absurd stops
+      by stop.SessionLost stops memory written paused link wrote failed = absurd stops
+      by stop.DaemonFull stops memory written paused link wrote failed = absurd stops
+      by stop.Paused stops memory written paused link wrote failed = runs (ServesUpToPause x s) (paused refl)

@@ -8,3 +8,4 @@ pub mod CommandLaws
 pub mod ClientLaws
 pub mod OutputLaws
 pub mod EndLaws
+pub mod TableLaws

@@ -28,7 +28,7 @@ use Rattle.hags_cli.specs.Run.{ReadsAs, InputFails, PlaysAll, PlaysPast, PlaysFr
 use Rattle.hags_cli.proofs.EndLaws.{ended_by}
 use Rattle.hags_cli.proofs.LongInputs.{reads_for, script_within}
 
-reads_script : (front b : List ℕ) → ReadsAs front b → script_of b ≡ script_of front
+pub reads_script : (front b : List ℕ) → ReadsAs front b → script_of b ≡ script_of front
 unfolding script_of
 reads_script front b h = reads_for front b h Plays
 
@@ -55,12 +55,12 @@ nothing_played : (shown : List Happened → List ℕ) (left old : Option (List �
 nothing_played shown None old = tt
 nothing_played shown (Some b) old = inl (Keeps-refl old)
 
-has_bad_line : (left : Option (List ℕ)) (front : List ℕ) (n : ℕ) (why : LineWhy) → IfSome left (ReadsAs front) → script_of front ≡ IsNone n why → IfSome left (λ b. script_of b ≡ IsNone n why)
+pub has_bad_line : (left : Option (List ℕ)) (front : List ℕ) (n : ℕ) (why : LineWhy) → IfSome left (ReadsAs front) → script_of front ≡ IsNone n why → IfSome left (λ b. script_of b ≡ IsNone n why)
 has_bad_line None front n why h e = tt
 has_bad_line (Some b) front n why h e = reads_script front b h ∙ e
 
 -- a script is within the limit, so all was read
-at_end : (new : Option (List ℕ)) (front : List ℕ) (s : Script) → (length front ≤ input_limit → IsAtEnd new) → script_of front ≡ IsScript s → IsAtEnd new
+pub at_end : (new : Option (List ℕ)) (front : List ℕ) (s : Script) → (length front ≤ input_limit → IsAtEnd new) → script_of front ≡ IsScript s → IsAtEnd new
 at_end new front s h e = h (script_within front s e)
 
 -- ---- how a run ends

@@ -1,7 +1,6 @@
 -- From how a call ended to what its status says.
 use Rattle.std.proofs.Common.{◌≡◌, ◌≢◌, ℕ, ◌-◌, ◌^◌, ◌≤◌, min, List, [], ◌++◌, Option, Some, None, IfSome, IfNone, refl, sym, ◌∙◌, ap, subst, inl, inr, arith, ◌⊎◌}
-use Rattle.std.specs.Prelude.{codes, decimal}
-use Rattle.std.specs.Prelude.{Result, Ok, Err}
+use Rattle.std.specs.Prelude.{codes, decimal, Result, Ok, Err}
 use Rattle.std.specs.Io.KnownBytes.{Appends, Keeps}
 use Rattle.std.proofs.KnownBytes.{Keeps-refl}
 use Rattle.hags_io.specs.declared.source.Put.{Put}
@@ -26,7 +25,8 @@ use Rattle.hags_cli.specs.declared.ending.Ending.{Ending}
 use Rattle.hags_cli.specs.declared.ending.Ending.TheVariants as ending
 use Rattle.hags_cli.specs.Endings.{Says, status_of, said_of, ending_text}
 use Rattle.hags_cli.specs.Run.{PlaysAll, PlaysPast, PlaysFront, MayHavePlayed, RunEnds, SpellsScript}
-use Rattle.hags_cli.specs.Tasks.{Task, plays, loads, tells, serves, asks, uses, list_in, shown_of, Shows, played_as, task_asked, Asks, Seen, Untouched, counted, HasFault, IsOutside, OutsideAs, OutsideAt, ReadFaultAs, LinkFaultAs, NoReplyAs, LostAs, FullAs, SpellsSettings, SpellsCalls, CanBeDone, DoneAs, LoadEnds, TellEnds, FailsAs, EndsAs, Ended, SaysLine}
+use Rattle.hags_cli.specs.Tables.{MayHaveTables, TablesEnds}
+use Rattle.hags_cli.specs.Tasks.{Task, plays, loads, tells, serves, asks, uses, tables, list_in, shown_of, Shows, played_as, task_asked, Asks, Seen, Untouched, counted, HasFault, IsOutside, OutsideAs, OutsideAt, ReadFaultAs, LinkFaultAs, NoReplyAs, LostAs, FullAs, PausedAs, SpellsSettings, SpellsCalls, CanBeDone, DoneAs, LoadEnds, TellEnds, FailsAs, EndsAs, Ended, SaysLine}
 use Rattle.hags_cli.proofs.OutputLaws.{rose_within}
 
 -- ---- which ending a status is
@@ -42,6 +42,7 @@ status_usage ending.TooMuchKept h = absurd (omega arith)
 status_usage (ending.Stop stop.NoReply) h = absurd (omega arith)
 status_usage (ending.Stop stop.SessionLost) h = absurd (omega arith)
 status_usage (ending.Stop stop.DaemonFull) h = absurd (omega arith)
+status_usage (ending.Stop stop.Paused) h = absurd (omega arith)
 
 status_no_memory : (e : Ending) → status_of e ≡ 3 → e ≡ ending.Stop stop.NoMemory
 status_no_memory ending.Usage h = absurd (omega arith)
@@ -54,6 +55,7 @@ status_no_memory ending.TooMuchKept h = absurd (omega arith)
 status_no_memory (ending.Stop stop.NoReply) h = absurd (omega arith)
 status_no_memory (ending.Stop stop.SessionLost) h = absurd (omega arith)
 status_no_memory (ending.Stop stop.DaemonFull) h = absurd (omega arith)
+status_no_memory (ending.Stop stop.Paused) h = absurd (omega arith)
 
 status_read_fault : (e : Ending) → status_of e ≡ 4 → e ≡ ending.ReadFault
 status_read_fault ending.Usage h = absurd (omega arith)
@@ -66,6 +68,7 @@ status_read_fault ending.TooMuchKept h = absurd (omega arith)
 status_read_fault (ending.Stop stop.NoReply) h = absurd (omega arith)
 status_read_fault (ending.Stop stop.SessionLost) h = absurd (omega arith)
 status_read_fault (ending.Stop stop.DaemonFull) h = absurd (omega arith)
+status_read_fault (ending.Stop stop.Paused) h = absurd (omega arith)
 
 status_write_fault : (e : Ending) → status_of e ≡ 5 → e ≡ ending.Stop stop.WriteFault
 status_write_fault ending.Usage h = absurd (omega arith)
@@ -78,6 +81,7 @@ status_write_fault ending.TooMuchKept h = absurd (omega arith)
 status_write_fault (ending.Stop stop.NoReply) h = absurd (omega arith)
 status_write_fault (ending.Stop stop.SessionLost) h = absurd (omega arith)
 status_write_fault (ending.Stop stop.DaemonFull) h = absurd (omega arith)
+status_write_fault (ending.Stop stop.Paused) h = absurd (omega arith)
 
 status_link_fault : (e : Ending) → status_of e ≡ 6 → e ≡ ending.Stop stop.LinkFault
 status_link_fault ending.Usage h = absurd (omega arith)
@@ -90,6 +94,7 @@ status_link_fault ending.TooMuchKept h = absurd (omega arith)
 status_link_fault (ending.Stop stop.NoReply) h = absurd (omega arith)
 status_link_fault (ending.Stop stop.SessionLost) h = absurd (omega arith)
 status_link_fault (ending.Stop stop.DaemonFull) h = absurd (omega arith)
+status_link_fault (ending.Stop stop.Paused) h = absurd (omega arith)
 
 status_too_much_kept : (e : Ending) → status_of e ≡ 7 → e ≡ ending.TooMuchKept
 status_too_much_kept ending.Usage h = absurd (omega arith)
@@ -102,6 +107,7 @@ status_too_much_kept ending.TooMuchKept h = refl
 status_too_much_kept (ending.Stop stop.NoReply) h = absurd (omega arith)
 status_too_much_kept (ending.Stop stop.SessionLost) h = absurd (omega arith)
 status_too_much_kept (ending.Stop stop.DaemonFull) h = absurd (omega arith)
+status_too_much_kept (ending.Stop stop.Paused) h = absurd (omega arith)
 
 status_no_reply : (e : Ending) → status_of e ≡ 9 → e ≡ ending.Stop stop.NoReply
 status_no_reply ending.Usage h = absurd (omega arith)
@@ -114,6 +120,7 @@ status_no_reply ending.TooMuchKept h = absurd (omega arith)
 status_no_reply (ending.Stop stop.NoReply) h = refl
 status_no_reply (ending.Stop stop.SessionLost) h = absurd (omega arith)
 status_no_reply (ending.Stop stop.DaemonFull) h = absurd (omega arith)
+status_no_reply (ending.Stop stop.Paused) h = absurd (omega arith)
 
 status_lost : (e : Ending) → status_of e ≡ 10 → e ≡ ending.Stop stop.SessionLost
 status_lost ending.Usage h = absurd (omega arith)
@@ -126,6 +133,7 @@ status_lost ending.TooMuchKept h = absurd (omega arith)
 status_lost (ending.Stop stop.NoReply) h = absurd (omega arith)
 status_lost (ending.Stop stop.SessionLost) h = refl
 status_lost (ending.Stop stop.DaemonFull) h = absurd (omega arith)
+status_lost (ending.Stop stop.Paused) h = absurd (omega arith)
 
 status_full : (e : Ending) → status_of e ≡ 11 → e ≡ ending.Stop stop.DaemonFull
 status_full ending.Usage h = absurd (omega arith)
@@ -138,6 +146,20 @@ status_full ending.TooMuchKept h = absurd (omega arith)
 status_full (ending.Stop stop.NoReply) h = absurd (omega arith)
 status_full (ending.Stop stop.SessionLost) h = absurd (omega arith)
 status_full (ending.Stop stop.DaemonFull) h = refl
+status_full (ending.Stop stop.Paused) h = absurd (omega arith)
+
+status_paused : (e : Ending) → status_of e ≡ 12 → e ≡ ending.Stop stop.Paused
+status_paused ending.Usage h = absurd (omega arith)
+status_paused (ending.BadLine n why) h = absurd (omega arith)
+status_paused (ending.Stop stop.NoMemory) h = absurd (omega arith)
+status_paused ending.ReadFault h = absurd (omega arith)
+status_paused (ending.Stop stop.WriteFault) h = absurd (omega arith)
+status_paused (ending.Stop stop.LinkFault) h = absurd (omega arith)
+status_paused ending.TooMuchKept h = absurd (omega arith)
+status_paused (ending.Stop stop.NoReply) h = absurd (omega arith)
+status_paused (ending.Stop stop.SessionLost) h = absurd (omega arith)
+status_paused (ending.Stop stop.DaemonFull) h = absurd (omega arith)
+status_paused (ending.Stop stop.Paused) h = refl
 
 -- ---- what each status says
 
@@ -156,6 +178,7 @@ outside_as (Some (tells text)) n why x h = h
 outside_as (Some (serves s objects)) n why x h = (outside (serves s objects) x.left n why h.0, h.1, h.2)
 outside_as (Some (asks a)) n why x h = (outside (asks a) x.left n why h.0, h.1, h.2)
 outside_as (Some (uses u)) n why x h = (outside (uses u) x.left n why h.0, h.1, h.2)
+outside_as (Some (tables g)) n why x h = (outside (tables g) x.left n why h.0, h.1, h.2)
 
 ended_outside : (e : Ending) (t : Option Task) (x : Seen) → FailsAs e t x → status_of e ≡ 2 → Asks t (OutsideAs x)
 ended_outside ending.Usage t x h s = absurd (omega arith)
@@ -168,6 +191,7 @@ ended_outside ending.TooMuchKept t x h s = absurd (omega arith)
 ended_outside (ending.Stop stop.NoReply) t x h s = absurd (omega arith)
 ended_outside (ending.Stop stop.SessionLost) t x h s = absurd (omega arith)
 ended_outside (ending.Stop stop.DaemonFull) t x h s = absurd (omega arith)
+ended_outside (ending.Stop stop.Paused) t x h s = absurd (omega arith)
 
 -- words that ask for nothing
 ended_words : (e : Ending) (t : Option Task) (x : Seen) → FailsAs e t x → t ≡ None → (status_of e ≡ 1) ⊎ (status_of e ≡ 3)
@@ -184,8 +208,9 @@ ended_words e t x h none = by e (subst (λ (z : Option Task). FailsAs e z x) non
     by (ending.Stop stop.NoReply) h = absurd h
     by (ending.Stop stop.SessionLost) h = absurd h
     by (ending.Stop stop.DaemonFull) h = absurd h
+    by (ending.Stop stop.Paused) h = absurd h
 
-status_known : (e : Ending) → (status_of e ≤ 7) ⊎ ((9 ≤ status_of e) × (status_of e ≤ 11))
+status_known : (e : Ending) → (status_of e ≤ 7) ⊎ ((9 ≤ status_of e) × (status_of e ≤ 12))
 status_known ending.Usage = inl (omega arith)
 status_known (ending.BadLine n why) = inl (omega arith)
 status_known (ending.Stop stop.NoMemory) = inl (omega arith)
@@ -196,6 +221,7 @@ status_known ending.TooMuchKept = inl (omega arith)
 status_known (ending.Stop stop.NoReply) = inr (omega arith, omega arith)
 status_known (ending.Stop stop.SessionLost) = inr (omega arith, omega arith)
 status_known (ending.Stop stop.DaemonFull) = inr (omega arith, omega arith)
+status_known (ending.Stop stop.Paused) = inr (omega arith, omega arith)
 
 -- ---- where nothing fails
 
@@ -219,6 +245,7 @@ outside_cannot (Some (tells text)) n why x h can = h
 outside_cannot (Some (serves s objects)) n why x h can = settings_not_outside s.node (Some (counted objects)) x.left n why h.0 can
 outside_cannot (Some (asks a)) n why x h can = settings_not_outside a.node None x.left n why h.0 can
 outside_cannot (Some (uses u)) n why x h can = calls_not_outside u.node x.left n why h.0 can
+outside_cannot (Some (tables g)) n why x h can = not_outside x.left n why h.0 can
 
 read_rose : (t : Option Task) (x : Seen) → Asks t (ReadFaultAs x) → Rose x.reads x.reads_now
 read_rose None x h = absurd h
@@ -228,23 +255,25 @@ read_rose (Some (tells text)) x h = absurd h
 read_rose (Some (serves s objects)) x h = h.0
 read_rose (Some (asks a)) x h = h.0
 read_rose (Some (uses u)) x h = h.0
+read_rose (Some (tables g)) x h = h.0
 
 asks_nothing : (t : Option Task) (P : Task → Type 0) → t ≡ None → Asks t P → ⊥
 asks_nothing t P none h = subst (λ (z : Option Task). Asks z P) none h
 
 -- where each ending has its cause, what can be done leaves three of them
-ended_complete : (e : Ending) (t : Option Task) (x : Seen) → FailsAs e t x → Asks t (CanBeDone x) → (Rose x.reads x.reads_now → ⊥) → (Rose x.before.write_faults x.now.write_faults → ⊥) → (Asks t (LinkFaultAs x) → ⊥) → (Asks t (NoReplyAs x) → ⊥) → (Asks t (LostAs x) → ⊥) → (Asks t (FullAs x) → ⊥)
+ended_complete : (e : Ending) (t : Option Task) (x : Seen) → FailsAs e t x → Asks t (CanBeDone x) → (Rose x.reads x.reads_now → ⊥) → (Rose x.before.write_faults x.now.write_faults → ⊥) → (Asks t (LinkFaultAs x) → ⊥) → (Asks t (NoReplyAs x) → ⊥) → (Asks t (LostAs x) → ⊥) → (Asks t (FullAs x) → ⊥) → (Asks t (PausedAs x) → ⊥)
     → (status_of e ≡ 0) ⊎ ((status_of e ≡ 3) ⊎ (status_of e ≡ 7))
-ended_complete ending.Usage t x h can r w l n gone full = absurd (asks_nothing t (CanBeDone x) h.0 can)
-ended_complete (ending.BadLine line why) t x h can r w l n gone full = absurd (outside_cannot t line why x h can)
-ended_complete (ending.Stop stop.NoMemory) t x h can r w l n gone full = inr (inl refl)
-ended_complete ending.ReadFault t x h can r w l n gone full = absurd (r (read_rose t x h))
-ended_complete (ending.Stop stop.WriteFault) t x h can r w l n gone full = absurd (w h.0)
-ended_complete (ending.Stop stop.LinkFault) t x h can r w l n gone full = absurd (l h.1)
-ended_complete ending.TooMuchKept t x h can r w l n gone full = inr (inr refl)
-ended_complete (ending.Stop stop.NoReply) t x h can r w l n gone full = absurd (n h)
-ended_complete (ending.Stop stop.SessionLost) t x h can r w l n gone full = absurd (gone h)
-ended_complete (ending.Stop stop.DaemonFull) t x h can r w l n gone full = absurd (full h)
+ended_complete ending.Usage t x h can r w l n gone full paused = absurd (asks_nothing t (CanBeDone x) h.0 can)
+ended_complete (ending.BadLine line why) t x h can r w l n gone full paused = absurd (outside_cannot t line why x h can)
+ended_complete (ending.Stop stop.NoMemory) t x h can r w l n gone full paused = inr (inl refl)
+ended_complete ending.ReadFault t x h can r w l n gone full paused = absurd (r (read_rose t x h))
+ended_complete (ending.Stop stop.WriteFault) t x h can r w l n gone full paused = absurd (w h.0)
+ended_complete (ending.Stop stop.LinkFault) t x h can r w l n gone full paused = absurd (l h.1)
+ended_complete ending.TooMuchKept t x h can r w l n gone full paused = inr (inr refl)
+ended_complete (ending.Stop stop.NoReply) t x h can r w l n gone full paused = absurd (n h)
+ended_complete (ending.Stop stop.SessionLost) t x h can r w l n gone full paused = absurd (gone h)
+ended_complete (ending.Stop stop.DaemonFull) t x h can r w l n gone full paused = absurd (full h)
+ended_complete (ending.Stop stop.Paused) t x h can r w l n gone full paused = absurd (paused h)
 
 -- ---- all of it
 
@@ -259,6 +288,7 @@ never_done ending.TooMuchKept h = omega arith
 never_done (ending.Stop stop.NoReply) h = omega arith
 never_done (ending.Stop stop.SessionLost) h = omega arith
 never_done (ending.Stop stop.DaemonFull) h = omega arith
+never_done (ending.Stop stop.Paused) h = omega arith
 
 failed_so : (e : Ending) (t : Option Task) (x : Seen) → FailsAs e t x → Ended (status_of e) t x
 failed_so e t x h = record {
@@ -274,6 +304,7 @@ failed_so e t x h = record {
   no_reply = λ s. ended_as e (ending.Stop stop.NoReply) t x (status_no_reply e s) h;
   lost = λ s. ended_as e (ending.Stop stop.SessionLost) t x (status_lost e s) h;
   full = λ s. ended_as e (ending.Stop stop.DaemonFull) t x (status_full e s) h;
+  paused = λ s. ended_as e (ending.Stop stop.Paused) t x (status_paused e s) h;
   no_other = status_known e;
   complete = ended_complete e t x h;
 }
@@ -297,8 +328,9 @@ done t x h = record {
   no_reply = λ s. absurd (omega arith);
   lost = λ s. absurd (omega arith);
   full = λ s. absurd (omega arith);
+  paused = λ s. absurd (omega arith);
   no_other = inl (omega arith);
-  complete = λ can read write link reply gone full. inl refl;
+  complete = λ can read write link reply gone full paused. inl refl;
 }
 
 -- ---- what is said
@@ -330,6 +362,7 @@ said_as ending.TooMuchKept other = refl
 said_as (ending.Stop stop.NoReply) other = refl
 said_as (ending.Stop stop.SessionLost) other = refl
 said_as (ending.Stop stop.DaemonFull) other = refl
+said_as (ending.Stop stop.Paused) other = refl
 
 pub says_said : (e : Ending) (n faults later : ℕ) (old new : Option (List ℕ)) → n ≡ status_of e → n ≢ 2 → Says faults later old new (ending_text e) → Says faults later old new (said_of n)
 says_said e n faults later old new is other g =
@@ -343,6 +376,7 @@ line_fault (Some (tells text)) n why x h = absurd h
 line_fault (Some (serves s objects)) n why x h = h.0
 line_fault (Some (asks a)) n why x h = h.0
 line_fault (Some (uses u)) n why x h = h.0
+line_fault (Some (tables g)) n why x h = h.0
 
 says_line_of : (e : Ending) (t : Option Task) (x : Seen) (faults later : ℕ) (before after : Option (List ℕ)) → FailsAs e t x → Says faults later before after (ending_text e) → status_of e ≡ 2 → SaysLine t x.left faults later before after
 says_line_of ending.Usage t x faults later before after p g h = absurd (omega arith)
@@ -355,6 +389,7 @@ says_line_of ending.TooMuchKept t x faults later before after p g h = absurd (om
 says_line_of (ending.Stop stop.NoReply) t x faults later before after p g h = absurd (omega arith)
 says_line_of (ending.Stop stop.SessionLost) t x faults later before after p g h = absurd (omega arith)
 says_line_of (ending.Stop stop.DaemonFull) t x faults later before after p g h = absurd (omega arith)
+says_line_of (ending.Stop stop.Paused) t x faults later before after p g h = absurd (omega arith)
 
 pub says_line : (e : Ending) (n : ℕ) (t : Option Task) (x : Seen) (faults later : ℕ) (before after : Option (List ℕ)) → n ≡ status_of e → FailsAs e t x → Says faults later before after (ending_text e) → n ≡ 2 → SaysLine t x.left faults later before after
 says_line e n t x faults later before after is p g h = says_line_of e t x faults later before after p g (sym is ∙ h)
@@ -434,11 +469,31 @@ run_so k list same (Err ending.TooMuchKept) x still as_was h = past_as (kinds_te
 run_so k list same (Err (ending.Stop stop.NoReply)) x still as_was h = absurd h
 run_so k list same (Err (ending.Stop stop.SessionLost)) x still as_was h = absurd h
 run_so k list same (Err (ending.Stop stop.DaemonFull)) x still as_was h = absurd h
+run_so k list same (Err (ending.Stop stop.Paused)) x still as_was h = absurd h
 
 pub run_ends : (objects : ℕ) (c : Option Command) (list : Option (List ℕ)) (k : Kinds) (r : Result (Unit {0}) Ending) (x : Seen) (still : Type 0) → c ≡ Some (command.Run list) → Shows k list → played_as list ≡ Some (plays (list_in list)) → (still → x.now ≡ x.before)
     → RunEnds r (kinds_text k) x.left x.rest (Rose x.reads x.reads_now) (Rose (min x.before.write_faults (2 ^ 64 - 1)) (min x.now.write_faults (2 ^ 64 - 1))) still x.before.held x.now.held → EndsAs r (task_asked objects c) x
 run_ends objects c list k r x still is shows played as_was h =
     subst (λ (t : Option Task). EndsAs r t x) (sym (ap (task_asked objects) is ∙ played)) (run_so k (list_in list) shows r x still as_was h)
+
+tables_so : (r : Result (Unit {0}) Ending) (g : List ℕ) (x : Seen) (still : Type 0) → (still → x.now ≡ x.before)
+    → TablesEnds r g x.left x.rest (Rose x.reads x.reads_now) (Rose (min x.before.write_faults (2 ^ 64 - 1)) (min x.now.write_faults (2 ^ 64 - 1))) still x.before.held x.now.held → EndsAs r (Some (tables g)) x
+tables_so (Ok u) g x still as_was h = h
+tables_so (Err ending.Usage) g x still as_was h = absurd h
+tables_so (Err (ending.BadLine n why)) g x still as_was h = (h.0, keeps_same x (ap (λ (t : Telling). t.held) (as_was h.1)), same_untouched x (as_was h.1))
+tables_so (Err (ending.Stop stop.NoMemory)) g x still as_was h = h
+tables_so (Err ending.ReadFault) g x still as_was h = (h.0, keeps_same x (ap (λ (t : Telling). t.held) (as_was h.1)), same_untouched x (as_was h.1))
+tables_so (Err (ending.Stop stop.WriteFault)) g x still as_was h = (rose_within x.before.write_faults x.now.write_faults h.0, h.1)
+tables_so (Err (ending.Stop stop.LinkFault)) g x still as_was h = absurd h
+tables_so (Err ending.TooMuchKept) g x still as_was h = h
+tables_so (Err (ending.Stop stop.NoReply)) g x still as_was h = absurd h
+tables_so (Err (ending.Stop stop.SessionLost)) g x still as_was h = absurd h
+tables_so (Err (ending.Stop stop.DaemonFull)) g x still as_was h = absurd h
+tables_so (Err (ending.Stop stop.Paused)) g x still as_was h = absurd h
+
+pub tables_end : (objects : ℕ) (c : Option Command) (g : List ℕ) (r : Result (Unit {0}) Ending) (x : Seen) (still : Type 0) → c ≡ Some (command.Table g) → (still → x.now ≡ x.before)
+    → TablesEnds r g x.left x.rest (Rose x.reads x.reads_now) (Rose (min x.before.write_faults (2 ^ 64 - 1)) (min x.now.write_faults (2 ^ 64 - 1))) still x.before.held x.now.held → EndsAs r (task_asked objects c) x
+tables_end objects c g r x still is as_was h = subst (λ (t : Option Task). EndsAs r t x) (sym (ap (task_asked objects) is)) (tables_so r g x still as_was h)
 
 pub load_ends : (r : Result (Unit {0}) Ending) (steps : ℕ) (x : Seen) → x.rest ≡ x.left → LoadEnds r steps (min x.before.write_faults (2 ^ 64 - 1)) (min x.now.write_faults (2 ^ 64 - 1)) x.before.held x.now.held → EndsAs r (Some (loads steps)) x
 load_ends (Ok u) steps x still h = (h, still)
@@ -452,6 +507,7 @@ load_ends (Err ending.TooMuchKept) steps x still h = h
 load_ends (Err (ending.Stop stop.NoReply)) steps x still h = absurd h
 load_ends (Err (ending.Stop stop.SessionLost)) steps x still h = absurd h
 load_ends (Err (ending.Stop stop.DaemonFull)) steps x still h = absurd h
+load_ends (Err (ending.Stop stop.Paused)) steps x still h = absurd h
 
 tells_so : (r : Result (Unit {0}) Ending) (text : List ℕ) (x : Seen) → x.rest ≡ x.left → TellEnds r text (min x.before.write_faults (2 ^ 64 - 1)) (min x.now.write_faults (2 ^ 64 - 1)) x.before.held x.now.held → EndsAs r (Some (tells text)) x
 tells_so (Ok u) text x still h = (h, still)
@@ -465,6 +521,7 @@ tells_so (Err ending.TooMuchKept) text x still h = absurd h
 tells_so (Err (ending.Stop stop.NoReply)) text x still h = absurd h
 tells_so (Err (ending.Stop stop.SessionLost)) text x still h = absurd h
 tells_so (Err (ending.Stop stop.DaemonFull)) text x still h = absurd h
+tells_so (Err (ending.Stop stop.Paused)) text x still h = absurd h
 
 pub tell_ends : (r : Result (Unit {0}) Ending) (text wanted : List ℕ) (x : Seen) → text ≡ wanted → x.rest ≡ x.left → TellEnds r text (min x.before.write_faults (2 ^ 64 - 1)) (min x.now.write_faults (2 ^ 64 - 1)) x.before.held x.now.held → EndsAs r (Some (tells wanted)) x
 tell_ends r text wanted x is still h = subst (λ (t : List ℕ). EndsAs r (Some (tells t)) x) is (tells_so r text x still h)
@@ -472,6 +529,10 @@ tell_ends r text wanted x is still h = subst (λ (t : List ℕ). EndsAs r (Some 
 nothing_played : (list : List ℕ) (left held now : Option (List ℕ)) → Keeps held now → IfSome left (MayHavePlayed (shown_of list) held now)
 nothing_played list None held now kept = tt
 nothing_played list (Some b) held now kept = inl kept
+
+no_tables : (g : List ℕ) (left held now : Option (List ℕ)) → Keeps held now → IfSome left (MayHaveTables g held now)
+no_tables g None held now kept = tt
+no_tables g (Some b) held now kept = inl kept
 
 -- before anything was done
 pub memory_ends : (t : Option Task) (x : Seen) → x.now.held ≡ x.before.held → Untouched x → FailsAs (ending.Stop stop.NoMemory) t x
@@ -482,6 +543,7 @@ memory_ends (Some (tells text)) x still touched = keeps_same x still
 memory_ends (Some (serves s objects)) x still touched = inl (keeps_same x still, touched)
 memory_ends (Some (asks a)) x still touched = keeps_same x still
 memory_ends (Some (uses u)) x still touched = inl (keeps_same x still, touched)
+memory_ends (Some (tables g)) x still touched = no_tables g x.left x.before.held x.now.held (keeps_same x still)
 
 pub usage_ends : (t : Option Task) (x : Seen) → t ≡ None → x.now.held ≡ x.before.held → x.rest ≡ x.left → Untouched x → FailsAs ending.Usage t x
 usage_ends t x none still rest touched = (none, keeps_same x still, rest, touched)

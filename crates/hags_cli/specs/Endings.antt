@@ -42,6 +42,7 @@ status_of ending.TooMuchKept = 7
 status_of (ending.Stop stop.NoReply) = 9
 status_of (ending.Stop stop.SessionLost) = 10
 status_of (ending.Stop stop.DaemonFull) = 11
+status_of (ending.Stop stop.Paused) = 12
 
 -- the whole text was said; or nothing, where there was no memory for it; or a front of it, where the sink failed
 abbrev pub Says : ℕ → ℕ → Option (List ℕ) → Option (List ℕ) → List ℕ → Type 0
@@ -63,6 +64,7 @@ said_of status =
     else if status == 9 then line_of (codes "hags: no reply")
     else if status == 10 then line_of (codes "hags: session lost")
     else if status == 11 then line_of (codes "hags: daemon full")
+    else if status == 12 then line_of (codes "hags: paused")
     else []
 
 abbrev pub ending_text : Ending → List ℕ

@@ -1,3 +1,4 @@
 pub mod Endings
 pub mod Run
+pub mod Tables
 pub mod Tasks

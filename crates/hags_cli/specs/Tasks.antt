@@ -1,5 +1,5 @@
 -- What the words of a call ask for, and what each of its endings leaves.
-use Rattle.std.specs.Prelude.{◌≡◌, ℕ, ◌≤◌, ◌⊎◌, ◌+◌, ◌/◌, ◌%◌, ◌^◌, ◌-◌, min, max, Bool, List, [], ◌∷◌, Option, Some, None, IfSome, Result, Ok, Err}
+use Rattle.std.specs.Prelude.{◌≡◌, ℕ, ◌≤◌, ◌⊎◌, ◌+◌, ◌/◌, ◌%◌, ◌^◌, ◌-◌, min, max, Bool, true, false, List, [], ◌∷◌, Option, Some, None, IfSome, Result, Ok, Err}
 use Rattle.std.specs.Io.KnownBytes.{Appends, Keeps, IsAtEnd}
 use Rattle.hags_io.specs.Edges.{GrowsByFront, Rose}
 use Rattle.hags_io.specs.Deeds.{Read}
@@ -18,9 +18,12 @@ use Rattle.transcript.specs.declared.kinds.Kinds.{Kinds}
 use Rattle.transcript.specs.Kinds.{kinds_text, kinds_of}
 use Rattle.load_script.specs.Script.{load_script}
 use Rattle.net_script.specs.PlaySafe.{ScriptIsSafe, KeptRunIsSafe}
+use Rattle.daemon_model.specs.declared.options.Options.{Options}
+use Rattle.daemon_model.specs.declared.options.RemoteService.{RemoteService}
+use Rattle.daemon_model.specs.declared.options.RemoteService.TheVariants as service
 use Rattle.daemon_model.specs.Settings.{OverLink, OverLinkIf}
 use Rattle.link_use.specs.Receiving.{nothing_received}
-use Rattle.daemon_model.specs.Lives.{ServesAs, ServesTo, ServesFront}
+use Rattle.daemon_model.specs.Lives.{ServesAs, ServesTo, ServesToPause, ServesFront}
 use Rattle.status_client.specs.declared.question.Asking.{Asking}
 use Rattle.status_client.specs.Asked.{Asked, Answered, Unanswered, Failing}
 use Rattle.client_run.specs.declared.client.Client.{Client}
@@ -30,6 +33,7 @@ use Rattle.client_run.specs.Using.{Keyed}
 use Rattle.script_reader.specs.ClientScript.{client_script}
 use Rattle.hags_words.specs.declared.command.Command.{Command}
 use Rattle.hags_words.specs.declared.command.Command.TheVariants as command
+use Rattle.hags_words.specs.declared.command.DaemonOptions.{DaemonOptions}
 use Rattle.hags_words.specs.declared.help.TheConstants.{VERSION}
 use Rattle.hags_words.specs.Commands.{command_of}
 use Rattle.hags_words.specs.Help.{help_of}
@@ -40,10 +44,11 @@ use Rattle.hags_cli.specs.declared.ending.Ending.{Ending}
 use Rattle.hags_cli.specs.declared.ending.Ending.TheVariants as ending
 use Rattle.hags_cli.specs.Endings.{Says}
 use Rattle.hags_cli.specs.Run.{PlaysAll, PlaysPast, PlaysFront, MayHavePlayed, SpellsScript}
+use Rattle.hags_cli.specs.Tables.{PlaysTables, TablesPast, MayHaveTables}
 
 -- to play the script of the input and write the lines of these kinds, joined by commas, or of all where none is named; to
--- play a load of so many steps; to write a text; to serve a node, with so many objects for its clients; to ask one; or to
--- use one as a client
+-- play a load of so many steps; to write a text; to serve a node, with so many objects for its clients; to ask one; to use
+-- one as a client; or to play the script of the input with tables and write the copies of a group
 pub data Task : Type 0 where
   plays : List ℕ → Task
   loads : ℕ → Task
@@ -51,6 +56,7 @@ pub data Task : Type 0 where
   serves : Service → ℕ → Task
   asks : Asking → Task
   uses : Usage → Task
+  tables : List ℕ → Task
 
 -- the kinds that are named
 abbrev pub list_in : Option (List ℕ) → List ℕ
@@ -72,15 +78,24 @@ abbrev pub played_as : Option (List ℕ) → Option Task
 played_as None = Some (plays [])
 played_as (Some word) = elim (kinds_of word) [ Some kinds ↦ Some (plays word) | None ↦ None ]
 
+-- whether a daemon serves clients on other machines, and tells them lines of entries
+abbrev pub remote_service : Bool → Bool → RemoteService
+remote_service false entries = service.Off
+remote_service true entries = service.On entries
+
+abbrev pub options_of : DaemonOptions → Options
+options_of o = record { remote = remote_service o.remote o.entries; silence = o.silence; mend = o.mend; gap = o.gap }
+
 -- of who has so many objects
 abbrev pub task_for : ℕ → Command → Option Task
 task_for objects (command.Run kinds) = played_as kinds
 task_for objects (command.Load steps) = Some (loads steps)
 task_for objects (command.Help about) = Some (tells (help_of about))
 task_for objects command.Version = Some (tells VERSION.now)
-task_for objects (command.Daemon node incarnation turns remote) = Some (serves (record { node = node; incarnation = incarnation; turns = turns; remote = remote }) objects)
+task_for objects (command.Daemon node incarnation turns options) = Some (serves (record { node = node; incarnation = incarnation; turns = turns; options = options_of options }) objects)
 task_for objects (command.Status what node turns) = Some (asks (record { what = what; node = node; turns = turns }))
 task_for objects (command.Client node turns key) = Some (uses (record { node = node; turns = turns; key = key }))
+task_for objects (command.Table group) = Some (tables group)
 
 abbrev pub task_asked : ℕ → Option Command → Option Task
 task_asked objects None = None
@@ -218,21 +233,25 @@ abbrev pub port_of : Service → Running → ℕ
 port_of s r = r.script.config.port + s.node
 
 -- whatever its node came to
-pub record IsServed (script : Script) (me incarnation : ℕ) (remote : Bool) (turns : ℕ) (old new : Telling) : Type 0 where
+pub record IsServed (script : Script) (me incarnation : ℕ) (options : Options) (turns : ℕ) (old new : Telling) : Type 0 where
   pub core : Core
-  pub serves : ServesAs script me incarnation remote turns core old new
+  pub serves : ServesAs script me incarnation options turns core old new
 
 -- it did all its turns
 abbrev pub ServesAll : Seen → Service → Running → Type 0
-ServesAll x s r = OverLink r.script.config (port_of s r) r.start (λ opened. IsServed r.script s.node r.incarnation s.remote s.turns opened x.now)
+ServesAll x s r = OverLink r.script.config (port_of s r) r.start (λ opened. IsServed r.script s.node r.incarnation s.options s.turns opened x.now)
 
 -- it broke off
 abbrev pub ServesPart : Seen → Service → Running → Type 0
-ServesPart x s r = OverLink r.script.config (port_of s r) r.start (λ opened. ServesFront r.script s.node r.incarnation s.remote s.turns opened x.now)
+ServesPart x s r = OverLink r.script.config (port_of s r) r.start (λ opened. ServesFront r.script s.node r.incarnation s.options s.turns opened x.now)
 
 -- the link could not be opened, and nothing more was done; or sixteen receives in a row failed
 abbrev pub ServesNoMore : Seen → Service → Running → Type 0
-ServesNoMore x s r = OverLinkIf r.script.config (port_of s r) r.start x.now (λ opened. ServesTo r.script s.node r.incarnation s.remote s.turns opened x.now)
+ServesNoMore x s r = OverLinkIf r.script.config (port_of s r) r.start x.now (λ opened. ServesTo r.script s.node r.incarnation s.options s.turns opened x.now)
+
+-- a moment was a pause, and it did all up to there
+abbrev pub ServesUpToPause : Seen → Service → Running → Type 0
+ServesUpToPause x s r = OverLink r.script.config (port_of s r) r.start (λ opened. ServesToPause r.script s.node r.incarnation s.options s.turns opened x.now)
 
 -- ---- what a question leaves
 
@@ -319,6 +338,7 @@ DoneAs x (tells text) = Appends x.before.held x.now.held text × (x.rest ≡ x.l
 DoneAs x (serves s objects) = Runs x s objects (ServesAll x s) × IsAtEnd x.rest
 DoneAs x (asks a) = IsAnswered x a (λ text answered. Appends answered.held x.now.held text) × IsAtEnd x.rest
 DoneAs x (uses u) = UsesBy x u (UsesOver x u (UsesAll x u)) × IsAtEnd x.rest
+DoneAs x (tables g) = IfSome x.left (PlaysTables g x.before.held x.now.held) × IsAtEnd x.rest
 
 -- the input has this first bad line, for this reason: it is in no script, in no settings, or in no calls of a client
 abbrev pub HasFault : Task → ℕ → LineWhy → List ℕ → Type 0
@@ -326,6 +346,7 @@ HasFault (plays list) line why b = script_of b ≡ IsNone line why
 HasFault (serves s objects) line why b = daemon_script s.node (Some (counted objects)) b ≡ IsNone line why
 HasFault (asks a) line why b = daemon_script a.node None b ≡ IsNone line why
 HasFault (uses u) line why b = client_script u.node b ≡ IsNone line why
+HasFault (tables g) line why b = script_of b ≡ IsNone line why
 HasFault _ line why b = ⊥
 
 -- a command that reads has such a line, and did nothing else
@@ -353,6 +374,7 @@ MemoryAs x (Some (tells text)) = Keeps x.before.held x.now.held
 MemoryAs x (Some (serves s objects)) = (Keeps x.before.held x.now.held × Untouched x) ⊎ Runs x s objects (ServesPart x s)
 MemoryAs x (Some (asks a)) = Keeps x.before.held x.now.held
 MemoryAs x (Some (uses u)) = (Keeps x.before.held x.now.held × Untouched x) ⊎ UsesBy x u (UsesPart x u)
+MemoryAs x (Some (tables g)) = IfSome x.left (MayHaveTables g x.before.held x.now.held)
 
 -- the input failed
 abbrev pub ReadFaultAs : Seen → Task → Type 0
@@ -368,6 +390,7 @@ WriteFaultAs x (tells text) = GrowsByFront x.before.held x.now.held text
 WriteFaultAs x (serves s objects) = Runs x s objects (ServesPart x s)
 WriteFaultAs x (asks a) = IsAnswered x a (λ text answered. GrowsByFront answered.held x.now.held text)
 WriteFaultAs x (uses u) = UsesBy x u (UsesPart x u)
+WriteFaultAs x (tables g) = IfSome x.left (MayHaveTables g x.before.held x.now.held)
 
 -- the link failed
 abbrev pub LinkFaultAs : Seen → Task → Type 0
@@ -380,6 +403,7 @@ LinkFaultAs x _ = ⊥
 abbrev pub PastAs : Seen → Task → Type 0
 PastAs x (plays list) = IfSome x.left (PlaysPast (shown_of list) x.before.held x.now.held)
 PastAs x (loads steps) = LoadsPast steps x.before.held x.now.held
+PastAs x (tables g) = IfSome x.left (TablesPast x.before.held x.now.held)
 PastAs x _ = ⊥
 
 -- no reply came
@@ -398,6 +422,11 @@ abbrev pub FullAs : Seen → Task → Type 0
 FullAs x (uses u) = UsesBy x u (UsesOver x u (FindsFull x u))
 FullAs x _ = ⊥
 
+-- a moment was a pause
+abbrev pub PausedAs : Seen → Task → Type 0
+PausedAs x (serves s objects) = Runs x s objects (ServesUpToPause x s)
+PausedAs x _ = ⊥
+
 -- the source tells what is left, and it is settings of the node
 abbrev pub SpellsSettings : ℕ → Option ℕ → Option (List ℕ) → Type 0
 SpellsSettings node objects None = ⊥
@@ -408,8 +437,8 @@ abbrev pub SpellsCalls : ℕ → Option (List ℕ) → Type 0
 SpellsCalls node None = ⊥
 SpellsCalls node (Some b) = (s : Script) × (client_script node b ≡ IsScript s)
 
--- what can be done where nothing fails: a load and a text always, to play what is a script, and to serve, ask or use by
--- settings
+-- what can be done where nothing fails: a load and a text always, to play what is a script, also with tables, and to serve,
+-- ask or use by settings
 abbrev pub CanBeDone : Seen → Task → Type 0
 CanBeDone x (plays list) = SpellsScript x.left
 CanBeDone x (loads steps) = Unit {0}
@@ -417,6 +446,7 @@ CanBeDone x (tells text) = Unit {0}
 CanBeDone x (serves s objects) = SpellsSettings s.node (Some (counted objects)) x.left
 CanBeDone x (asks a) = SpellsSettings a.node None x.left
 CanBeDone x (uses u) = SpellsCalls u.node x.left
+CanBeDone x (tables g) = SpellsScript x.left
 
 -- ---- all endings
 
@@ -431,14 +461,15 @@ FailsAs ending.TooMuchKept t x = Asks t (PastAs x)
 FailsAs (ending.Stop stop.NoReply) t x = Asks t (NoReplyAs x)
 FailsAs (ending.Stop stop.SessionLost) t x = Asks t (LostAs x)
 FailsAs (ending.Stop stop.DaemonFull) t x = Asks t (FullAs x)
+FailsAs (ending.Stop stop.Paused) t x = Asks t (PausedAs x)
 
 abbrev pub EndsAs : Result (Unit {0}) Ending → Option Task → Seen → Type 0
 EndsAs (Ok u) t x = Asks t (DoneAs x)
 EndsAs (Err e) t x = FailsAs e t x
 
 -- How a call ended, by its status. `complete`: what can be done is done, or memory runs out, or packets pass the limit, where
--- neither the input nor the output failed, the link held, what was asked and each call was answered, and the daemon that a
--- client uses stayed and had room for it.
+-- neither the input nor the output failed, the link held, what was asked and each call was answered, the daemon that a
+-- client uses stayed and had room for it, and no moment was a pause.
 pub record Ended (status : ℕ) (t : Option Task) (x : Seen) : Type 0 where
   pub usage : status ≡ 1 → (t ≡ None) × Keeps x.before.held x.now.held × (x.rest ≡ x.left) × Untouched x
   pub words : t ≡ None → (status ≡ 1) ⊎ (status ≡ 3)
@@ -452,8 +483,9 @@ pub record Ended (status : ℕ) (t : Option Task) (x : Seen) : Type 0 where
   pub no_reply : status ≡ 9 → Asks t (NoReplyAs x)
   pub lost : status ≡ 10 → Asks t (LostAs x)
   pub full : status ≡ 11 → Asks t (FullAs x)
-  pub no_other : (status ≤ 7) ⊎ ((9 ≤ status) × (status ≤ 11))
-  pub complete : Asks t (CanBeDone x) → (Rose x.reads x.reads_now → ⊥) → (Rose x.before.write_faults x.now.write_faults → ⊥) → (Asks t (LinkFaultAs x) → ⊥) → (Asks t (NoReplyAs x) → ⊥) → (Asks t (LostAs x) → ⊥) → (Asks t (FullAs x) → ⊥)
+  pub paused : status ≡ 12 → Asks t (PausedAs x)
+  pub no_other : (status ≤ 7) ⊎ ((9 ≤ status) × (status ≤ 12))
+  pub complete : Asks t (CanBeDone x) → (Rose x.reads x.reads_now → ⊥) → (Rose x.before.write_faults x.now.write_faults → ⊥) → (Asks t (LinkFaultAs x) → ⊥) → (Asks t (NoReplyAs x) → ⊥) → (Asks t (LostAs x) → ⊥) → (Asks t (FullAs x) → ⊥) → (Asks t (PausedAs x) → ⊥)
       → (status ≡ 0) ⊎ ((status ≡ 3) ⊎ (status ≡ 7))
 
 -- ---- what is said of a bad line

@@ -6,19 +6,20 @@ use crate::edges::Edges;
 use crate::ending::Ending;
 use crate::settings::read_settings;
 use client_callbacks::{Callbacks, DaemonClient};
+use daemon_model::Options;
 use daemon_run::{Hosts, Objects, Serving, serve};
 use hags_io::{Outside, Source};
 use std::alloc::Global;
 use world_model::Script;
 
 /// What the words ask of a daemon: its node (1 to 32), its incarnation (from 1 on) or none, and how many turns it does
-/// (from 1 on); and whether it serves clients on other machines.
+/// (from 1 on); and its options.
 #[derive(Clone, Copy, Debug, PartialEq, Eq)]
 pub struct Service {
     pub node: u8,
     pub incarnation: Option<u32>,
     pub turns: u64,
-    pub remote: bool,
+    pub options: Options,
 }
 
 /// How many objects there are, as far as 32 bits count them.
@@ -61,7 +62,7 @@ fn serve_with<C: Callbacks, H: Hosts<C>, S: Source, O: Outside>(
         me: service.node,
         incarnation: incarnation_of(service.incarnation, &mut edges.output.outside),
         turns: service.turns,
-        remote: service.remote,
+        options: service.options,
     };
     let outcome = serve::<C, H, O>(alloc, &script, serving, hosts, &mut edges.output.outside);
     outcome.end?;

@@ -12,6 +12,7 @@ mod run_command;
 mod settings;
 mod status;
 mod status_command;
+mod table_command;
 mod tasks;
 mod tell_command;
 

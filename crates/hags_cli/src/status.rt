@@ -30,6 +30,7 @@ fn status_of(ending: Ending) -> u8
         Ending::Stop(Stop::NoReply) => 9,
         Ending::Stop(Stop::SessionLost) => 10,
         Ending::Stop(Stop::DaemonFull) => 11,
+        Ending::Stop(Stop::Paused) => 12,
     }
 }
 
@@ -48,6 +49,7 @@ fn text_of(ending: Ending) -> &'static [u8]
         Ending::Stop(Stop::NoReply) => b"hags: no reply\n",
         Ending::Stop(Stop::SessionLost) => b"hags: session lost\n",
         Ending::Stop(Stop::DaemonFull) => b"hags: daemon full\n",
+        Ending::Stop(Stop::Paused) => b"hags: paused\n",
     }
 }
 
@@ -79,17 +81,18 @@ fn say_ending<E: Sink>(alloc: Global, ending: Ending, err: &mut E)
 ///
 /// | status | text on err | when |
 /// |---|---|---|
-/// | 0 | | `run`: the input was read to its end, and the whole text of its run was written, of the kinds that the words name; `load`: the summary of its run; `daemon`: all its turns were done, and the lines of its records were written; `status`: the text of the answer was written; `client`: all its turns were done, each call has its answer, and its answers and what its client heard were written; `--help`, `--version`: their text |
+/// | 0 | | `run`: the input was read to its end, and the whole text of its run was written, of the kinds that the words name; `load`: the summary of its run; `daemon`: all its turns were done, and the lines of its records were written; `status`: the text of the answer was written; `client`: all its turns were done, each call has its answer, and its answers and what its client heard were written; `table`: the input was read to its end, and the lines of the copies were written; `--help`, `--version`: their text |
 /// | 1 | `hags: usage: ..` | only where the words are of no command; there it is this or 3. Nothing was read or written |
-/// | 2 | `hags: line L: WHY` | `run`, `daemon`, `status`, `client`: line L is the first of the input that is in no script, in no settings of the node, or in no calls of a client of it, and WHY the first reason; nothing was written, and the link was not opened |
+/// | 2 | `hags: line L: WHY` | `run`, `table`, `daemon`, `status`, `client`: line L is the first of the input that is in no script, in no settings of the node, or in no calls of a client of it, and WHY the first reason; nothing was written, and the link was not opened |
 /// | 3 | `hags: no memory` | memory has run out |
-/// | 4 | `hags: read fault` | `run`, `daemon`, `status`, `client`: the input failed; nothing was written, and the link was not opened |
+/// | 4 | `hags: read fault` | `run`, `table`, `daemon`, `status`, `client`: the input failed; nothing was written, and the link was not opened |
 /// | 5 | `hags: write fault` | `out` failed; a front of the text was written |
 /// | 6 | `hags: link fault` | `daemon`, `status`, `client`: the link could not be opened, or 16 receives in a row failed; of `daemon` and `client` all lines up to there were written, of `status` nothing |
-/// | 7 | `hags: too much kept` | the packets of the run passed 536,870,912 bytes: of `run` the text up to there was written, of `load` nothing |
+/// | 7 | `hags: too much kept` | the packets of the run passed 536,870,912 bytes: of `run` the text up to there was written, of `load` and `table` nothing |
 /// | 9 | `hags: no reply` | `status`: none of its receives brought the answer; nothing was written; `client`: all its turns were done, and some call has no answer; all lines were written |
 /// | 10 | `hags: session lost` | `client`: its last receive brought word of another incarnation of the daemon; all lines up to there were written |
 /// | 11 | `hags: daemon full` | `client`: its last receive brought word that the daemon keeps no more clients; all lines up to there were written |
+/// | 12 | `hags: paused` | `daemon`: the moment of a turn was too far above that of the turn before, or of the start; of that turn nothing else was done, and all lines up to there were written |
 #[tactic(auto, using(crate::proofs::TaskLaws::done, crate::proofs::TaskLaws::failed, crate::proofs::TaskLaws::says_line, crate::proofs::TaskLaws::says_said, crate::proofs::TaskLaws::says_nothing))]
 pub fn hags<S: Source, O: Outside, E: Sink>(
     alloc: Global,

@@ -1,5 +1,5 @@
 //! The command `status`.
-ghost use Rattle.std.specs.Prelude.{◌≤◌, Some};
+ghost use Rattle.std.specs.Prelude.{Some};
 ghost use Rattle.hags_cli.specs.Tasks.{EndsAs, seen, asks};
 
 use crate::edges::Edges;

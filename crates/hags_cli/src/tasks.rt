@@ -1,7 +1,7 @@
 //! What the words of a call ask for, and how it is done.
 ghost use Rattle.std.specs.Prelude.{◌≡◌, IfSome, IfNone, map, string_bytes, length};
 ghost use Rattle.hags_words.specs.Commands.{IsWithin};
-ghost use Rattle.hags_cli.specs.Tasks.{Shows, plays, played_as, list_in, task_asked, task_of, EndsAs, seen};
+ghost use Rattle.hags_cli.specs.Tasks.{Shows, plays, played_as, list_in, task_asked, task_of, options_of, EndsAs, seen};
 
 use crate::client_command::use_node;
 use crate::daemon_command::{Service, serve_node};
@@ -10,11 +10,13 @@ use crate::ending::Ending;
 use crate::load_command::load_steps;
 use crate::run_command::run;
 use crate::status_command::ask_node;
+use crate::table_command::run_tables;
 use crate::tell_command::tell;
 use client_callbacks::Callbacks;
 use client_run::Usage;
+use daemon_model::{Options, RemoteService};
 use hags_io::{Outside, Source};
-use hags_words::{Command, VERSION, help_text, read_command};
+use hags_words::{Command, DaemonOptions, VERSION, help_text, read_command};
 use rsct_packet::List;
 use status_client::Asking;
 use std::alloc::Global;
@@ -30,6 +32,25 @@ fn kinds_in(list: &Option<List<u8>>) -> Option<Kinds>
     match list {
         None => Some(Kinds::all()),
         Some(list) => Kinds::read(list.as_slice()),
+    }
+}
+
+/// The options of a daemon, as it takes them.
+fn options_of(options: DaemonOptions) -> Options
+    ensures { result ≡ options_of options }
+{
+    let remote = if options.remote {
+        RemoteService::On {
+            entries: options.entries,
+        }
+    } else {
+        RemoteService::Off
+    };
+    Options {
+        remote,
+        silence: options.silence,
+        mend: options.mend,
+        gap: options.gap,
     }
 }
 
@@ -57,14 +78,14 @@ fn perform<S: Source, O: Outside>(
                 node,
                 incarnation,
                 turns,
-                remote,
+                options,
             },
         ) => {
             let service = Service {
                 node,
                 incarnation,
                 turns,
-                remote,
+                options: options_of(options),
             };
             serve_node(alloc, service, edges, clients)
         }
@@ -75,6 +96,9 @@ fn perform<S: Source, O: Outside>(
         Some(Command::Client { node, turns, key }) => {
             let usage = Usage { node, turns, key };
             use_node(alloc, usage, edges)
+        }
+        Some(Command::Table { group }) => {
+            run_tables(alloc, &group, &mut edges.input, &mut edges.output)
         }
         Some(Command::Help { about }) => tell(help_text(about), &mut edges.output),
         Some(Command::Version) => tell(VERSION, &mut edges.output),

@@ -20,7 +20,7 @@ use Rattle.clap.specs.declared.parser.matches.ValueSource.TheVariants.{CommandLi
 use Rattle.clap.proofs.OnLiterals.{clap_on_literals}
 use Rattle.hags_words.specs.App.{options_app, option_rule}
 use Rattle.clap.specs.Words.{new_rule}
-use Rattle.hags_words.specs.Options.{Argument, operand, kinds, node, inc, turns, key, name_of, option_named, Values, is_given, is_same, value_of, ◌>>=◌, is_end, has_short}
+use Rattle.hags_words.specs.Options.{Argument, operand, kinds, node, inc, turns, key, silence, mend, gap, name_of, option_named, Values, is_given, is_same, value_of, ◌>>=◌, is_end, has_short}
 use Rattle.hags_words.specs.Found.{HasValues}
 use Rattle.hags_words.proofs.Pending.{Pending, after_pending, pending_word, pending_plain, pending_operand, pending_option, closed, added, none_pending, pending_from, pending_of}
 
@@ -100,36 +100,81 @@ same_is operand node = refl
 same_is operand inc = refl
 same_is operand turns = refl
 same_is operand key = refl
+same_is operand silence = refl
+same_is operand mend = refl
+same_is operand gap = refl
 same_is kinds operand = refl
 same_is kinds kinds = refl
 same_is kinds node = refl
 same_is kinds inc = refl
 same_is kinds turns = refl
 same_is kinds key = refl
+same_is kinds silence = refl
+same_is kinds mend = refl
+same_is kinds gap = refl
 same_is node operand = refl
 same_is node kinds = refl
 same_is node node = refl
 same_is node inc = refl
 same_is node turns = refl
 same_is node key = refl
+same_is node silence = refl
+same_is node mend = refl
+same_is node gap = refl
 same_is inc operand = refl
 same_is inc kinds = refl
 same_is inc node = refl
 same_is inc inc = refl
 same_is inc turns = refl
 same_is inc key = refl
+same_is inc silence = refl
+same_is inc mend = refl
+same_is inc gap = refl
 same_is turns operand = refl
 same_is turns kinds = refl
 same_is turns node = refl
 same_is turns inc = refl
 same_is turns turns = refl
 same_is turns key = refl
+same_is turns silence = refl
+same_is turns mend = refl
+same_is turns gap = refl
 same_is key operand = refl
 same_is key kinds = refl
 same_is key node = refl
 same_is key inc = refl
 same_is key turns = refl
 same_is key key = refl
+same_is key silence = refl
+same_is key mend = refl
+same_is key gap = refl
+same_is silence operand = refl
+same_is silence kinds = refl
+same_is silence node = refl
+same_is silence inc = refl
+same_is silence turns = refl
+same_is silence key = refl
+same_is silence silence = refl
+same_is silence mend = refl
+same_is silence gap = refl
+same_is mend operand = refl
+same_is mend kinds = refl
+same_is mend node = refl
+same_is mend inc = refl
+same_is mend turns = refl
+same_is mend key = refl
+same_is mend silence = refl
+same_is mend mend = refl
+same_is mend gap = refl
+same_is gap operand = refl
+same_is gap kinds = refl
+same_is gap node = refl
+same_is gap inc = refl
+same_is gap turns = refl
+same_is gap key = refl
+same_is gap silence = refl
+same_is gap mend = refl
+same_is gap gap = refl
 
 given_is : (o : Argument) (values : Values) → is_given o values ≡ has_row (name_of o) (rows values)
 given_is o [] = refl
@@ -153,6 +198,9 @@ rule_of_argument node = with_index 1 (filled (option_rule (codes "node")))
 rule_of_argument inc = with_index 1 (filled (option_rule (codes "inc")))
 rule_of_argument turns = with_index 1 (filled (option_rule (codes "turns")))
 rule_of_argument key = with_index 1 (filled (option_rule (codes "key")))
+rule_of_argument silence = with_index 1 (filled (option_rule (codes "silence")))
+rule_of_argument mend = with_index 1 (filled (option_rule (codes "mend")))
+rule_of_argument gap = with_index 1 (filled (option_rule (codes "gap")))
 
 abbrev UseIs : Kinds → List Row → Option Values → Type 0
 UseIs k rs None = k ≢ []
@@ -173,6 +221,9 @@ use_new node v values e = (rw e refl, used_new (codes "node") (more_values Comma
 use_new inc v values e = (rw e refl, used_new (codes "inc") (more_values CommandLine (v ∷ [])) (value_row inc v ∷ []) (rows values) e ∙ rows_push values inc v)
 use_new turns v values e = (rw e refl, used_new (codes "turns") (more_values CommandLine (v ∷ [])) (value_row turns v ∷ []) (rows values) e ∙ rows_push values turns v)
 use_new key v values e = (rw e refl, used_new (codes "key") (more_values CommandLine (v ∷ [])) (value_row key v ∷ []) (rows values) e ∙ rows_push values key v)
+use_new silence v values e = (rw e refl, used_new (codes "silence") (more_values CommandLine (v ∷ [])) (value_row silence v ∷ []) (rows values) e ∙ rows_push values silence v)
+use_new mend v values e = (rw e refl, used_new (codes "mend") (more_values CommandLine (v ∷ [])) (value_row mend v ∷ []) (rows values) e ∙ rows_push values mend v)
+use_new gap v values e = (rw e refl, used_new (codes "gap") (more_values CommandLine (v ∷ [])) (value_row gap v ∷ []) (rows values) e ∙ rows_push values gap v)
 
 use_again : (o : Argument) (v : List ℕ) (values : Values) → has_row (name_of o) (rows values) ≡ true
     → use_fault false (rule_of_argument o) (v ∷ []) (rows values) ≢ []
@@ -182,20 +233,27 @@ use_again node v values e = rw e (λ x. absurd cc)
 use_again inc v values e = rw e (λ x. absurd cc)
 use_again turns v values e = rw e (λ x. absurd cc)
 use_again key v values e = rw e (λ x. absurd cc)
+use_again silence v values e = rw e (λ x. absurd cc)
+use_again mend v values e = rw e (λ x. absurd cc)
+use_again gap v values e = rw e (λ x. absurd cc)
 
 -- ---- which option a name names
 
-found_by : (a b c d e : Bool) → (if (a || false) then Some (rule_of_argument kinds) else (if (b || false) then Some (rule_of_argument node) else (if (c || false) then Some (rule_of_argument inc) else (if (d || false) then Some (rule_of_argument turns) else (if (e || false) then Some (rule_of_argument key) else None)))))
-    ≡ option_map rule_of_argument (if a then Some kinds else (if b then Some node else (if c then Some inc else (if d then Some turns else (if e then Some key else None)))))
-found_by true b c d e = refl
-found_by false true c d e = refl
-found_by false false true d e = refl
-found_by false false false true e = refl
-found_by false false false false true = refl
-found_by false false false false false = refl
+found_by : (a b c d e f g h : Bool)
+    → (if (a || false) then Some (rule_of_argument kinds) else (if (b || false) then Some (rule_of_argument node) else (if (c || false) then Some (rule_of_argument inc) else (if (d || false) then Some (rule_of_argument turns) else (if (e || false) then Some (rule_of_argument key) else (if (f || false) then Some (rule_of_argument silence) else (if (g || false) then Some (rule_of_argument mend) else (if (h || false) then Some (rule_of_argument gap) else None))))))))
+    ≡ option_map rule_of_argument (if a then Some kinds else (if b then Some node else (if c then Some inc else (if d then Some turns else (if e then Some key else (if f then Some silence else (if g then Some mend else (if h then Some gap else None))))))))
+found_by true b c d e f g h = refl
+found_by false true c d e f g h = refl
+found_by false false true d e f g h = refl
+found_by false false false true e f g h = refl
+found_by false false false false true f g h = refl
+found_by false false false false false true g h = refl
+found_by false false false false false false true h = refl
+found_by false false false false false false false true = refl
+found_by false false false false false false false false = refl
 
 found_is : (name : List ℕ) → arg_by_long shape.rules name ≡ option_map rule_of_argument (option_named name)
-found_is name = found_by (bytes_eq (codes "kinds") name) (bytes_eq (codes "node") name) (bytes_eq (codes "inc") name) (bytes_eq (codes "turns") name) (bytes_eq (codes "key") name)
+found_is name = found_by (bytes_eq (codes "kinds") name) (bytes_eq (codes "node") name) (bytes_eq (codes "inc") name) (bytes_eq (codes "turns") name) (bytes_eq (codes "key") name) (bytes_eq (codes "silence") name) (bytes_eq (codes "mend") name) (bytes_eq (codes "gap") name)
 
 use_by : (o : Argument) (v : List ℕ) (values : Values) (b : Bool) → is_given o values ≡ b
     → UseIs (use_fault false (rule_of_argument o) (v ∷ []) (rows values)) (used (rule_of_argument o) (v ∷ []) (rows values)) (if b then None else Some (values ++ (o, v) ∷ []))
@@ -214,12 +272,18 @@ close_is values (Some (node, None)) ended taken = λ e. absurd cc
 close_is values (Some (inc, None)) ended taken = λ e. absurd cc
 close_is values (Some (turns, None)) ended taken = λ e. absurd cc
 close_is values (Some (key, None)) ended taken = λ e. absurd cc
+close_is values (Some (silence, None)) ended taken = λ e. absurd cc
+close_is values (Some (mend, None)) ended taken = λ e. absurd cc
+close_is values (Some (gap, None)) ended taken = λ e. absurd cc
 close_is values (Some (operand, Some v)) ended taken = use_is operand v values
 close_is values (Some (kinds, Some v)) ended taken = use_is kinds v values
 close_is values (Some (node, Some v)) ended taken = use_is node v values
 close_is values (Some (inc, Some v)) ended taken = use_is inc v values
 close_is values (Some (turns, Some v)) ended taken = use_is turns v values
 close_is values (Some (key, Some v)) ended taken = use_is key v values
+close_is values (Some (silence, Some v)) ended taken = use_is silence v values
+close_is values (Some (mend, Some v)) ended taken = use_is mend v values
+close_is values (Some (gap, Some v)) ended taken = use_is gap v values
 
 or_nil : (k : Kinds) → or_else k [] ≡ [] → k ≡ []
 or_nil [] e = refl
@@ -274,12 +338,18 @@ operand_step values (Some (node, v)) true false word = takes true word _ _ (clos
 operand_step values (Some (inc, v)) true false word = takes true word _ _ (closed values (Some (inc, v))) (close_is values (Some (inc, v)) true false)
 operand_step values (Some (turns, v)) true false word = takes true word _ _ (closed values (Some (turns, v))) (close_is values (Some (turns, v)) true false)
 operand_step values (Some (key, v)) true false word = takes true word _ _ (closed values (Some (key, v))) (close_is values (Some (key, v)) true false)
+operand_step values (Some (silence, v)) true false word = takes true word _ _ (closed values (Some (silence, v))) (close_is values (Some (silence, v)) true false)
+operand_step values (Some (mend, v)) true false word = takes true word _ _ (closed values (Some (mend, v))) (close_is values (Some (mend, v)) true false)
+operand_step values (Some (gap, v)) true false word = takes true word _ _ (closed values (Some (gap, v))) (close_is values (Some (gap, v)) true false)
 operand_step values (Some (operand, v)) false false word = takes false word _ _ (closed values (Some (operand, v))) (close_is values (Some (operand, v)) false false)
 operand_step values (Some (kinds, v)) false false word = takes false word _ _ (closed values (Some (kinds, v))) (close_is values (Some (kinds, v)) false false)
 operand_step values (Some (node, v)) false false word = takes false word _ _ (closed values (Some (node, v))) (close_is values (Some (node, v)) false false)
 operand_step values (Some (inc, v)) false false word = takes false word _ _ (closed values (Some (inc, v))) (close_is values (Some (inc, v)) false false)
 operand_step values (Some (turns, v)) false false word = takes false word _ _ (closed values (Some (turns, v))) (close_is values (Some (turns, v)) false false)
 operand_step values (Some (key, v)) false false word = takes false word _ _ (closed values (Some (key, v))) (close_is values (Some (key, v)) false false)
+operand_step values (Some (silence, v)) false false word = takes false word _ _ (closed values (Some (silence, v))) (close_is values (Some (silence, v)) false false)
+operand_step values (Some (mend, v)) false false word = takes false word _ _ (closed values (Some (mend, v))) (close_is values (Some (mend, v)) false false)
+operand_step values (Some (gap, v)) false false word = takes false word _ _ (closed values (Some (gap, v))) (close_is values (Some (gap, v)) false false)
 
 -- a word that is no option
 abbrev plain_met : Pending → List ℕ → Option (List ℕ) → Held × Step
@@ -295,6 +365,9 @@ plain_step values (Some (node, None)) taken word = (refl, refl)
 plain_step values (Some (inc, None)) taken word = (refl, refl)
 plain_step values (Some (turns, None)) taken word = (refl, refl)
 plain_step values (Some (key, None)) taken word = (refl, refl)
+plain_step values (Some (silence, None)) taken word = (refl, refl)
+plain_step values (Some (mend, None)) taken word = (refl, refl)
+plain_step values (Some (gap, None)) taken word = (refl, refl)
 plain_step values (Some (o, Some v)) taken word = operand_step values (Some (o, Some v)) false taken word
 
 abbrev found_met : Pending → List ℕ → Option Rule → Option (List ℕ) → Held × Step
@@ -320,22 +393,31 @@ option_step values last taken word (Some node) None is = opens node taken _ _ (c
 option_step values last taken word (Some inc) None is = opens inc taken _ _ (closed values last) (close_is values last false taken)
 option_step values last taken word (Some turns) None is = opens turns taken _ _ (closed values last) (close_is values last false taken)
 option_step values last taken word (Some key) None is = opens key taken _ _ (closed values last) (close_is values last false taken)
+option_step values last taken word (Some silence) None is = opens silence taken _ _ (closed values last) (close_is values last false taken)
+option_step values last taken word (Some mend) None is = opens mend taken _ _ (closed values last) (close_is values last false taken)
+option_step values last taken word (Some gap) None is = opens gap taken _ _ (closed values last) (close_is values last false taken)
 option_step values last taken word (Some kinds) (Some v) is = gives kinds taken v _ _ (closed values last) (close_is values last false taken)
 option_step values last taken word (Some node) (Some v) is = gives node taken v _ _ (closed values last) (close_is values last false taken)
 option_step values last taken word (Some inc) (Some v) is = gives inc taken v _ _ (closed values last) (close_is values last false taken)
 option_step values last taken word (Some turns) (Some v) is = gives turns taken v _ _ (closed values last) (close_is values last false taken)
 option_step values last taken word (Some key) (Some v) is = gives key taken v _ _ (closed values last) (close_is values last false taken)
+option_step values last taken word (Some silence) (Some v) is = gives silence taken v _ _ (closed values last) (close_is values last false taken)
+option_step values last taken word (Some mend) (Some v) is = gives mend taken v _ _ (closed values last) (close_is values last false taken)
+option_step values last taken word (Some gap) (Some v) is = gives gap taken v _ _ (closed values last) (close_is values last false taken)
 
-is_option_by : (a b c d e : Bool) → IsOption (if a then Some kinds else (if b then Some node else (if c then Some inc else (if d then Some turns else (if e then Some key else None)))))
-is_option_by true b c d e = tt
-is_option_by false true c d e = tt
-is_option_by false false true d e = tt
-is_option_by false false false true e = tt
-is_option_by false false false false true = tt
-is_option_by false false false false false = tt
+is_option_by : (a b c d e f g h : Bool) → IsOption (if a then Some kinds else (if b then Some node else (if c then Some inc else (if d then Some turns else (if e then Some key else (if f then Some silence else (if g then Some mend else (if h then Some gap else None))))))))
+is_option_by true b c d e f g h = tt
+is_option_by false true c d e f g h = tt
+is_option_by false false true d e f g h = tt
+is_option_by false false false true e f g h = tt
+is_option_by false false false false true f g h = tt
+is_option_by false false false false false true g h = tt
+is_option_by false false false false false false true h = tt
+is_option_by false false false false false false false true = tt
+is_option_by false false false false false false false false = tt
 
 pub is_option : (name : List ℕ) → IsOption (option_named name)
-is_option name = is_option_by (bytes_eq (codes "kinds") name) (bytes_eq (codes "node") name) (bytes_eq (codes "inc") name) (bytes_eq (codes "turns") name) (bytes_eq (codes "key") name)
+is_option name = is_option_by (bytes_eq (codes "kinds") name) (bytes_eq (codes "node") name) (bytes_eq (codes "inc") name) (bytes_eq (codes "turns") name) (bytes_eq (codes "key") name) (bytes_eq (codes "silence") name) (bytes_eq (codes "mend") name) (bytes_eq (codes "gap") name)
 
 -- ---- one word
 
@@ -477,10 +559,10 @@ default_by : (b : Bool) (k : Kinds) → (if (b || true) then [] else k) ≡ []
 default_by true k = refl
 default_by false k = refl
 
-no_default : (rs rs2 rs3 rs4 rs5 rs6 : List Row)
-    → or_else (default_fault rs (rule_of_argument operand)) (or_else (default_fault rs2 (rule_of_argument kinds)) (or_else (default_fault rs3 (rule_of_argument node)) (or_else (default_fault rs4 (rule_of_argument inc)) (or_else (default_fault rs5 (rule_of_argument turns)) (or_else (default_fault rs6 (rule_of_argument key)) []))))) ≡ []
-no_default rs rs2 rs3 rs4 rs5 rs6 =
-    rw (default_by (has_row (codes "operand") rs) _, default_by (has_row (codes "kinds") rs2) _, default_by (has_row (codes "node") rs3) _, default_by (has_row (codes "inc") rs4) _, default_by (has_row (codes "turns") rs5) _, default_by (has_row (codes "key") rs6) _) refl
+no_default : (rs rs2 rs3 rs4 rs5 rs6 rs7 rs8 rs9 : List Row)
+    → or_else (default_fault rs (rule_of_argument operand)) (or_else (default_fault rs2 (rule_of_argument kinds)) (or_else (default_fault rs3 (rule_of_argument node)) (or_else (default_fault rs4 (rule_of_argument inc)) (or_else (default_fault rs5 (rule_of_argument turns)) (or_else (default_fault rs6 (rule_of_argument key)) (or_else (default_fault rs7 (rule_of_argument silence)) (or_else (default_fault rs8 (rule_of_argument mend)) (or_else (default_fault rs9 (rule_of_argument gap)) [])))))))) ≡ []
+no_default rs rs2 rs3 rs4 rs5 rs6 rs7 rs8 rs9 =
+    rw (default_by (has_row (codes "operand") rs) _, default_by (has_row (codes "kinds") rs2) _, default_by (has_row (codes "node") rs3) _, default_by (has_row (codes "inc") rs4) _, default_by (has_row (codes "turns") rs5) _, default_by (has_row (codes "key") rs6) _, default_by (has_row (codes "silence") rs7) _, default_by (has_row (codes "mend") rs8) _, default_by (has_row (codes "gap") rs9) _) refl
 
 abbrev past : Argument → List Row → List Row
 past o rs = with_default rs (rule_of_argument o)
@@ -488,7 +570,7 @@ past o rs = with_default rs (rule_of_argument o)
 defaults_none : (rs : List Row) → defaults_fault rs shape.rules ≡ []
 unfolding defaults_fault
 defaults_none rs =
-    no_default rs (past operand rs) (past kinds (past operand rs)) (past node (past kinds (past operand rs))) (past inc (past node (past kinds (past operand rs)))) (past turns (past inc (past node (past kinds (past operand rs)))))
+    no_default rs (past operand rs) (past kinds (past operand rs)) (past node (past kinds (past operand rs))) (past inc (past node (past kinds (past operand rs)))) (past turns (past inc (past node (past kinds (past operand rs))))) (past key (past turns (past inc (past node (past kinds (past operand rs)))))) (past silence (past key (past turns (past inc (past node (past kinds (past operand rs))))))) (past mend (past silence (past key (past turns (past inc (past node (past kinds (past operand rs))))))))
 
 same_rows : (b : Bool) (rs : List Row) → (if b then rs else rs) ≡ rs
 same_rows true rs = refl
@@ -501,9 +583,12 @@ past_is node rs = same_rows (has_row (codes "node") rs) rs
 past_is inc rs = same_rows (has_row (codes "inc") rs) rs
 past_is turns rs = same_rows (has_row (codes "turns") rs) rs
 past_is key rs = same_rows (has_row (codes "key") rs) rs
+past_is silence rs = same_rows (has_row (codes "silence") rs) rs
+past_is mend rs = same_rows (has_row (codes "mend") rs) rs
+past_is gap rs = same_rows (has_row (codes "gap") rs) rs
 
 finished_is : (h : Held) → finished shape.rules h ≡ (settled shape.rules h).rows
-finished_is h = past_is key _ ∙ (past_is turns _ ∙ (past_is inc _ ∙ (past_is node _ ∙ (past_is kinds _ ∙ past_is operand _))))
+finished_is h = past_is gap _ ∙ (past_is mend _ ∙ (past_is silence _ ∙ (past_is key _ ∙ (past_is turns _ ∙ (past_is inc _ ∙ (past_is node _ ∙ (past_is kinds _ ∙ past_is operand _)))))))
 
 check_is : (rs : List Row) → check_fault shape rs false ≡ []
 check_is rs = refl
@@ -618,7 +703,7 @@ found_value o words f values e p h = first_value-rows f (name_of o) ∙ (ap (λ 
 values_by : (words : List (List ℕ)) (f : Found) (r : Option Values) → pending_of words ≡ r → has_short words ≡ false → rows_of f ≡ matches_of options_app words → IfSome r (HasValues f)
 values_by words f None e p h = tt
 values_by words f (Some values) e p h =
-    record { operand_is = found_value operand words f values e p h; kinds_is = found_value kinds words f values e p h; node_is = found_value node words f values e p h; inc_is = found_value inc words f values e p h; turns_is = found_value turns words f values e p h; key_is = found_value key words f values e p h }
+    record { operand_is = found_value operand words f values e p h; kinds_is = found_value kinds words f values e p h; node_is = found_value node words f values e p h; inc_is = found_value inc words f values e p h; turns_is = found_value turns words f values e p h; key_is = found_value key words f values e p h; silence_is = found_value silence words f values e p h; mend_is = found_value mend words f values e p h; gap_is = found_value gap words f values e p h }
 
 pub values_found : (words : List (List ℕ)) (f : Found) → has_short words ≡ false → rows_of f ≡ matches_of options_app words → IfSome (pending_of words) (HasValues f)
 values_found words f p h = values_by words f (pending_of words) refl p h

@@ -1,7 +1,7 @@
 -- The words as clap goes through them give what the grammar says.
 use Rattle.std.proofs.Common.{◌≡◌, ℕ, Bool, true, false, List, [], ◌∷◌, ◌++◌, Option, Some, None, refl, sym, ◌∙◌, ap, ◌||◌, if◌then◌else◌, subst}
 use Rattle.clap.specs.Lexer.{long_of, is_short_word}
-use Rattle.hags_words.specs.Options.{Argument, operand, kinds, node, inc, turns, key, Values, is_given, is_same, option_named, Given, none_given, with_value, with_operand, with_plain, with_option, with_word, after_word, is_end, unless_waiting, given_from, given_of, has_short, ◌>>=◌}
+use Rattle.hags_words.specs.Options.{Argument, operand, kinds, node, inc, turns, key, silence, mend, gap, Values, is_given, is_same, option_named, Given, none_given, with_value, with_operand, with_plain, with_option, with_word, after_word, is_end, unless_waiting, given_from, given_of, has_short, ◌>>=◌}
 use Rattle.hags_words.proofs.Pending.{Pending, none_pending, closed, added, pending_operand, pending_plain, pending_option, pending_word, after_pending, pending_from, pending_of}
 use Rattle.hags_words.proofs.ClapLaws.{Last, state, IsOption, is_option, short_here, short_after, first_is_free, rest_is_free, EndedIs, step_ended}
 
@@ -104,6 +104,9 @@ no_operand node is = refl
 no_operand inc is = refl
 no_operand turns is = refl
 no_operand key is = refl
+no_operand silence is = refl
+no_operand mend is = refl
+no_operand gap is = refl
 
 not_taken : (a : Argument) (taken b : Bool) → IsOption (Some a) → taken ≡ b → taken ≡ (b || is_same a operand)
 not_taken a taken b is e = e ∙ (sym (or_false b) ∙ ap (λ x. b || x) (sym (no_operand a is)))

@@ -1,6 +1,6 @@
 -- Words as one writes them give what they say.
 use Rattle.std.proofs.Common.{◌≡◌, ℕ, Bool, true, false, List, [], ◌∷◌, ◌++◌, Option, Some, None, refl, sym, ◌∙◌, ap, append-nil, append_assoc, if◌then◌else◌}
-use Rattle.hags_words.specs.Options.{Argument, operand, kinds, node, inc, turns, key, Values, is_given, Given, with_value, with_plain, after_word, given_from, given_of, ◌>>=◌}
+use Rattle.hags_words.specs.Options.{Argument, operand, kinds, node, inc, turns, key, silence, mend, gap, Values, is_given, Given, with_value, with_plain, after_word, given_from, given_of, ◌>>=◌}
 use Rattle.hags_words.specs.Spelled.{Form, joined, apart, Use, use_words, IsPlain, IsUse, words_of, values_of, AreUses}
 
 abbrev at : Values → Option Argument → Given
@@ -36,11 +36,17 @@ use_step values node joined value words e h = value_step values None node value 
 use_step values inc joined value words e h = value_step values None inc value words e
 use_step values turns joined value words e h = value_step values None turns value words e
 use_step values key joined value words e h = value_step values None key value words e
+use_step values silence joined value words e h = value_step values None silence value words e
+use_step values mend joined value words e h = value_step values None mend value words e
+use_step values gap joined value words e h = value_step values None gap value words e
 use_step values kinds apart value words e h = waiting_step values kinds value words e h
 use_step values node apart value words e h = waiting_step values node value words e h
 use_step values inc apart value words e h = waiting_step values inc value words e h
 use_step values turns apart value words e h = waiting_step values turns value words e h
 use_step values key apart value words e h = waiting_step values key value words e h
+use_step values silence apart value words e h = waiting_step values silence value words e h
+use_step values mend apart value words e h = waiting_step values mend value words e h
+use_step values gap apart value words e h = waiting_step values gap value words e h
 
 end_is : (values : Values) → given_from (at values None) [] ≡ Some values
 unfolding given_from

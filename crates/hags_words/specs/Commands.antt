@@ -1,6 +1,7 @@
 -- The command that the words of a command line spell.
-use Rattle.std.specs.Prelude.{ℕ, Bool, true, false, ◌≤◌, IfSome, List, [], ◌∷◌, codes, Option, Some, None, is_some, ◌||◌, if◌then◌else◌, unwrap_or}
+use Rattle.std.specs.Prelude.{ℕ, Bool, true, false, not, ◌≤◌, IfSome, List, [], ◌∷◌, codes, Option, Some, None, is_some, ◌||◌, if◌then◌else◌, unwrap_or}
 use Rattle.std.specs.Str.{bytes_eq}
+use Rattle.rsct_packet.specs.Text.{is_name_of}
 use Rattle.packet_bodies.specs.declared.body.What.{What}
 use Rattle.packet_bodies.specs.declared.body.What.TheVariants as what
 use Rattle.hags_words.specs.Options.{◌>>=◌, given_of}
@@ -9,6 +10,7 @@ use Rattle.hags_words.specs.declared.flags.Flags.{Flags}
 use Rattle.hags_words.specs.Texts.{Texts, texts_in}
 use Rattle.hags_words.specs.Numbers.{number_of, number_if_any}
 use Rattle.hags_words.specs.declared.command.Command.{Command}
+use Rattle.hags_words.specs.declared.command.DaemonOptions.{DaemonOptions}
 use Rattle.hags_words.specs.declared.command.Command.TheVariants as command
 use Rattle.hags_words.specs.declared.command.CommandName.{CommandName}
 use Rattle.hags_words.specs.declared.command.CommandName.TheVariants as name
@@ -25,7 +27,8 @@ name_of word = if bytes_eq word (codes "run") then Some name.Run
     else (if bytes_eq word (codes "load") then Some name.Load
     else (if bytes_eq word (codes "daemon") then Some name.Daemon
     else (if bytes_eq word (codes "status") then Some name.Status
-    else (if bytes_eq word (codes "client") then Some name.Client else None))))
+    else (if bytes_eq word (codes "client") then Some name.Client
+    else (if bytes_eq word (codes "table") then Some name.Table else None)))))
 
 -- what a status asks for
 unfoldable pub what_of : List ℕ → Option What
@@ -34,14 +37,18 @@ what_of word = if bytes_eq word (codes "hats") then Some what.Hats
     else (if bytes_eq word (codes "hagsgr") then Some what.Hagsgr
     else (if bytes_eq word (codes "hagsvote") then Some what.Hagsvote else None)))
 
+-- an option of a daemon alone is given
+abbrev pub has_own : Texts → Bool
+has_own t = is_some t.of_silence || (is_some t.of_mend || is_some t.of_gap)
+
 -- `run [--kinds LIST]`
 unfoldable pub run_of : Texts → Option Command
-run_of t = if is_some t.of_operand || (is_some t.of_node || (is_some t.of_inc || (is_some t.of_turns || is_some t.of_key))) then None
+run_of t = if is_some t.of_operand || (is_some t.of_node || (is_some t.of_inc || (is_some t.of_turns || (is_some t.of_key || has_own t)))) then None
     else Some (command.Run t.of_kinds)
 
 -- `load N`
 unfoldable pub load_of : Texts → Option Command
-load_of t = if is_some t.of_kinds || (is_some t.of_node || (is_some t.of_inc || (is_some t.of_turns || is_some t.of_key))) then None
+load_of t = if is_some t.of_kinds || (is_some t.of_node || (is_some t.of_inc || (is_some t.of_turns || (is_some t.of_key || has_own t)))) then None
     else (do
       text ← t.of_operand
       views ← number_of 1 2000 text
@@ -53,7 +60,12 @@ turns_for false told = Some (unwrap_or told last_u32)
 turns_for true None = Some last_u64
 turns_for true (Some told) = None
 
--- `daemon --node N [--inc I] [--turns T | --lasting] [--remote]`
+-- what a daemon is asked for; entries and silence are of a service of clients on other machines
+unfoldable pub asked_with : Flags → Option ℕ → Option ℕ → Option ℕ → Option DaemonOptions
+asked_with flags silence mend gap = if flags.remote || not (flags.entries || is_some silence)
+    then Some (record { remote = flags.remote; entries = flags.entries; silence = silence; mend = mend; gap = gap }) else None
+
+-- `daemon --node N [--inc I] [--turns T | --lasting] [--remote [--entries] [--silence S]] [--mend M] [--gap G]`
 unfoldable pub daemon_of : Flags → Texts → Option Command
 daemon_of flags t = if is_some t.of_operand || (is_some t.of_kinds || is_some t.of_key) then None
     else (do
@@ -62,11 +74,15 @@ daemon_of flags t = if is_some t.of_operand || (is_some t.of_kinds || is_some t.
       incarnation ← number_if_any 1 last_u32 t.of_inc
       told ← number_if_any 1 last_u32 t.of_turns
       turns ← turns_for flags.lasting told
-      Some (command.Daemon node incarnation turns flags.remote))
+      silence ← number_if_any 10 1000000 t.of_silence
+      mend ← number_if_any 10 10000 t.of_mend
+      gap ← number_if_any 100 3600000 t.of_gap
+      options ← asked_with flags silence mend gap
+      Some (command.Daemon node incarnation turns options))
 
 -- `status WHAT --node N [--turns T]`
 unfoldable pub status_of : Texts → Option Command
-status_of t = if is_some t.of_kinds || (is_some t.of_inc || is_some t.of_key) then None
+status_of t = if has_own t || (is_some t.of_kinds || (is_some t.of_inc || is_some t.of_key)) then None
     else (do
       word ← t.of_operand
       what ← what_of word
@@ -77,13 +93,21 @@ status_of t = if is_some t.of_kinds || (is_some t.of_inc || is_some t.of_key) th
 
 -- `client --node N [--turns T] [--key K]`
 unfoldable pub client_of : Texts → Option Command
-client_of t = if is_some t.of_operand || (is_some t.of_kinds || is_some t.of_inc) then None
+client_of t = if has_own t || (is_some t.of_operand || (is_some t.of_kinds || is_some t.of_inc)) then None
     else (do
       text ← t.of_node
       node ← number_of 1 32 text
       turns ← number_if_any 1 last_u32 t.of_turns
       key ← number_if_any 1 last_u32 t.of_key
       Some (command.Client node (unwrap_or turns 1000) key))
+
+abbrev pub table_named : List ℕ → Option Command
+table_named text = if is_name_of text then Some (command.Table text) else None
+
+-- `table GROUP`
+unfoldable pub table_of : Texts → Option Command
+table_of t = if is_some t.of_kinds || (is_some t.of_node || (is_some t.of_inc || (is_some t.of_turns || (is_some t.of_key || has_own t)))) then None
+    else (t.of_operand >>= table_named)
 
 -- a daemon has its own words, since it alone has flags
 unfoldable pub command_with : CommandName → Texts → Option Command
@@ -92,6 +116,7 @@ command_with name.Load t = load_of t
 command_with name.Daemon t = daemon_of no_flags t
 command_with name.Status t = status_of t
 command_with name.Client t = client_of t
+command_with name.Table t = table_of t
 
 -- `--help` or `--version`, and nothing else
 unfoldable pub help_or_version : Option CommandName → List (List ℕ) → Option Command
@@ -128,10 +153,14 @@ unfoldable pub command_of : List (List ℕ) → Option Command
 command_of [] = None
 command_of (word ∷ words) = command_named (name_of word) word words
 
+-- so are those of its options
+abbrev pub AreWithin : DaemonOptions → Type 0
+AreWithin o = IfSome o.silence (λ n. 10 ≤ n) × IfSome o.mend (λ n. 10 ≤ n) × IfSome o.gap (λ n. 100 ≤ n)
+
 -- its numbers are within their ranges
 abbrev pub IsWithin : Command → Type 0
 IsWithin (command.Load views) = (1 ≤ views) × (views ≤ 2000)
-IsWithin (command.Daemon node incarnation turns remote) = (1 ≤ node) × (node ≤ 32) × IfSome incarnation (λ i. 1 ≤ i) × (1 ≤ turns)
+IsWithin (command.Daemon node incarnation turns options) = (1 ≤ node) × (node ≤ 32) × IfSome incarnation (λ i. 1 ≤ i) × (1 ≤ turns) × AreWithin options
 IsWithin (command.Status what node turns) = (1 ≤ node) × (node ≤ 32) × (1 ≤ turns)
 IsWithin (command.Client node turns key) = (1 ≤ node) × (node ≤ 32) × (1 ≤ turns) × IfSome key (λ k. 1 ≤ k)
 IsWithin _ = Unit {0}

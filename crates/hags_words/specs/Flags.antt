@@ -1,4 +1,4 @@
--- The flags among the words after a command: `--remote` and `--lasting`, which have no value.
+-- The flags among the words after a command: `--remote`, `--lasting` and `--entries`, which have no value.
 use Rattle.std.specs.Prelude.{ℕ, Bool, true, false, not, ◌&&◌, ◌||◌, ◌==◌, List, [], ◌∷◌, ◌++◌, codes, Option, Some, None, if◌then◌else◌}
 use Rattle.std.specs.List.{list_any}
 use Rattle.std.specs.Str.{bytes_eq}
@@ -8,15 +8,17 @@ use Rattle.hags_words.specs.declared.flags.Flag.TheVariants as flag
 use Rattle.hags_words.specs.declared.flags.Flags.{Flags}
 
 abbrev pub no_flags : Flags
-no_flags = record { remote = false; lasting = false }
+no_flags = record { remote = false; lasting = false; entries = false }
 
 abbrev pub has_flag : Flags → Flag → Bool
 has_flag fs flag.Remote = fs.remote
 has_flag fs flag.Lasting = fs.lasting
+has_flag fs flag.Entries = fs.entries
 
 abbrev pub with_flag : Flags → Flag → Flags
 with_flag fs flag.Remote = record fs { remote = true }
 with_flag fs flag.Lasting = record fs { lasting = true }
+with_flag fs flag.Entries = record fs { entries = true }
 
 -- which of them came, whether the last word is an option whose value is the next one, whether `--` came, and the other words
 pub record Split : Type 0 where
@@ -31,7 +33,8 @@ none_split = record { flags = no_flags; waiting = false; ended = false; left = [
 -- the flag that a word is
 unfoldable pub flag_named : List ℕ → Option Flag
 flag_named word = if bytes_eq word (codes "--remote") then Some flag.Remote
-    else (if bytes_eq word (codes "--lasting") then Some flag.Lasting else None)
+    else (if bytes_eq word (codes "--lasting") then Some flag.Lasting
+    else (if bytes_eq word (codes "--entries") then Some flag.Entries else None))
 
 abbrev pub is_long : List ℕ → Bool
 is_long (a ∷ b ∷ c ∷ cs) = (a == 45) && (b == 45)

@@ -14,6 +14,9 @@ pub data Argument : Type 0 where
   inc : Argument
   turns : Argument
   key : Argument
+  silence : Argument
+  mend : Argument
+  gap : Argument
 
 abbrev pub name_of : Argument → List ℕ
 name_of operand = codes "operand"
@@ -22,6 +25,9 @@ name_of node = codes "node"
 name_of inc = codes "inc"
 name_of turns = codes "turns"
 name_of key = codes "key"
+name_of silence = codes "silence"
+name_of mend = codes "mend"
+name_of gap = codes "gap"
 
 -- the option of this name, as it stands behind two hyphens
 abbrev pub option_named : List ℕ → Option Argument
@@ -29,7 +35,10 @@ option_named name = if bytes_eq (codes "kinds") name then Some kinds
     else (if bytes_eq (codes "node") name then Some node
     else (if bytes_eq (codes "inc") name then Some inc
     else (if bytes_eq (codes "turns") name then Some turns
-    else (if bytes_eq (codes "key") name then Some key else None))))
+    else (if bytes_eq (codes "key") name then Some key
+    else (if bytes_eq (codes "silence") name then Some silence
+    else (if bytes_eq (codes "mend") name then Some mend
+    else (if bytes_eq (codes "gap") name then Some gap else None)))))))
 
 abbrev pub is_same : Argument → Argument → Bool
 is_same operand operand = true
@@ -38,6 +47,9 @@ is_same node node = true
 is_same inc inc = true
 is_same turns turns = true
 is_same key key = true
+is_same silence silence = true
+is_same mend mend = true
+is_same gap gap = true
 is_same _ _ = false
 
 -- values, each with what it is the value of

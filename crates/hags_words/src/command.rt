@@ -1,13 +1,13 @@
 //! The command that the words of a command line spell.
 ghost use Rattle.std.specs.Prelude.{◌≡◌, ◌≤◌, IfOk, IfSome, map, string_bytes};
 ghost use Rattle.hags_words.specs.Texts.{seen, text_of};
-ghost use Rattle.hags_words.specs.Commands.{name_of, what_of, run_of, load_of, turns_for, daemon_of, status_of, client_of, command_with, daemon_after, help_or_version, command_after, command_of, IsWithin};
+ghost use Rattle.hags_words.specs.Commands.{name_of, what_of, run_of, load_of, turns_for, has_own, asked_with, AreWithin, daemon_of, status_of, client_of, table_of, command_with, daemon_after, help_or_version, command_after, command_of, IsWithin};
 
 use crate::flags::{Flags, take_flags};
 use crate::numbers::{node_number, number, number_if_any};
 use crate::options::{Options, read_options};
 use packet_bodies::What;
-use rsct_packet::{List, NoMemory};
+use rsct_packet::{List, Name, NoMemory};
 use std::alloc::Global;
 
 /// How many views the script of `load` has at most.
@@ -19,7 +19,7 @@ const STATUS_TURNS: u32 = 1_000;
 /// How many turns `client` does, unless `--turns` says it.
 const CLIENT_TURNS: u32 = 1_000;
 
-/// The commands by their words: `run`, `load`, `daemon`, `status` and `client`.
+/// The commands by their words: `run`, `load`, `daemon`, `status`, `client` and `table`.
 #[derive(Clone, Copy, Debug, PartialEq, Eq)]
 pub enum CommandName {
     Run,
@@ -27,6 +27,20 @@ pub enum CommandName {
     Daemon,
     Status,
     Client,
+    Table,
+}
+
+/// What a daemon is asked for: whether clients on other machines are served, and are told the lines of entries; after how
+/// many silent ticks a key ends, from 10 to 1,000,000; at how many ticks in a row apart its node asks for a view of its
+/// reach, from 10 to 10,000; and how many milliseconds of a pause end it, from 100 to 3,600,000. Lines of entries and
+/// silent keys are only where clients on other machines are served.
+#[derive(Clone, Copy, Debug, PartialEq, Eq)]
+pub struct DaemonOptions {
+    pub remote: bool,
+    pub entries: bool,
+    pub silence: Option<u32>,
+    pub mend: Option<u32>,
+    pub gap: Option<u32>,
 }
 
 /// What a command line asks for.
@@ -41,15 +55,14 @@ pub enum Command {
     Load {
         views: u32,
     },
-    /// `daemon --node N [--inc I] [--turns T | --lasting] [--remote]`: serve node N, from 1 to 32, in the incarnation I,
-    /// from 1 on, or in one that the clock gives, for T turns, from 1 to 4,294,967,295, which is also what is taken where
-    /// T is not told; with `--lasting` for 18,446,744,073,709,551,615. With `--remote` clients on other machines are
-    /// served.
+    /// `daemon --node N [--inc I] [--turns T | --lasting] [--remote [--entries] [--silence S]] [--mend M] [--gap G]`: serve
+    /// node N, from 1 to 32, in the incarnation I, from 1 on, or in one that the clock gives, for T turns, from 1 to
+    /// 4,294,967,295, which is also what is taken where T is not told; with `--lasting` for 18,446,744,073,709,551,615.
     Daemon {
         node: u8,
         incarnation: Option<u32>,
         turns: u64,
-        remote: bool,
+        options: DaemonOptions,
     },
     /// `status WHAT --node N [--turns T]`: ask node N, from 1 to 32, and receive T times at most, from 1 on; 1,000 times
     /// where T is not told.
@@ -64,6 +77,10 @@ pub enum Command {
         node: u8,
         turns: u32,
         key: Option<u32>,
+    },
+    /// `table GROUP`: play a script whose clients each keep a map of their groups, and write the maps of this group.
+    Table {
+        group: Name,
     },
     /// `--help`, alone or after a command: the text about all commands, or about that one.
     Help {
@@ -88,6 +105,8 @@ fn name_of(word: &[u8]) -> Option<CommandName>
         Some(CommandName::Status)
     } else if word == b"client".as_slice() {
         Some(CommandName::Client)
+    } else if word == b"table".as_slice() {
+        Some(CommandName::Table)
     } else {
         None
     }
@@ -121,6 +140,13 @@ fn owned(alloc: Global, text: Option<&str>) -> Result<Option<List<u8>>, NoMemory
     }
 }
 
+/// Is an option of a daemon alone given?
+fn has_own(options: Options<'_>) -> bool
+    ensures { result ≡ has_own (seen options.entry) }
+{
+    options.silence.is_some() || options.mend.is_some() || options.gap.is_some()
+}
+
 /// `run [--kinds LIST]`
 #[tactic(auto, unfolding(crate::specs::Commands::run_of))]
 fn run_of(alloc: Global, options: Options<'_>) -> Result<Option<Command>, NoMemory>
@@ -132,6 +158,7 @@ fn run_of(alloc: Global, options: Options<'_>) -> Result<Option<Command>, NoMemo
         || options.inc.is_some()
         || options.turns.is_some()
         || options.key.is_some()
+        || has_own(options)
     {
         return Ok(None);
     }
@@ -150,6 +177,7 @@ fn load_of(options: Options<'_>) -> Option<Command>
         || options.inc.is_some()
         || options.turns.is_some()
         || options.key.is_some()
+        || has_own(options)
     {
         return None;
     }
@@ -172,7 +200,34 @@ fn turns_for(lasting: bool, told: Option<u32>) -> Option<u64>
     }
 }
 
-/// `daemon --node N [--inc I] [--turns T | --lasting] [--remote]`
+/// What a daemon is asked for, with numbers in their ranges; nothing where lines of entries or silent keys are asked of one
+/// that serves no clients on other machines.
+#[tactic(auto, unfolding(crate::specs::Commands::asked_with))]
+fn asked_with(
+    flags: Flags,
+    silence: Option<u32>,
+    mend: Option<u32>,
+    gap: Option<u32>,
+) -> Option<DaemonOptions>
+    requires silence { IfSome silence (λ n. 10 ≤ n) }
+    requires mend { IfSome mend (λ n. 10 ≤ n) }
+    requires gap { IfSome gap (λ n. 100 ≤ n) }
+    ensures value { result ≡ asked_with flags silence mend gap }
+    ensures within { IfSome result AreWithin }
+{
+    if !flags.remote && (flags.entries || silence.is_some()) {
+        return None;
+    }
+    Some(DaemonOptions {
+        remote: flags.remote,
+        entries: flags.entries,
+        silence,
+        mend,
+        gap,
+    })
+}
+
+/// `daemon --node N [--inc I] [--turns T | --lasting] [--remote [--entries] [--silence S]] [--mend M] [--gap G]`
 #[tactic(auto, unfolding(crate::specs::Commands::daemon_of))]
 fn daemon_of(options: Options<'_>, flags: Flags) -> Option<Command>
     ensures value { result ≡ daemon_of flags (seen options.entry) }
@@ -184,11 +239,15 @@ fn daemon_of(options: Options<'_>, flags: Flags) -> Option<Command>
     let node = node_number(options.node?)?;
     let incarnation = number_if_any(1, u32::MAX, options.inc)?;
     let turns = turns_for(flags.lasting, number_if_any(1, u32::MAX, options.turns)?)?;
+    let silence = number_if_any(10, 1_000_000, options.silence)?;
+    let mend = number_if_any(10, 10_000, options.mend)?;
+    let gap = number_if_any(100, 3_600_000, options.gap)?;
+    let options = asked_with(flags, silence, mend, gap)?;
     Some(Command::Daemon {
         node,
         incarnation,
         turns,
-        remote: flags.remote,
+        options,
     })
 }
 
@@ -198,6 +257,9 @@ fn status_of(options: Options<'_>) -> Option<Command>
     ensures value { result ≡ status_of (seen options.entry) }
     ensures within { IfSome result IsWithin }
 {
+    if has_own(options) {
+        return None;
+    }
     if options.kinds.is_some() || options.inc.is_some() || options.key.is_some() {
         return None;
     }
@@ -213,6 +275,9 @@ fn client_of(options: Options<'_>) -> Option<Command>
     ensures value { result ≡ client_of (seen options.entry) }
     ensures within { IfSome result IsWithin }
 {
+    if has_own(options) {
+        return None;
+    }
     if options.operand.is_some() || options.kinds.is_some() || options.inc.is_some() {
         return None;
     }
@@ -220,6 +285,30 @@ fn client_of(options: Options<'_>) -> Option<Command>
     let turns = number_if_any(1, u32::MAX, options.turns)?.unwrap_or(CLIENT_TURNS);
     let key = number_if_any(1, u32::MAX, options.key)?;
     Some(Command::Client { node, turns, key })
+}
+
+/// `table GROUP`
+#[tactic(auto, unfolding(crate::specs::Commands::table_of))]
+fn table_of(alloc: Global, options: Options<'_>) -> Result<Option<Command>, NoMemory>
+    ensures value { IfOk result (λ command. command ≡ table_of (seen options.entry)) }
+    ensures within { IfOk result (λ command. IfSome command IsWithin) }
+{
+    if options.kinds.is_some()
+        || options.node.is_some()
+        || options.inc.is_some()
+        || options.turns.is_some()
+        || options.key.is_some()
+        || has_own(options)
+    {
+        return Ok(None);
+    }
+    let Some(text) = options.operand else {
+        return Ok(None);
+    };
+    match Name::of(alloc, text.as_bytes())? {
+        None => Ok(None),
+        Some(group) => Ok(Some(Command::Table { group })),
+    }
 }
 
 /// The command of this name with these options.
@@ -238,6 +327,7 @@ fn command_with(
         CommandName::Daemon => Ok(daemon_of(options, Flags::none())),
         CommandName::Status => Ok(status_of(options)),
         CommandName::Client => Ok(client_of(options)),
+        CommandName::Table => table_of(alloc, options),
     }
 }
 

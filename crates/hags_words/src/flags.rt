@@ -1,4 +1,4 @@
-//! The flags among the words after a command: `--remote` and `--lasting`, which have no value.
+//! The flags among the words after a command: `--remote`, `--lasting` and `--entries`, which have no value.
 ghost use Rattle.std.specs.Prelude.{◌≡◌, ◌==◌, IfOk, OnOk, Some, None, map, string_bytes, option_map, if◌then◌else◌};
 ghost use Rattle.std.specs.List.{list_any};
 ghost use Rattle.hags_words.specs.Flags.{no_flags, has_flag, with_flag, flag_named, is_long, waits, kept, after_flag, flag_of};
@@ -13,6 +13,7 @@ use std::alloc::Global;
 pub enum Flag {
     Remote,
     Lasting,
+    Entries,
 }
 
 /// Which flags there are.
@@ -20,6 +21,7 @@ pub enum Flag {
 pub struct Flags {
     pub remote: bool,
     pub lasting: bool,
+    pub entries: bool,
 }
 
 /// Words without the flags: which of these were among them, whether the last of them is an option whose value is the next
@@ -41,6 +43,8 @@ fn flag_named(word: &[u8]) -> Option<Flag>
         Some(Flag::Remote)
     } else if word == b"--lasting".as_slice() {
         Some(Flag::Lasting)
+    } else if word == b"--entries".as_slice() {
+        Some(Flag::Entries)
     } else {
         None
     }
@@ -77,6 +81,7 @@ impl Flags {
         Flags {
             remote: false,
             lasting: false,
+            entries: false,
         }
     }
 
@@ -86,6 +91,7 @@ impl Flags {
         match flag {
             Flag::Remote => self.remote,
             Flag::Lasting => self.lasting,
+            Flag::Entries => self.entries,
         }
     }
 
@@ -99,6 +105,10 @@ impl Flags {
             },
             Flag::Lasting => Flags {
                 lasting: true,
+                ..self
+            },
+            Flag::Entries => Flags {
+                entries: true,
                 ..self
             },
         }

@@ -12,9 +12,11 @@ hags: group membership for clusters, proved
 
 usage: hags run [--kinds LIST]
        hags load N
-       hags daemon --node N [--inc I] [--turns T | --lasting] [--remote]
+       hags daemon --node N [--inc I] [--turns T | --lasting]
+                   [--remote [--entries] [--silence S]] [--mend M] [--gap G]
        hags status WHAT --node N [--turns T]
        hags client --node N [--turns T] [--key K]
+       hags table GROUP
 
 commands:
   run     plays the script on standard input, and writes the transcript of all
@@ -25,6 +27,8 @@ commands:
   status  asks the daemon of node N what it knows, and writes the answer
   client  hands the calls on standard input to the daemon of node N, and writes
           the answers and what their client hears
+  table   plays the script on standard input with clients that each keep a map
+          of their groups, and writes the maps of GROUP at its end
 
 An example: one node, and one client that joins a group.
 
@@ -38,6 +42,7 @@ status:
   3  no memory          7  too much kept
   9  no reply          10  session lost
                        11  daemon full
+                       12  paused
 Where it is not 0, a line on standard error says what was wrong.
 
 `hags COMMAND --help` says more of a command, and `hags --version` which
@@ -123,8 +128,9 @@ pages: docs/command-line.md; README.md
 const DAEMON: &[u8] = b"\
 hags daemon: serves a node of a cluster, over UDP
 
-usage: hags daemon --node N [--inc I] [--turns T | --lasting] [--remote]
-           < SETTINGS
+usage: hags daemon --node N [--inc I] [--turns T | --lasting]
+                   [--remote [--entries] [--silence S]] [--mend M] [--gap G]
+                   < SETTINGS
 
 It reads the settings on standard input to their end: node lines, `port` and so
 on, then the line `begin`, and then what clients of the node do first. All
@@ -142,6 +148,14 @@ happens at the node.
   --lasting    in place of --turns: it does 18,446,744,073,709,551,615 turns, so
                that none uses it up
   --remote     serve clients on other machines too
+  --entries    with --remote: tell them what an entry is, in the line before
+               the first that they hear of it
+  --silence S  with --remote: a client of which nothing came for S ticks of 100
+               milliseconds, from 10 to 1,000,000, is gone, with a goodbye
+  --mend M     a node that was left behind for M ticks in a row, from 10 to
+               10,000, asks for a view of the nodes that it reaches
+  --gap G      it ends where G milliseconds, from 100 to 3,600,000, or more went
+               by between two turns, as where it was stopped, or got no time
 
 An example, a node alone that ends by itself after a second or so:
 
@@ -149,14 +163,15 @@ An example, a node alone that ends by itself after a second or so:
     hags daemon --node 1 --turns 50
 
 status:
-  0  all turns were done
-  1  the words are faulty; nothing was read
-  2  the settings are faulty: `hags: line L: WHY` names their first faulty line;
-     the port was not opened
-  3  no memory
-  4  read fault
-  5  write fault
-  6  the port could not be opened, or 16 receives in a row failed
+   0  all turns were done
+   1  the words are faulty; nothing was read
+   2  the settings are faulty: `hags: line L: WHY` names their first faulty
+      line; the port was not opened
+   3  no memory
+   4  read fault
+   5  write fault
+   6  the port could not be opened, or 16 receives in a row failed
+  12  a pause was too long (--gap)
 
 pages: docs/operating.md; docs/formats.md, the settings; docs/command-line.md
 ";
@@ -234,10 +249,54 @@ status:
    5  write fault
    6  no port could be opened, or 16 receives in a row failed
    9  no reply: a call has no answer after the last turn
-  10  session lost: the daemon was started anew
-  11  daemon full: it keeps no more clients
+  10  session lost: the daemon was started anew, or let the client go
+  11  daemon full: it keeps no more clients, or let it go before an answer
 
 pages: docs/command-line.md; docs/remote-sessions.md
+";
+
+const TABLE: &[u8] = b"\
+hags table: plays a script whose clients keep a map, and writes the maps
+
+usage: hags table GROUP < SCRIPT
+
+It reads the script on standard input to its end and plays it as `hags run`
+does, but each client keeps a map of keys and values for each of its providers,
+whatever votes its `client` line names. A message `KEY=VALUE` to the group puts
+a pair, one without `=` takes its key out, and one that begins with `=` changes
+nothing. A provider that joins by a vote of the members (`phases=n`) is sent
+the map in the messages of their votes, 1,000 bytes in each phase.
+
+It writes a line for each provider of GROUP, in the order of nodes, names of
+clients and providers, with the view and the number of entries of the group's
+list that its client heard:
+
+  table PROVIDER VIEW LEN whole PAIRS    the whole map: KEY=VALUE in the order
+                                         of keys, joined by commas, or -
+  table PROVIDER VIEW LEN part -         not all of the map is known to it
+
+An example:
+
+  printf '%s\\n' 'mode fixed' 'node 1' begin 'client 1 a A' 'client 1 b A' \\
+      'join a db 1 phases=n' flow 'message a db 1 x=1' flow \\
+      'join b db 2 phases=n' flow | hags table db
+
+It writes two lines:
+
+  table 1.1.1.1 1.1.1 5 whole x=1
+  table 1.1.2.3 1.1.1 5 whole x=1
+
+status:
+  0  the lines were written
+  1  the words are faulty; nothing was read
+  2  the script is faulty: `hags: line L: WHY` names its first faulty line;
+     nothing was written
+  3  no memory
+  4  read fault
+  5  write fault
+  7  the packets of the run passed 536,870,912 bytes; nothing was written
+
+pages: docs/library.md, how it is made; docs/formats.md, the lines; README.md
 ";
 
 /// What `--help` says of all commands, or of one, to the byte.
@@ -251,5 +310,6 @@ pub fn help_text(about: Option<CommandName>) -> &'static [u8]
         Some(CommandName::Daemon) => DAEMON,
         Some(CommandName::Status) => STATUS,
         Some(CommandName::Client) => CLIENT,
+        Some(CommandName::Table) => TABLE,
     }
 }

@@ -9,8 +9,8 @@ mod laws;
 mod numbers;
 mod options;
 
-pub use command::{Command, CommandName, read_command};
-pub use examples::{reads_flags, reads_keys};
+pub use command::{Command, CommandName, DaemonOptions, read_command};
+pub use examples::{reads_flags, reads_groups, reads_keys, reads_options_of_a_daemon};
 pub use help::{VERSION, help_text};
 pub use laws::words_give_what_they_say;
 

@@ -21,6 +21,9 @@ pub struct Options<'a> {
     pub inc: Option<&'a str>,
     pub turns: Option<&'a str>,
     pub key: Option<&'a str>,
+    pub silence: Option<&'a str>,
+    pub mend: Option<&'a str>,
+    pub gap: Option<&'a str>,
 }
 
 /// An option of this name, with a value.
@@ -42,6 +45,9 @@ fn options_app<'a>(alloc: Global) -> Result<Command<'a>, AllocError>
     let inc = option_of(alloc, "inc");
     let turns = option_of(alloc, "turns");
     let key = option_of(alloc, "key");
+    let silence = option_of(alloc, "silence");
+    let mend = option_of(alloc, "mend");
+    let gap = option_of(alloc, "gap");
     Command::new(alloc, "hags")
         .no_binary_name(true)
         .disable_help_flag(true)
@@ -50,7 +56,10 @@ fn options_app<'a>(alloc: Global) -> Result<Command<'a>, AllocError>
         .arg(node)?
         .arg(inc)?
         .arg(turns)?
-        .arg(key)
+        .arg(key)?
+        .arg(silence)?
+        .arg(mend)?
+        .arg(gap)
 }
 
 /// Is it a hyphen with more behind it that does not begin with a second one, as `-abc`?
@@ -115,6 +124,9 @@ pub fn read_options<'a>(alloc: Global, words: &'a [String]) -> Result<Option<Opt
             inc: matches.get_str("inc"),
             turns: matches.get_str("turns"),
             key: matches.get_str("key"),
+            silence: matches.get_str("silence"),
+            mend: matches.get_str("mend"),
+            gap: matches.get_str("gap"),
         })),
         Err(e) => match e.kind() {
             ErrorKind::OutOfMemory => Err(NoMemory),

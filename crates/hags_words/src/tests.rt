@@ -27,18 +27,24 @@ fn text_of(alloc: Global, command: &Command) -> Result<String, AllocError> {
             node,
             incarnation,
             turns,
-            remote: false,
-        } => format!(in alloc; "daemon {node} {incarnation:?} {turns}"),
-        Command::Daemon {
-            node,
-            incarnation,
-            turns,
-            remote: true,
-        } => format!(in alloc; "daemon {node} {incarnation:?} {turns} remote"),
+            options,
+        } => {
+            let remote = if options.remote { " remote" } else { "" };
+            let entries = if options.entries { " entries" } else { "" };
+            let own = match (options.silence, options.mend, options.gap) {
+                (None, None, None) => String::from_str(alloc, "")?,
+                (silence, mend, gap) => format!(in alloc; " {silence:?} {mend:?} {gap:?}")?,
+            };
+            format!(in alloc; "daemon {node} {incarnation:?} {turns}{remote}{entries}{own}")
+        }
         Command::Status { what, node, turns } => format!(in alloc;
             "status {what:?} {node} {turns}"
         ),
         Command::Client { node, turns, key } => format!(in alloc; "client {node} {turns} {key:?}"),
+        Command::Table { group } => {
+            let group = str::from_utf8(group.bytes()).unwrap_or("no text");
+            format!(in alloc; "table {group}")
+        }
         Command::Help { about } => format!(in alloc; "help {about:?}"),
         Command::Version => String::from_str(alloc, "version"),
     }
@@ -106,6 +112,22 @@ fn commands_are_read_in_every_form(rt: HostRuntime) -> Result<(), Fail> {
             "daemon --remote --node=2 --lasting",
             "daemon 2 None 18446744073709551615 remote",
         ),
+        (
+            "daemon --node 1 --remote --entries --silence 50 --mend 30 --gap 600 --lasting",
+            "daemon 1 None 18446744073709551615 remote entries Some(50) Some(30) Some(600)",
+        ),
+        (
+            "daemon --gap=3600000 --mend=10000 --node=1 --silence=1000000 --remote",
+            "daemon 1 None 4294967295 remote Some(1000000) Some(10000) Some(3600000)",
+        ),
+        (
+            "daemon --entries --node 1 --remote",
+            "daemon 1 None 4294967295 remote entries",
+        ),
+        (
+            "daemon --mend 10 --node 1 --gap 100",
+            "daemon 1 None 4294967295 None Some(10) Some(100)",
+        ),
         ("status hats --node 1", "status Hats 1 1000"),
         ("status --node=2 hagsns", "status Hagsns 2 1000"),
         ("status --turns 1 --node 3 -- hagsgr", "status Hagsgr 3 1"),
@@ -122,6 +144,9 @@ fn commands_are_read_in_every_form(rt: HostRuntime) -> Result<(), Fail> {
         ),
         ("client --help", "help Some(Client)"),
         ("client --version", "version"),
+        ("table db", "table db"),
+        ("table -- -a.b_9", "table -a.b_9"),
+        ("table --help", "help Some(Table)"),
         ("--help", "help None"),
         ("run --help", "help Some(Run)"),
         ("daemon --help", "help Some(Daemon)"),
@@ -215,6 +240,61 @@ fn faulty_lines_are_usage(rt: HostRuntime) -> Result<(), Fail> {
         "load 1 --key 7",
         "daemon --node 1 --key 7",
         "status hats --node 1 --key 7",
+        "table",
+        "table ",
+        "table a+b",
+        "table g23456789012345678901234567890123",
+        "table db db",
+        "table db --node 1",
+        "table db --kinds=put",
+        "table db --turns 1",
+        "table db --inc 1",
+        "table db --key 7",
+        "table db --silence 50",
+        "table db --mend 30",
+        "table db --gap 600",
+        "table db --remote",
+        "table db --lasting",
+        "table db --entries",
+        "daemon --node 1 --entries",
+        "daemon --node 1 --silence 50",
+        "daemon --node 1 --entries --silence 50",
+        "daemon --entries --node 1 --lasting",
+        "daemon --node 1 --remote --silence 9",
+        "daemon --node 1 --remote --silence 1000001",
+        "daemon --node 1 --remote --silence 50 --silence 50",
+        "daemon --node 1 --remote --entries --entries",
+        "daemon --node 1 --remote --entries=1",
+        "daemon --node 1 --mend 9",
+        "daemon --node 1 --mend 10001",
+        "daemon --node 1 --mend",
+        "daemon --node 1 --mend=",
+        "daemon --node 1 --mend 30 --mend=30",
+        "daemon --node 1 --mend --lasting",
+        "daemon --node 1 --gap 99",
+        "daemon --node 1 --gap 3600001",
+        "daemon --node 1 --gap 0600",
+        "daemon --node 1 --gap 600 --gap 600",
+        "daemon --node 1 --gap",
+        "daemon --node 1 --remote --silence",
+        "daemon --node 1 --remote --entries --lasting --entries",
+        "daemon --node 1 -- --entries",
+        "run --silence 50",
+        "run --mend 30",
+        "run --gap 600",
+        "run --entries",
+        "load 1 --silence 50",
+        "load 1 --mend 30",
+        "load 1 --gap 600",
+        "load 1 --entries",
+        "status hats --node 1 --silence 50",
+        "status hats --node 1 --mend 30",
+        "status hats --node 1 --gap 600",
+        "status hats --node 1 --entries",
+        "client --node 1 --silence 50",
+        "client --node 1 --mend 30",
+        "client --node 1 --gap 600",
+        "client --node 1 --entries",
         "daemon --inc 3",
         "status --node 1",
         "status hats",
@@ -237,6 +317,7 @@ fn help_is_of_each_command(rt: HostRuntime) {
         Some(CommandName::Daemon),
         Some(CommandName::Status),
         Some(CommandName::Client),
+        Some(CommandName::Table),
     ] {
         assert!(rt; help_text(about).starts_with(b"hags".as_slice()));
     }

@@ -15,6 +15,12 @@ const VOTES: &[u8] =
 const VOTES_PUT: &[u8] =
     b"put 1 1.1.1 db 0 once join 1.1.1.1 default=reject limit=3\nput 1 1.1.1 db 1 begin state 1.1.1.1/2 =red\nput 1 1.1.1 db 2 reject 1.1.1/1 1 1.1.1.1=LR\n";
 
+const TABLES: &[u8] =
+    b"mode fixed\nnode 1\nbegin\nclient 1 a A\nclient 1 b A\njoin a db 1 phases=n\nflow\nmessage a db 1 x=1\nflow\njoin b db 2 phases=n\nflow\nmessage b db 1 y=2\nflow\n";
+
+const TABLES_OF_DB: &[u8] =
+    b"table 1.1.1.1 1.1.1 6 whole x=1,y=2\ntable 1.1.2.3 1.1.1 6 whole x=1,y=2\n";
+
 /// What a call with these words wrote on out and said on err, with its status. The puts of out that `fail` names fail.
 fn called(
     alloc: Global,
@@ -77,6 +83,27 @@ fn a_load_writes_its_summary(rt: HostRuntime) -> Result<(), Fail> {
     Ok(())
 }
 
+#[test]
+fn the_maps_of_a_group_are_written(rt: HostRuntime) -> Result<(), Fail> {
+    let alloc = rt.alloc();
+    for (line, text) in [
+        ("table db", TABLES_OF_DB),
+        ("table -- db", TABLES_OF_DB),
+        ("table d", b"".as_slice()),
+    ] {
+        assert!(rt; writes(alloc, line, TABLES, text)?, "{line}");
+    }
+    let (status, out, err) = called(alloc, "table db", TABLES, &[1, 2, 3])?;
+    assert_eq!(rt; status, 5);
+    assert!(rt; out.held().is_empty());
+    assert!(rt; err.held() == b"hags: write fault\n".as_slice());
+    let (status, out, err) = called(alloc, "table db", b"mode fixed\nnod 1\n", &[])?;
+    assert_eq!(rt; status, 2);
+    assert!(rt; out.held().is_empty());
+    assert!(rt; err.held() == b"hags: line 2: unknown word\n".as_slice());
+    Ok(())
+}
+
 /// Whether the call with these words ends with 0 and writes a text that begins like this.
 fn tells(alloc: Global, line: &str, front: &[u8]) -> Result<bool, AllocError> {
     let (status, out, err) = called(alloc, line, b"", &[])?;
@@ -93,6 +120,7 @@ fn help_and_version_are_written(rt: HostRuntime) -> Result<(), Fail> {
         ("daemon --help", b"hags daemon: serves".as_slice()),
         ("status --help", b"hags status: asks".as_slice()),
         ("client --help", b"hags client: uses".as_slice()),
+        ("table --help", b"hags table: plays".as_slice()),
         ("--version", b"hags 0".as_slice()),
         ("run --version", b"hags 0".as_slice()),
         ("load --version", b"hags 0".as_slice()),
@@ -154,6 +182,11 @@ fn other_words_are_told_the_whole_usage(rt: HostRuntime) -> Result<(), Fail> {
         "daemon --node 1 --remote=1",
         "daemon --node 1 --lasting --turns 3",
         "daemon --node 1 --lasting --lasting",
+        "daemon --node 1 --entries",
+        "daemon --node 1 --silence 50",
+        "daemon --node 1 --remote --silence 9",
+        "daemon --node 1 --mend 9",
+        "daemon --node 1 --gap 99",
         "status --node 1",
         "status hat --node 1",
         "status hats",
@@ -168,6 +201,9 @@ fn other_words_are_told_the_whole_usage(rt: HostRuntime) -> Result<(), Fail> {
         "client --node 1 --key 4294967296",
         "audit",
         "table",
+        "table db db",
+        "table d+b",
+        "table db --gap 600",
     ] {
         assert!(rt; is_usage(rt.alloc(), line)?, "{line}");
     }

@@ -1,7 +1,7 @@
 //! The commands `daemon` and `status` over links, clocks, sources and sinks in memory.
-use crate::edges::{clock_at, fails, silent_link, sink, sink_of, source, words_of};
+use crate::edges::{clock_at, clock_of, fails, silent_link, sink, sink_of, source, words_of};
 use hags_cli::{Edges, Output, hags};
-use hags_io::{History, MemLink, MemSink, Parts};
+use hags_io::{History, MemClock, MemLink, MemSink, Parts};
 use std::alloc::{AllocError, Global};
 use std::collections::VecDeque;
 use std::test::Fail;
@@ -22,12 +22,12 @@ fn answering_link(alloc: Global, recvs: &[u32]) -> Result<MemLink, AllocError> {
     Ok(MemLink::new(alloc, inbox, fails))
 }
 
-/// What a call with these words and these settings wrote on out and said on err, with its status.
-pub fn called(
+/// What a call with these words and these settings wrote on out and said on err, with its status, by this clock.
+fn called_by(
     alloc: Global,
     line: &str,
     settings: &[u8],
-    moment: u64,
+    clock: MemClock,
     link: MemLink,
 ) -> Result<(u8, MemSink, MemSink), AllocError> {
     let words = words_of(alloc, line)?;
@@ -37,7 +37,7 @@ pub fn called(
             outside: Parts {
                 out: sink(alloc, &[])?,
                 link,
-                clock: clock_at(alloc, moment)?,
+                clock,
                 history: History::new(),
             },
         },
@@ -51,6 +51,17 @@ pub fn called(
         Vec::new(alloc),
     );
     Ok((status, sink_of(edges), err))
+}
+
+/// The same, by a clock that stands at this moment.
+pub fn called(
+    alloc: Global,
+    line: &str,
+    settings: &[u8],
+    moment: u64,
+    link: MemLink,
+) -> Result<(u8, MemSink, MemSink), AllocError> {
+    called_by(alloc, line, settings, clock_at(alloc, moment)?, link)
 }
 
 /// Whether such a call of node 1, alone, ends with this status and writes this.
@@ -84,6 +95,33 @@ fn a_daemon_alone_is_in_its_first_view(rt: HostRuntime) -> Result<(), Fail> {
     let remote = "daemon --node 1 --inc 5 --remote --turns 2";
     let link = silent_link(alloc, &[], &[])?;
     assert!(rt; ends(alloc, remote, 0, link, 0, ALONE_RECORDS)?);
+    Ok(())
+}
+
+#[test]
+fn a_pause_ends_a_daemon_that_was_told_a_gap(rt: HostRuntime) -> Result<(), Fail> {
+    let alloc = rt.alloc();
+    for (line, status, said) in [
+        (
+            "daemon --node 1 --inc 5 --turns 2 --gap 700",
+            12,
+            b"hags: paused\n".as_slice(),
+        ),
+        (
+            "daemon --node 1 --inc 5 --turns 2 --gap 701 --remote --entries --silence 10 --mend 10",
+            0,
+            b"".as_slice(),
+        ),
+        ("daemon --node 1 --inc 5 --turns 2", 0, b"".as_slice()),
+    ] {
+        let clock = clock_of(alloc, &[0, 100, 800])?;
+        let link = silent_link(alloc, &[], &[])?;
+        let (ended, out, err) = called_by(alloc, line, ALONE, clock, link)?;
+        assert!(rt;
+            ended == status && out.held() == ALONE_RECORDS && err.held() == said,
+            "{line}"
+        );
+    }
     Ok(())
 }
 

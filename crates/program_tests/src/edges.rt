@@ -1,5 +1,6 @@
 //! Edges in memory, for calls of the program.
-ghost use Rattle.std.specs.Prelude.{◌≡◌};
+ghost use Rattle.std.specs.Prelude.{◌≡◌, ◌<◌, length};
+ghost use Rattle.hags_io.specs.LinkMemory.{Ascend};
 
 use hags_cli::{Edges, Output};
 use hags_io::{History, LinkFails, MemClock, MemLink, MemSink, MemSource, Parts};
@@ -43,6 +44,14 @@ pub fn fails(alloc: Global, opens: &[u32], recvs: &[u32]) -> Result<LinkFails, A
 pub fn silent_link(alloc: Global, opens: &[u32], recvs: &[u32]) -> Result<MemLink, AllocError> {
     let fails = fails(alloc, opens, recvs)?;
     Ok(MemLink::new(alloc, VecDeque::new(alloc), fails))
+}
+
+/// A clock that gives these moments, and the last of them from then on.
+pub fn clock_of(alloc: Global, moments: &[u64]) -> Result<MemClock, AllocError>
+    requires some { 0 < length moments.now }
+    requires ascend { Ascend moments.now }
+{
+    Ok(MemClock::new(Vec::from_slice(alloc, moments)?))
 }
 
 /// A clock that always gives this moment.

@@ -15,6 +15,7 @@ returns-in_err-outcome g c =
     c.from_residual-in_err-outcome.result c.in_err-outcome.field-0.0 c.from_residual-in_err-outcome.ensures (IfErr-at_err StopsDaemon c.in_err-outcome.was c.serve-outcome.ensures.stops)
     (λ e. c.serve-outcome.ensures.memory (c.in_err-outcome.was ∙ ap Err e))
     (λ e. c.serve-outcome.ensures.written (c.in_err-outcome.was ∙ ap Err e))
+    (λ e. c.serve-outcome.ensures.paused (c.in_err-outcome.was ∙ ap Err e))
     (λ e. c.serve-outcome.ensures.link (c.in_err-outcome.was ∙ ap Err e))
     (λ e. c.serve-outcome.ensures.write_fault (c.in_err-outcome.was ∙ ap Err e))
     (λ e. c.serve-outcome.ensures.link_fault (c.in_err-outcome.was ∙ ap Err e))

@@ -23,4 +23,10 @@ returns c =
     c.in_ok-arg-4.ensures.shape c.option_of-inc.ensures.own ∙ ap₂ with_rule a3 c.option_of-inc.ensures.rule in
     let a5 : app_of c.in_ok-arg-5.field-0 ≡ with_rule (with_rule (with_rule (with_rule (with_rule (bare_app (codes "hags")) (new_rule (codes "operand"))) (option_rule (codes "kinds"))) (option_rule (codes "node"))) (option_rule (codes "inc"))) (option_rule (codes "turns")) =
     c.in_ok-arg-5.ensures.shape c.option_of-turns.ensures.own ∙ ap₂ with_rule a4 c.option_of-turns.ensures.rule in
-    IfOk-weaker c.arg-6.result _ _ (λ r h. h.shape c.option_of-key.ensures.own ∙ ap₂ with_rule a5 c.option_of-key.ensures.rule) c.arg-6.ensures
+    let a6 : app_of c.in_ok-arg-6.field-0 ≡ with_rule (with_rule (with_rule (with_rule (with_rule (with_rule (bare_app (codes "hags")) (new_rule (codes "operand"))) (option_rule (codes "kinds"))) (option_rule (codes "node"))) (option_rule (codes "inc"))) (option_rule (codes "turns"))) (option_rule (codes "key")) =
+    c.in_ok-arg-6.ensures.shape c.option_of-key.ensures.own ∙ ap₂ with_rule a5 c.option_of-key.ensures.rule in
+    let a7 : app_of c.in_ok-arg-7.field-0 ≡ with_rule (with_rule (with_rule (with_rule (with_rule (with_rule (with_rule (bare_app (codes "hags")) (new_rule (codes "operand"))) (option_rule (codes "kinds"))) (option_rule (codes "node"))) (option_rule (codes "inc"))) (option_rule (codes "turns"))) (option_rule (codes "key"))) (option_rule (codes "silence")) =
+    c.in_ok-arg-7.ensures.shape c.option_of-silence.ensures.own ∙ ap₂ with_rule a6 c.option_of-silence.ensures.rule in
+    let a8 : app_of c.in_ok-arg-8.field-0 ≡ with_rule (with_rule (with_rule (with_rule (with_rule (with_rule (with_rule (with_rule (bare_app (codes "hags")) (new_rule (codes "operand"))) (option_rule (codes "kinds"))) (option_rule (codes "node"))) (option_rule (codes "inc"))) (option_rule (codes "turns"))) (option_rule (codes "key"))) (option_rule (codes "silence"))) (option_rule (codes "mend")) =
+    c.in_ok-arg-8.ensures.shape c.option_of-mend.ensures.own ∙ ap₂ with_rule a7 c.option_of-mend.ensures.rule in
+    IfOk-weaker c.arg-9.result _ _ (λ r h. h.shape c.option_of-gap.ensures.own ∙ ap₂ with_rule a8 c.option_of-gap.ensures.rule) c.arg-9.ensures

@@ -10,7 +10,7 @@ returns-then-has_short c = no_texts_of_short (map string_bytes c.args.words.now)
 pub returns-in-Ok : goal.returns-in-Ok
 returns-in-Ok c =
     texts_of_ok (map string_bytes c.args.words.now) _ (found_of c.in-Ok.matches) c.in-Ok.ensures.ok c.in-Ok.ensures.values
-    (record { operand = c.get_str.ensures; kinds = c.get_str-in-Ok.ensures; node = c.get_str-in-Ok-2.ensures; inc = c.get_str-in-Ok-3.ensures; turns = c.get_str-in-Ok-4.ensures; key = c.get_str-in-Ok-5.ensures })
+    (record { operand = c.get_str.ensures; kinds = c.get_str-in-Ok.ensures; node = c.get_str-in-Ok-2.ensures; inc = c.get_str-in-Ok-3.ensures; turns = c.get_str-in-Ok-4.ensures; key = c.get_str-in-Ok-5.ensures; silence = c.get_str-in-Ok-6.ensures; mend = c.get_str-in-Ok-7.ensures; gap = c.get_str-in-Ok-8.ensures })
 
 pub returns : goal.returns
 returns c = no_texts (map string_bytes c.args.words.now) (c.in-Err.ensures.err (λ e. c.in_default.not-OutOfMemory (c.kind.ensures ∙ e)))
