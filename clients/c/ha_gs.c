@@ -306,11 +306,12 @@ static bool is_voter(const provider *it) {
     return running->kind == HAGS_JOIN || !is_among(&running->changing, provider_of(it->id));
 }
 
-static void give_phase(provider *it, const hags_heard *heard) {
+/* A phase begins; the summary is that of the phase before it, if there was one. */
+static void give_phase(provider *it, const hags_heard *heard, const hags_put *put) {
     proposal_parts parts;
     make_proposal(&parts, it, heard, false);
     ha_gs_n_phase_notification_t notification = {
-        HA_GS_N_PHASE_NOTIFICATION, it->token, request_of(&it->running), HA_GS_NO_SUMMARY, it->limit, &parts.proposal};
+        HA_GS_N_PHASE_NOTIFICATION, it->token, request_of(&it->running), summary_of(put), it->limit, &parts.proposal};
     if (is_voter(it)) it->callbacks.gs_n_phase_protocol_callback(&notification);
 }
 
@@ -371,12 +372,12 @@ static void give_heard(const hags_heard *heard) {
             break;
         case HAGS_BEGIN:
             begin(&it->running, heard, put);
-            give_phase(it, heard);
+            give_phase(it, heard, NULL);
             break;
         case HAGS_PHASE:
             it->running.phase++;
             if (put && put->value.bytes) keep_text(&it->running.value, put->value);
-            give_phase(it, heard);
+            give_phase(it, heard, put);
             break;
         case HAGS_APPROVE:
         case HAGS_REJECT: give_end(it, heard, put, heard->step == HAGS_APPROVE); break;

@@ -36,7 +36,7 @@ enum {
     OTHER_NETWORK_AFTER = 8,   /* Ups without an answer */
     SHORTEST = 1000,           /* microseconds from one Up to the next, while something happens */
     LONGEST = 20000,           /* and while nothing does, unless hags_idle says otherwise */
-    MOST_IDLE = 10000,         /* milliseconds */
+    MOST_IDLE = 1000,          /* milliseconds: daemons may end a session that was silent for as little as that */
     RECEIVE_BUFFER = 1 << 20,  /* bytes */
     PATIENCE = 10000,          /* milliseconds */
     TAKEN = 1, FULL = 3        /* answers of a Down */
@@ -77,7 +77,7 @@ struct hags {
     bool is_active, is_open, is_closing;
     hags_result end; /* HAGS_LOST or HAGS_FULL where it ended so */
     uint32_t key, incarnation, number, heard;
-    bool has_incarnation, is_settled;
+    bool has_incarnation, is_settled, was_ended;
     hags_result answer;
     char line[HAGS_MOST_LINE + 1];
     size_t length; /* of the line; 0 once it has its answer */
@@ -278,16 +278,20 @@ static bool read_noted(words *line, hags_provider *room, hags_noted *it) {
            value_of(next_word(line), &it->value) && !line->at;
 }
 
-/* Words as `limit=20`, up to the line's end. What a later daemon may write besides is passed over. */
-static bool read_attributes(words *line, hags_attributes *it) {
+/* Words as `limit=20`, up to the line's end, and the length of the source's list. What a later daemon may write besides is
+ * passed over. */
+static bool read_attributes(words *line, hags_put *put) {
+    hags_attributes *it = &put->attributes;
     static const char *const batches[] = {"none", "joins", "failures", "both"};
     for (char *name; (name = next_word(line));) {
         char *value = strchr(name, '=');
         if (!value) return false;
         *value++ = 0;
         uint32_t number = 0;
+        bool is_length = !strcmp(name, "src");
         bool is_limit = !strcmp(name, "limit") || !strcmp(name, "slimit");
-        if (is_limit && !number_of(value, UINT32_MAX, &number)) return false;
+        if ((is_limit || is_length) && !number_of(value, UINT32_MAX, &number)) return false;
+        if (is_length) put->has_source_length = true, put->source_length = number;
         if (!strcmp(name, "phases")) it->by_vote = !strcmp(value, "n");
         if (!strcmp(name, "sphases")) it->source_by_vote = !strcmp(value, "n");
         if (!strcmp(name, "default")) it->rejects = !strcmp(value, "reject");
@@ -308,7 +312,7 @@ static bool asker_of(char *word, hags_put *it) {
 static bool read_proposal(words *line, hags_provider *room, hags_put *it) {
     if (!kind_of(next_word(line), &it->kind)) return false;
     switch (it->kind) {
-        case HAGS_JOIN: return members_of(next_word(line), false, room, &it->providers) && read_attributes(line, &it->attributes);
+        case HAGS_JOIN: return members_of(next_word(line), false, room, &it->providers) && read_attributes(line, it);
         case HAGS_LEAVE: return asker_of(next_word(line), it) && !line->at;
         case HAGS_FAIL:
             it->detail = line->at;
@@ -317,7 +321,7 @@ static bool read_proposal(words *line, hags_provider *room, hags_put *it) {
             return asker_of(next_word(line), it) && members_of(next_word(line), false, room, &it->providers) && !line->at;
         case HAGS_STATE:
         case HAGS_MESSAGE: return asker_of(next_word(line), it) && value_of(next_word(line), &it->value) && !line->at;
-        case HAGS_ATTRIBUTES: return asker_of(next_word(line), it) && read_attributes(line, &it->attributes);
+        case HAGS_ATTRIBUTES: return asker_of(next_word(line), it) && read_attributes(line, it);
         case HAGS_REFLECT:
             return protocol_of(next_word(line), &it->protocol) && value_of(next_word(line), &it->value) && !line->at;
         case HAGS_NO_KIND: break;
@@ -394,6 +398,14 @@ hags_event *hags_event_of(const char *line, size_t length) {
     event->length = length;
     if (memchr(line, 0, length) || !read_event(event, (words){cut}, room)) event->what = HAGS_OTHER;
     return event;
+}
+
+hags_bytes hags_mark(const hags_put *put, size_t at) {
+    const char *mark = put->detail && at < put->providers.count ? put->detail : "";
+    for (size_t before = 0; before < at; before++) mark += strcspn(mark, ","), mark += *mark == ',';
+    mark += strcspn(mark, ":=");
+    mark += *mark != 0;
+    return (hags_bytes){strspn(mark, LETTERS), mark};
 }
 
 hags_bytes hags_string(const char *text) {
@@ -612,7 +624,8 @@ static hags_result take_down(hags *client, const uint8_t *bytes, size_t length) 
     hags_result result = HAGS_OK;
     client->last = now();
     client->unanswered = 0;
-    if (client->has_incarnation && incarnation != client->incarnation) {
+    client->was_ended = answer == FULL && !incarnation;
+    if (client->was_ended || (client->has_incarnation && incarnation != client->incarnation)) {
         end_session(client, HAGS_LOST);
         return HAGS_LOST;
     }
@@ -790,7 +803,7 @@ hags_result hags_open(hags *client, const char *name) {
     memcpy(client->name, name, length + 1);
     client->key = key;
     client->number = client->heard = client->incarnation = 0;
-    client->has_incarnation = client->is_closing = false;
+    client->has_incarnation = client->is_closing = client->was_ended = false;
     client->end = HAGS_OK;
     client->is_active = true;
     client->unanswered = 0;
@@ -1004,7 +1017,7 @@ const char *hags_text(hags_result result) {
         "no answer came in time; see that the daemon runs with --remote at the address and port of the settings",
         "the call before it has no answer yet",
         "no such call can be made, or no session is open",
-        "the daemon was started anew, or let the session go; begin another one",
+        "the daemon was started anew, or has ended the session after a silence; begin another one, and join again",
         "the daemon takes no more clients; use another node",
         "memory has run out",
         "the system failed",
@@ -1023,4 +1036,5 @@ hags_provider hags_asker(const hags *client) { return client->asker; }
 uint32_t hags_request(const hags *client) { return client->request; }
 int hags_fd(const hags *client) { return client->poll; }
 long hags_silence(const hags *client) { return (long)((now() - client->last) / 1000); }
+bool hags_was_ended(const hags *client) { return client->was_ended; }
 uint32_t hags_incarnation(const hags *client) { return client->incarnation; }

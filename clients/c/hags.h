@@ -11,8 +11,10 @@
  *     hags_delete(client);
  *
  * The daemon runs with `--remote`. It answers, and never begins: so a client has to come again and again, by hags_wait,
- * by a call, or by hags_dispatch whenever hags_fd is readable. A client is kept until it says goodbye or its daemon ends:
- * one that is killed stays a member, which never votes.
+ * by a call, or by hags_dispatch whenever hags_fd is readable. A daemon with `--silence` ends the session of a client of
+ * which nothing came for so many tenths of a second, 50 as daemons are shipped: it leaves its groups, and its name is
+ * free. So a program that works for longer than that between two turns lets a thread of its own dispatch. A daemon without
+ * `--silence` keeps a client until it says goodbye: one that is killed stays a member, which never votes.
  *
  * A `hags` is used by one thread at a time; several of them by several threads. Nothing here is global. */
 #ifndef HAGS_H
@@ -40,8 +42,8 @@ typedef enum {
     HAGS_LATE,      /* no answer came in time: the call is under way, and the next one waits for its answer first */
     HAGS_BUSY,      /* the call before it has no answer yet, and this one was not made */
     HAGS_BAD,       /* no daemon would take such a call, or no session is open: nothing was sent */
-    HAGS_LOST,      /* the daemon was started anew, or let the session go: hags_open begins another one */
-    HAGS_FULL,      /* the daemon takes no more clients */
+    HAGS_LOST,      /* the daemon was started anew, or hags_was_ended: hags_open begins another one, which joins anew */
+    HAGS_FULL,      /* the daemon keeps 1,024 clients, and takes no more */
     HAGS_NO_MEMORY, /* memory has run out: nothing that comes is lost, and a call that was made is under way */
     HAGS_FAULT      /* the system failed: errno says how */
 } hags_result;
@@ -173,8 +175,8 @@ typedef struct {
     unsigned source_limit;
 } hags_attributes;
 
-/* The entry itself, as `once state 1.5.7.2/3 =red`, in the line before it is heard first. Daemons that tell clients of
- * entries write it; others do not. What its step and kind have not is zero. */
+/* The entry itself, as `once state 1.5.7.2/3 =red`, directly before it is heard first. Daemons that run with `--entries`
+ * tell it; others do not. So who votes has seen what is proposed. What its step and kind have not is zero. */
 typedef struct {
     unsigned node;
     hags_view view;
@@ -186,12 +188,19 @@ typedef struct {
     hags_provider asker;        /* of a leave, expel, state, message, attributes */
     uint32_t request;           /* and its number */
     hags_members providers;     /* who joins, failed, is expelled, is late, or voted */
-    const char *detail;         /* those who failed, as `1.5.7.2:died,..`; votes, as `1.5.7.2=A,..`; else NULL */
+    const char *detail;         /* those who failed, as `1.5.7.2:died,..`; votes, as `1.5.7.2=A,..`: see hags_mark */
     hags_bytes value;           /* of a state, message or reflection; the value that a phase or approval brings, if any */
     hags_attributes attributes; /* of a join or a change of attributes */
+    bool has_source_length;     /* of a join into a group with a source: */
+    uint32_t source_length;     /* how long the source's list was */
     hags_protocol protocol;     /* which a phase, approval, rejection or late voters are of; of a reflection the source's place */
     unsigned phase;             /* that closed, or in which they are late */
 } hags_put;
+
+/* What an entry says of the provider at a place of `providers`: why it failed, `died`, `gone` (its client is) or `cast` (out);
+ * or what counted for it, its vote `A`, `C` or `R`, or the default, `LA` or `LR` where it was late, `FA` or `FR` where it had
+ * failed. Of other entries, and beyond the last provider, no bytes. No 0 stands behind them. */
+hags_bytes hags_mark(const hags_put *put, size_t at);
 
 /* HAGS_OTHER is a line that this client cannot take apart, as a later daemon may write one. */
 typedef enum { HAGS_ASKED, HAGS_HEARD, HAGS_CAST, HAGS_TOLD, HAGS_NOTED, HAGS_PUT, HAGS_OTHER } hags_what;
@@ -235,7 +244,8 @@ bool hags_is_open(const hags *client);
 void hags_patience(hags *client, int milliseconds);
 
 /* How long at most the client waits before it asks the daemon for news, while nothing happens, in milliseconds from 1 to
- * 10,000; 20 at first, which is 50 datagrams a second. An event may be so late. */
+ * 1,000; 20 at first, which is 50 datagrams a second. An event may be so late. A client that is dispatched whenever hags_fd
+ * is readable never waits for longer, so no `--silence` ends it while its datagrams arrive. */
 void hags_idle(hags *client, int milliseconds);
 
 /* The calls. Each waits for the daemon's answer. A group's leader may refuse later what the daemon took: then HAGS_TOLD is
@@ -282,6 +292,10 @@ hags_result hags_wait(hags *client, int milliseconds);
 
 /* For how many milliseconds the daemon has not been heard. One that lives answers many times a second. */
 long hags_silence(const hags *client);
+
+/* Whether HAGS_LOST came since the daemon has ended the session, as nothing came from this client for too long. What it held
+ * others may hold by now. */
+bool hags_was_ended(const hags *client);
 
 /* The incarnation of the daemon in this session; 0 before its first answer. */
 uint32_t hags_incarnation(const hags *client);

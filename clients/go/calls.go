@@ -127,8 +127,8 @@ func (c *Client) State(ctx context.Context, group string, byVote bool, value []b
 	return c.callGroup(ctx, "state", group, " "+phases(byVote)+" "+textOf(value))
 }
 
-// Message sends a message of up to 1,024 bytes, which may be spelled in no more than some 1,050. Members of daemons that
-// do not tell of entries hear that there was one, and not its text.
+// Message sends a message of up to 1,024 bytes, which may be spelled in no more than some 1,050. Its text is in the Put of
+// members whose daemon runs with `--entries`; others hear that there was one.
 func (c *Client) Message(ctx context.Context, group string, byVote bool, text []byte) (Asked, error) {
 	return c.callGroup(ctx, "message", group, " "+phases(byVote)+" "+textOf(text))
 }
@@ -138,7 +138,8 @@ func (c *Client) Change(ctx context.Context, group string, byVote bool, attribut
 	return c.callGroup(ctx, "attrs", group, " "+phases(byVote)+attributes.words())
 }
 
-// Vote votes, once a phase was heard to begin. A value that is not nil is proposed in place of the one that was.
+// Vote votes, once a phase was heard to begin. A value that is not nil is proposed in place of the one that was. What is
+// voted on is in the Put before the Heard that began it.
 func (c *Client) Vote(ctx context.Context, group string, vote Vote, value []byte) error {
 	word := " " + string(vote)
 	if value != nil {

@@ -175,14 +175,61 @@ type Noted struct {
 	Value   Value
 }
 
-// Put is an entry itself, before it is heard first: its text, as `once state 1.5.7.2/3 =red`. Daemons that tell clients of
-// entries write it; others do not.
+// Cause is why a member has failed.
+type Cause string
+
+const (
+	Died    Cause = "died" // its node
+	Gone    Cause = "gone" // its client
+	CastOut Cause = "cast" // with its node, which has no member of the source group any more
+)
+
+// Proposal is what an entry proposes, or does at once. A part that its kind has not is zero.
+type Proposal struct {
+	Kind         Kind
+	Asker        Provider   // who asked: of Leaving, Expelling, Setting, Messaging and Changing
+	Request      uint32     // the number of that call, which Asked has too
+	Members      Members    // who joins, has failed or is to be expelled
+	Causes       []Cause    // of Failing, why each of them
+	Value        Value      // of Setting the value, of Messaging the text, of Reflecting the value of the source group
+	Attributes   Attributes // of Joining those that the joiners give, of Changing the new ones
+	Source       Protocol   // of Reflecting, the view and the place of the source group's entry
+	SourceLength *uint32    // of Joining a group with a source, how long the source's list was
+}
+
+// RowVote is what counted for a member as a phase closed: its vote, or the default where it was late or had failed.
+type RowVote string
+
+const (
+	Approved       RowVote = "A"
+	Continued      RowVote = "C"
+	Rejected       RowVote = "R"
+	LateApproved   RowVote = "LA"
+	LateRejected   RowVote = "LR"
+	FailedApproved RowVote = "FA"
+	FailedRejected RowVote = "FR"
+)
+
+// Row is what counted for a member as a phase closed.
+type Row struct {
+	Provider Provider
+	Vote     RowVote
+}
+
+// Put is an entry itself, directly before the Heard of its view and place, once. Daemons that run with `--entries` tell
+// of entries; others do not.
 type Put struct {
-	Node  int
-	View  View
-	Group string
-	Place uint32
-	Entry string
+	Node     int // the client's own
+	View     View
+	Group    string
+	Place    uint32
+	Step     Step
+	Proposal *Proposal // at Once and Begin
+	Protocol Protocol  // at the other steps: the vote
+	Phase    int       // which closed, or in which they are late
+	Rows     []Row     // at Phase, Approve and Reject: the votes of that phase
+	Late     Members   // at LateVoters
+	Value    Value     // at Phase and Approve: the value that a vote has brought, if any
 }
 
 // Other is a line that this client cannot take apart, as a later daemon may write one.
@@ -225,7 +272,51 @@ func (e Noted) String() string {
 }
 
 func (e Put) String() string {
-	return fmt.Sprintf("put %d %v %s %d %s", e.Node, e.View, e.Group, e.Place, e.Entry)
+	where := fmt.Sprintf("put %d %v %s %d %s", e.Node, e.View, e.Group, e.Place, e.Step)
+	if e.Proposal != nil {
+		return fmt.Sprintf("%s %v", where, e.Proposal)
+	}
+	where = fmt.Sprintf("%s %v %d", where, e.Protocol, e.Phase)
+	if e.Step == LateVoters {
+		return fmt.Sprintf("%s %v", where, e.Late)
+	}
+	rows := make([]string, len(e.Rows))
+	for at, row := range e.Rows {
+		rows[at] = fmt.Sprintf("%v=%s", row.Provider, row.Vote)
+	}
+	where += " " + orDash(strings.Join(rows, ","))
+	if e.Step == Reject {
+		return where
+	}
+	return where + " " + orDash(e.Value.String())
+}
+
+// String is the proposal as transcripts have it.
+func (p *Proposal) String() string {
+	asked := fmt.Sprintf("%s %v/%d", p.Kind, p.Asker, p.Request)
+	switch p.Kind {
+	case Joining:
+		length := ""
+		if p.SourceLength != nil {
+			length = fmt.Sprintf(" src=%d", *p.SourceLength)
+		}
+		return fmt.Sprintf("join %v%s%s", p.Members, p.Attributes.words(), length)
+	case Failing:
+		words := make([]string, len(p.Members))
+		for at, member := range p.Members {
+			words[at] = fmt.Sprintf("%v:%s", member, p.Causes[at])
+		}
+		return "fail " + strings.Join(words, ",")
+	case Expelling:
+		return fmt.Sprintf("%s %v", asked, p.Members)
+	case Setting, Messaging:
+		return fmt.Sprintf("%s %v", asked, p.Value)
+	case Changing:
+		return asked + p.Attributes.words()
+	case Reflecting:
+		return fmt.Sprintf("reflect %v %v", p.Source, p.Value)
+	}
+	return asked
 }
 
 func (e Other) String() string { return string(e) }
@@ -247,7 +338,7 @@ func EventOf(line string) Event {
 	case "noted":
 		event = r.noted()
 	case "put":
-		event = Put{int(r.numberTo(mostNodes)), r.view(), r.word(), r.number(), r.restOfSome()}
+		event = r.put()
 	default:
 		return Other(line)
 	}
@@ -277,12 +368,6 @@ func (r *reader) word() string {
 func (r *reader) rest() string {
 	rest := strings.Join(r.words, " ")
 	r.words = nil
-	return rest
-}
-
-func (r *reader) restOfSome() string {
-	rest := r.rest()
-	r.isFaulty = r.isFaulty || rest == ""
 	return rest
 }
 
@@ -330,6 +415,115 @@ func (r *reader) view() View { return r.viewOf(r.word()) }
 func (r *reader) protocol() Protocol {
 	view, place, _ := strings.Cut(r.word(), "/")
 	return Protocol{r.viewOf(view), uint32(r.numberOf(place, math.MaxUint32))}
+}
+
+func (r *reader) put() Event {
+	put := Put{Node: int(r.numberTo(mostNodes)), View: r.view(), Group: r.word(), Place: r.number(), Step: Step(r.word())}
+	if put.Step == Once || put.Step == Begin {
+		put.Proposal = r.proposal()
+		return put
+	}
+	put.Protocol, put.Phase = r.protocol(), int(r.numberTo(math.MaxUint16))
+	switch put.Step {
+	case LateVoters:
+		put.Late = r.members(false)
+	case Phase, Approve, Reject:
+		put.Rows = r.rows()
+		if put.Step != Reject {
+			put.Value = r.valueOrDash()
+		}
+	default:
+		r.isFaulty = true
+	}
+	return put
+}
+
+func (r *reader) proposal() *Proposal {
+	p := &Proposal{Kind: r.kind()}
+	switch p.Kind {
+	case Joining:
+		p.Members = r.members(false)
+		if last := len(r.words) - 1; last >= 0 && strings.HasPrefix(r.words[last], "src=") {
+			length := uint32(r.numberOf(r.words[last][len("src="):], math.MaxUint32))
+			p.SourceLength, r.words = &length, r.words[:last]
+		}
+		p.Attributes = r.attributes()
+		return p
+	case Failing:
+		for _, pair := range strings.Split(r.word(), ",") {
+			member, cause, _ := strings.Cut(pair, ":")
+			r.isFaulty = r.isFaulty || cause != string(Died) && cause != string(Gone) && cause != string(CastOut)
+			p.Members, p.Causes = append(p.Members, r.providerOf(member, false)), append(p.Causes, Cause(cause))
+		}
+		return p
+	case Reflecting:
+		p.Source, p.Value = r.protocol(), r.valueOf(r.word())
+		return p
+	}
+	asker, number, _ := strings.Cut(r.word(), "/")
+	p.Asker, p.Request = r.providerOf(asker, false), uint32(r.numberOf(number, math.MaxUint32))
+	switch p.Kind {
+	case Expelling:
+		p.Members = r.members(false)
+	case Setting, Messaging:
+		p.Value = r.valueOf(r.word())
+	case Changing:
+		p.Attributes = r.attributes()
+	}
+	return p
+}
+
+// attributes takes all words that are left, which are those of attributes in their order, each at most once.
+func (r *reader) attributes() Attributes {
+	var a Attributes
+	words := r.rest()
+	for _, word := range strings.Fields(words) {
+		name, value, _ := strings.Cut(word, "=")
+		switch name {
+		case "phases":
+			a.ByVote = value == "n"
+		case "batch":
+			a.Batch = Batch(value)
+			r.isFaulty = r.isFaulty || a.Batch != BatchJoins && a.Batch != BatchFailures && a.Batch != BatchBoth
+		case "default":
+			a.Rejects = value == "reject"
+		case "limit":
+			a.Limit = int(r.numberOf(value, math.MaxUint16))
+		case "source":
+			a.Source = value
+		case "sphases":
+			a.SourceByVote = value == "n"
+		case "slimit":
+			a.SourceLimit = int(r.numberOf(value, math.MaxUint16))
+		}
+	}
+	r.isFaulty = r.isFaulty || strings.TrimPrefix(a.words(), " ") != words
+	return a
+}
+
+func (r *reader) rows() []Row {
+	word := r.word()
+	if word == "-" {
+		return nil
+	}
+	var rows []Row
+	for _, pair := range strings.Split(word, ",") {
+		member, vote, _ := strings.Cut(pair, "=")
+		switch RowVote(vote) {
+		case Approved, Continued, Rejected, LateApproved, LateRejected, FailedApproved, FailedRejected:
+		default:
+			r.isFaulty = true
+		}
+		rows = append(rows, Row{r.providerOf(member, false), RowVote(vote)})
+	}
+	return rows
+}
+
+func (r *reader) valueOrDash() Value {
+	if word := r.word(); word != "-" {
+		return r.valueOf(word)
+	}
+	return nil
 }
 
 func (r *reader) kindOf(word string) Kind {

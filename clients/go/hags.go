@@ -15,8 +15,12 @@
 //	return client.Err()
 //
 // The daemon runs with `--remote`, and settings are the text that it reads. A call returns once the daemon has taken it,
-// or with an error. The group's leader may refuse it later: Told comes, with the number of its request. A client is kept
-// until Close, or until its daemon ends: one that is killed stays a member, which never votes.
+// or with an error. The group's leader may refuse it later: Told comes, with the number of its request. Where the daemon
+// runs with `--entries`, Put is each entry of a group's list itself, before it is heard: what is proposed and by whom, a
+// message's text, votes and causes.
+//
+// A client is kept until Close, or until nothing came of it for as long as the daemon's `--silence` says: then its
+// memberships end. A daemon without `--silence` keeps one that is killed as a member, which never votes.
 //
 // One goroutine serves a client. Its methods may be called by many at once.
 package hags
@@ -36,23 +40,34 @@ import (
 const (
 	shortest          = time.Millisecond      // from one Up to the next, while something happens
 	longest           = 20 * time.Millisecond // and while nothing does, unless SetIdle says otherwise
-	mostIdle          = 10 * time.Second
-	goodbye           = time.Second // how long Close waits for the daemon
-	room              = 1024        // events in the channel
-	otherNetworkAfter = 8           // Ups without an answer
-	receiveBuffer     = 1 << 20     // bytes
+	mostIdle          = time.Second           // daemons may end a session that was silent for as little as that
+	goodbye           = time.Second           // how long Close waits for the daemon
+	room              = 1024                  // events in the channel
+	otherNetworkAfter = 8                     // Ups without an answer
+	receiveBuffer     = 1 << 20               // bytes
 )
 
 var (
-	// ErrLost ends a session: the daemon was started anew, or let the session go. Open begins another one.
+	// ErrLost ends a session: the daemon was started anew. Open begins another one, which joins anew.
 	ErrLost = errors.New("hags: the session is lost: the daemon was started anew")
-	// ErrFull ends a session: the daemon takes no more clients. Use another node.
+	// ErrEnded ends a session: the daemon has ended it, since nothing came of this client for as long as its `--silence`
+	// says, since the process was stopped or the network cut. It is an ErrLost too: what the client held others may hold.
+	ErrEnded error = ended{}
+	// ErrFull ends a session: the daemon keeps 1,024 clients, and takes no more. Use another node.
 	ErrFull = errors.New("hags: the daemon takes no more clients")
 	// ErrClosed is of a client that was closed.
 	ErrClosed = errors.New("hags: the client is closed")
 	// ErrBad is of a call that no daemon takes. Nothing was sent.
 	ErrBad = errors.New("hags: no such call")
 )
+
+type ended struct{}
+
+func (ended) Error() string {
+	return "hags: the daemon has ended the session, since nothing came of this client for too long"
+}
+
+func (ended) Is(target error) bool { return target == ErrLost }
 
 // Refused is the error of a call that the daemon refused, and which did nothing.
 type Refused struct {
@@ -137,7 +152,7 @@ func Open(ctx context.Context, settings string, node int, name string) (*Client,
 // takes are kept, and the session goes on.
 func (c *Client) Events() <-chan Event { return c.events }
 
-// Err is why the session ended: ErrLost, ErrFull, ErrClosed; nil while it goes on.
+// Err is why the session ended: ErrLost, ErrEnded, ErrFull, ErrClosed; nil while it goes on.
 func (c *Client) Err() error {
 	select {
 	case <-c.ended:
@@ -156,7 +171,8 @@ func (c *Client) Silence() time.Duration {
 }
 
 // SetIdle says how long at most the client waits before it asks the daemon for news, while nothing happens: from a
-// millisecond to ten seconds, and 20 milliseconds at first, which is 50 datagrams a second. An event may be so late.
+// millisecond to a second, and 20 milliseconds at first, which is 50 datagrams a second. An event may be so late. Since
+// it never waits for longer, no `--silence` ends a client that lives and whose datagrams arrive.
 func (c *Client) SetIdle(idle time.Duration) {
 	if idle < shortest {
 		idle = shortest

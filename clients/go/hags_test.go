@@ -16,7 +16,7 @@ import (
 // played is a daemon that a test plays: for each line of a call it has an answer and events.
 type played struct {
 	conn        *net.UDPConn
-	incarnation uint32
+	incarnation uint32 // that its Downs say, and its pieces where it is not 0
 	networks    map[byte]bool
 	lost        int // how many Ups of each call go unanswered
 	script      func(line string) (answer byte, events []string)
@@ -89,7 +89,7 @@ func (p *played) serve() {
 		count := (len(down) + pieceData - 1) / pieceData
 		for at := count - 1; at >= 0; at-- { // backwards, and each twice
 			piece := append([]byte{buffer[0]}, "RP\x01\x00"...)
-			piece = big.AppendUint32(piece, p.incarnation)
+			piece = big.AppendUint32(piece, uint32(max(5, int(p.incarnation))))
 			piece = big.AppendUint64(piece, sent)
 			piece = big.AppendUint32(piece, uint32(at))
 			piece = big.AppendUint32(piece, uint32(count))
@@ -287,19 +287,50 @@ func TestLostAndFull(t *testing.T) {
 	}
 }
 
-// A client at rest asks as seldom as it was told, and a call goes out at once all the same.
+// A client at rest asks as seldom as it was told, but once a second at least; and a call goes out at once all the same.
 func TestIdle(t *testing.T) {
 	p, settings := newPlayed(t)
 	c := opened(t, p, settings)
 	c.SetIdle(time.Hour)
-	for c.Silence() < 3*time.Second {
-		time.Sleep(10 * time.Millisecond)
+	for c.Silence() < 800*time.Millisecond {
+		time.Sleep(time.Millisecond)
 	}
 	began := time.Now()
-	if _, err := c.Leave(soon(t), "db", false); err != nil || time.Since(began) > 2*time.Second {
+	if _, err := c.Leave(soon(t), "db", false); err != nil || time.Since(began) > time.Second {
 		t.Error(err, time.Since(began))
 	}
+	for began := time.Now(); time.Since(began) < 3*time.Second; time.Sleep(10 * time.Millisecond) {
+		if c.Silence() > 2*time.Second { // it asks after one, and a busy machine may be late
+			t.Fatal(c.Silence())
+		}
+	}
 	c.SetIdle(0)
+}
+
+// A daemon that has ended a session says so by an incarnation of 0, whether or not it was heard before.
+func TestEnded(t *testing.T) {
+	p, settings := newPlayed(t)
+	p.script = func(line string) (byte, []string) {
+		if strings.HasPrefix(line, "leave") {
+			p.incarnation = 0
+			return answerFull, nil
+		}
+		return answerDone, nil
+	}
+	c := opened(t, p, settings)
+	if _, err := c.Leave(soon(t), "db", false); err != ErrEnded || !errors.Is(err, ErrLost) || errors.Is(err, ErrFull) {
+		t.Error(err)
+	}
+	if _, isOpen := <-c.Events(); isOpen || c.Err() != ErrEnded {
+		t.Error(c.Err())
+	}
+	ended, settings := newPlayed(t)
+	ended.incarnation = 0
+	ended.script = func(string) (byte, []string) { return answerFull, nil }
+	go ended.serve()
+	if _, err := Open(soon(t), settings, 1, "a"); err != ErrEnded {
+		t.Error(err)
+	}
 }
 
 func TestClose(t *testing.T) {

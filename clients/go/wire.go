@@ -128,6 +128,9 @@ func (s *session) take(it down) (events []Event, err error) {
 	if it.key != s.key {
 		return nil, nil
 	}
+	if it.answer == answerFull && it.incarnation == 0 {
+		return nil, ErrEnded
+	}
 	if s.hasIncarnation && it.incarnation != s.incarnation {
 		return nil, ErrLost
 	}

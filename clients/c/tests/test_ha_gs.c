@@ -47,7 +47,7 @@ static const row ROWS[] = {
      "asked " ME " 3 db message\nput 1 1.1.5 db 5 begin message " ME "/3 =hi\n"
      "heard " ME " 1.1.5 db 5 begin-message " ME "," OTHER " =red%00"},
     {"vote gs-test db C=blue", TAKEN,
-     "cast " ME " 1.1.5/5 1 C=blue\nput 1 1.1.5 db 6 phase 1.1.5/5 1 " ME "=C," OTHER "=A =blue\n"
+     "cast " ME " 1.1.5/5 1 C=blue\nput 1 1.1.5 db 6 phase 1.1.5/5 1 " ME "=C," OTHER "=LA =blue\n"
      "heard " ME " 1.1.5 db 6 phase " ME "," OTHER " =red%00\nput 1 1.1.5 db 7 late 1.1.5/5 2 " OTHER "\n"
      "heard " ME " 1.1.5 db 7 late " ME "," OTHER " =red%00"},
     {"vote gs-test db R", TAKEN,
@@ -193,6 +193,7 @@ static void add_proposal(const ha_gs_proposal_t *it) {
 
 static void on_phase(const ha_gs_n_phase_notification_t *it) {
     add("phase %d %d:", it->gs_protocol_type, it->gs_time_limit);
+    if (it->gs_summary_code) add(" summary=%x", it->gs_summary_code);
     add_proposal(it->gs_proposal);
     add("\n");
     ha_gs_state_value_t blue = {4, "blue"};
@@ -344,7 +345,7 @@ int main(void) {
     ha_gs_proposal_info_t message = {.gs_message_request = {HA_GS_N_PHASE, 0, {2, "hi"}}};
     CHECK(ha_gs_send_message(token, &message) == HA_GS_OK);
     EXPECT("phase 6 2: phases=2 phase=1 by=1.7 changed=40 now:1.7:2.8 value=4 message=hi\n"
-           "phase 6 2: phases=2 phase=2 by=1.7 changed=48 now:1.7:2.8 value=4 proposed=blue message=hi\n"
+           "phase 6 2: summary=a phases=2 phase=2 by=1.7 changed=48 now:1.7:2.8 value=4 proposed=blue message=hi\n"
            "announced 8 whom:2.8\n"
            "rejected 6 d: phases=2 phase=2 by=1.7 changed=48 now:1.7:2.8 value=4 proposed=blue message=hi\n");
 

@@ -312,15 +312,18 @@ static void test_lost(void) {
     end(client);
 }
 
-/* A daemon that let a key go answers in incarnation 0. */
 static void test_full(void) {
     hags *client = client_of("");
     CHECK(hags_open(client, "a") == HAGS_LATE);
     take_up(client);
     send_down(0, 3, 1, "");
     while (hags_answer(client) == HAGS_LATE) hags_dispatch(client);
-    CHECK(hags_answer(client) == HAGS_FULL && hags_wait(client, 10) == HAGS_FULL);
-    open_client(client);
+    CHECK(hags_answer(client) == HAGS_FULL && hags_wait(client, 10) == HAGS_FULL && !hags_was_ended(client));
+    end(client);
+}
+
+/* The Down of a session that the daemon has ended: answer 3 in incarnation 0. */
+static void send_ended(void) {
     uint32_t kept = played.incarnation;
     uint8_t down[100];
     played.incarnation = 0;
@@ -328,8 +331,20 @@ static void test_full(void) {
     played.incarnation = kept;
     played.sent++;
     send_piece(0, 1, down, length);
+}
+
+/* A session that was ended is lost, whether the daemon was heard before or not, and another one begins. */
+static void test_ended(void) {
+    hags *client = client_of("");
+    open_client(client);
+    send_ended();
     while (hags_dispatch(client) == HAGS_OK) {}
-    CHECK(hags_answer(client) == HAGS_LOST);
+    CHECK(hags_answer(client) == HAGS_LOST && hags_was_ended(client) && !hags_is_open(client));
+    CHECK(hags_open(client, "a") == HAGS_LATE && !hags_was_ended(client));
+    take_up_with(client, 1, 0);
+    send_ended();
+    while (hags_dispatch(client) == HAGS_OK) {}
+    CHECK(hags_answer(client) == HAGS_LOST && hags_was_ended(client));
     end(client);
 }
 
@@ -347,12 +362,12 @@ static void test_second_network(void) {
     end(client);
 }
 
-/* A client at rest asks as seldom as it was told, and a call goes out at once all the same. */
+/* A client at rest asks as seldom as it was told, but once a second at least; a call goes out at once all the same. */
 static void test_idle(void) {
     hags *client = client_of("");
     open_client(client);
     hags_idle(client, 100000);
-    for (int it = 0; it < 11; it++) take_up(client); /* some 2 seconds of waits that double */
+    for (int it = 0; it < 13; it++) take_up(client); /* some 3 seconds of waits that double up to one */
     hags_wait(client, 100);
     socklen_t size = sizeof played.client;
     ssize_t length = recvfrom(played.socket, played.up, sizeof played.up, MSG_DONTWAIT, (struct sockaddr *)&played.client, &size);
@@ -422,6 +437,11 @@ static hags_event *event_of(const char *line) {
     return event;
 }
 
+static bool is_mark(const hags_event *it, size_t at, const char *wanted) {
+    hags_bytes mark = hags_mark(&it->put, at);
+    return mark.length == strlen(wanted) && !memcmp(mark.bytes, wanted, mark.length);
+}
+
 static void test_events(void) {
     hags_event *it = event_of("heard 1.5.7.1 3.1.5 db 12 begin-attrs 1.5.7.1,2.9.65535.4294967295 =a%20%00b");
     CHECK(it->what == HAGS_HEARD && it->heard.view.number == 3 && it->heard.place == 12 && it->heard.step == HAGS_BEGIN);
@@ -459,9 +479,11 @@ static void test_events(void) {
     CHECK(it->what == HAGS_PUT && it->put.providers.count == 2 && it->put.attributes.by_vote && it->put.attributes.rejects);
     CHECK(it->put.attributes.batch == HAGS_BOTH && it->put.attributes.limit == 20 && it->put.attributes.source_limit == 7);
     CHECK(!strcmp(it->put.attributes.source, "disk") && it->put.attributes.source_by_vote && it->put.step == HAGS_BEGIN);
+    CHECK(it->put.has_source_length && it->put.source_length == 3 && !hags_mark(&it->put, 0).length);
     free(it);
     it = event_of("put 1 3.1.5 db 4 once fail 1.5.7.1:died,2.5.8.2:gone");
     CHECK(it->what == HAGS_PUT && it->put.kind == HAGS_FAIL && it->put.providers.list[1].node == 2);
+    CHECK(is_mark(it, 0, "died") && is_mark(it, 1, "gone") && is_mark(it, 2, "") && !it->put.has_source_length);
     free(it);
     it = event_of("put 1 3.1.5 db 4 once expel 1.5.7.1/3 2.5.8.2,3.5.9.1");
     CHECK(it->what == HAGS_PUT && it->put.request == 3 && it->put.asker.instance == 7 && it->put.providers.count == 2);
@@ -469,6 +491,7 @@ static void test_events(void) {
     it = event_of("put 1 3.1.5 db 4 phase 3.1.5/2 1 1.5.7.1=A,2.5.8.2=LR =new%20one");
     CHECK(it->what == HAGS_PUT && it->put.phase == 1 && it->put.protocol.place == 2 && it->put.value.length == 7);
     CHECK(!strcmp(it->put.detail, "1.5.7.1=A,2.5.8.2=LR") && it->put.providers.count == 2 && it->put.kind == HAGS_NO_KIND);
+    CHECK(is_mark(it, 0, "A") && is_mark(it, 1, "LR"));
     free(it);
     it = event_of("put 1 3.1.5 db 4 reject 3.1.5/2 1 -");
     CHECK(it->what == HAGS_PUT && it->put.step == HAGS_REJECT && !it->put.providers.count);
@@ -529,6 +552,7 @@ int main(void) {
     test_strays();
     test_lost();
     test_full();
+    test_ended();
     test_second_network();
     test_idle();
     test_close();

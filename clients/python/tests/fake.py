@@ -19,13 +19,15 @@ def take_all(line: str) -> Answer:
 
 class FakeDaemon:
     """Serves sessions at a loopback address. `answer` says what comes of a call; `is_silent` lets it be silent; `lose`
-    drops so many of the datagrams that come."""
+    drops so many of the datagrams that come; `of_itself` is what it says of itself, where it does."""
 
     def __init__(self, address: str, port: int, node: int, answer: Callable[[str], Answer] = take_all) -> None:
         self.node, self.answer, self.incarnation, self.is_silent, self.lose = node, answer, 5, False, 0
+        self.of_itself: dict[str, str] = {}
         self.calls: list[str] = []
         self.networks: list[int] = []
         self._kept: dict[bytes, list[object]] = {}
+        self._ended: set[bytes] = set()
         self._sent = 0
         self._socket = socket.socket(socket.AF_INET, socket.SOCK_DGRAM)
         self._socket.bind((address, port))
@@ -38,6 +40,11 @@ class FakeDaemon:
     def restart(self) -> None:
         self._kept.clear()
         self.incarnation += 1
+
+    def end(self) -> None:
+        """Ends the sessions of all of its clients, as a daemon does of those that were silent."""
+        self._ended |= set(self._kept)
+        self._kept.clear()
 
     def close(self) -> None:
         self._is_over = True
@@ -64,16 +71,24 @@ class FakeDaemon:
         if message.startswith(b"RG\1\x16"):
             question, what = struct.unpack(">IB", message[16:21])
             hosts = "1.5,2.5,3.5"
-            text = [
+            texts = [
                 f"hats 1 3.5.1 members=1,2,3 neighbour=2",
                 f"hagsns 3.1.5 coord=1 members={hosts} frozen=no",
                 "",
                 "",
             ]
             head = struct.pack(">3sBBBBBIII", b"RG\1", 23, datagram[0], self.node, 0, 0, self.incarnation, 0, question)
-            self._send(datagram[0], head + f"{text[what - 1]}\n".encode(), whom)
+            self._send(datagram[0], head + f"{texts[what - 1]}\n".encode(), whom)
+            return
+        if message.startswith(b"RI\1"):
+            text = self.of_itself.get(("hagscl", "hagsd")[message[3] - 1])
+            if text is not None:
+                self._send(datagram[0], b"RI\2" + message[3:] + text.encode(), whom)
             return
         key = message[4:8]
+        if key in self._ended:
+            self._send(datagram[0], b"RS\2\0" + key + struct.pack(">IIBIB", 0, 0, 3, 1, 0), whom)
+            return
         number, heard, length = struct.unpack(">IIH", message[8:18])
         line = message[18 : 18 + length].decode()
         kept = self._kept.setdefault(key, [0, 0, []])

@@ -18,10 +18,12 @@ from hags import (
     CallRefused,
     Client,
     ClientClosed,
+    Entered,
     HagsError,
     Member,
     NoReply,
     Rejected,
+    SessionEnded,
     SessionLost,
     TimedOut,
 )
@@ -45,6 +47,51 @@ def test_join_waits_until_it_is_a_member(daemon: FakeDaemon) -> None:
         assert client.state("db", "red").kind == "state"
         assert [type(event).__name__ for event in client.events(0.1)] == ["Asked", "Heard", "Asked"]
     assert daemon.calls[0] == "client 1 a -" and daemon.calls[-1] == "goodbye a"
+
+
+ENTRY = "put 1 3.1.5 db"
+HEARD = "heard 1.5.7.1 3.1.5 db"
+
+
+def test_an_entry_comes_before_it_is_heard(daemon: FakeDaemon) -> None:
+    daemon.answer = joins
+    with Client(settings_of(daemon.port), 1, "a") as client:
+        client.join("db", instance=7)
+        lines = [f"{ENTRY} 1 once message 2.6.8.1/4 =a%20text", f"{HEARD} 1 once-message 1.5.7.1 ="]
+        lines += [f"{ENTRY} 2 begin state 2.6.8.1/5 =red", f"{HEARD} 2 begin-state 1.5.7.1 ="]
+        for line in lines:
+            daemon.hear(line)
+        events = [event for event in client.events(0.2)][2:]
+        assert [type(event).__name__ for event in events] == ["Entered", "Heard"] * 2
+        message, vote = events[0], events[2]
+        assert isinstance(message, Entered) and message.proposal and message.proposal.text == b"a text"
+        assert isinstance(vote, Entered) and vote.proposal and vote.proposal.asker == Member(2, 6, 8, 1)
+        membership = client.membership("db")
+        assert membership and membership.proposal == vote.proposal
+        for line in (f"{ENTRY} 3 phase 3.1.5/2 1 1.5.7.1=C =blue", f"{HEARD} 3 phase 1.5.7.1 ="):
+            daemon.hear(line)
+        assert len(list(client.events(0.2))) == 2
+        membership = client.membership("db")
+        assert membership and membership.proposal and membership.proposal.value == b"blue"
+        for line in (f"{ENTRY} 4 approve 3.1.5/2 2 1.5.7.1=A -", f"{HEARD} 4 approve 1.5.7.1 =blue"):
+            daemon.hear(line)
+        assert len(list(client.events(0.2))) == 2
+        membership = client.membership("db")
+        assert membership and membership.proposal is None and membership.value == b"blue"
+
+
+def test_a_session_that_was_ended_is_told_once_and_another_begins(daemon: FakeDaemon) -> None:
+    daemon.answer = joins
+    with Client(settings_of(daemon.port), 1, "a") as client:
+        client.join("db", instance=7)
+        assert len(list(client.events(0.2))) == 2
+        daemon.end()
+        with pytest.raises(SessionEnded, match="Join again"):
+            client.next_event(10)
+        assert client.membership("db") is None
+        client.join("db", instance=7)
+        assert client.name == "a" and client.is_open
+    assert [line for line in daemon.calls if line.startswith("client ")] == ["client 1 a -"] * 2
 
 
 def test_a_dissolved_join_is_made_again(daemon: FakeDaemon) -> None:
@@ -312,3 +359,24 @@ def test_asyncio(daemon: FakeDaemon) -> None:
 
     asyncio.run(use())
     assert daemon.calls[-1] == "goodbye a"
+
+
+def test_asyncio_hears_entries_and_that_its_session_was_ended(daemon: FakeDaemon) -> None:
+    daemon.answer = joins
+
+    async def play() -> None:
+        async with AsyncClient(settings_of(daemon.port), 1, "a") as client:
+            await client.join("db", instance=7)
+            daemon.hear(f"{ENTRY} 1 once message 2.6.8.1/4 =hello")
+            daemon.hear(f"{HEARD} 1 once-message 1.5.7.1 =")
+            events = [event async for event in client.events(0.2)]
+            assert isinstance(events[2], Entered) and events[2].proposal and events[2].proposal.text == b"hello"
+            daemon.end()
+            with pytest.raises(SessionEnded):
+                await client.next_event(10)
+            assert client.membership("db") is None
+            await client.join("db", instance=7)
+
+    asyncio.run(play())
+    with pytest.raises(BadArgument, match="idle is from"):
+        asyncio.run(AsyncClient(settings_of(daemon.port), 1, "a", idle=5).open())

@@ -6,10 +6,10 @@ import random
 import struct
 
 import pytest
-from hags import DaemonFull, SessionLost
-from hags.session import IDLE, Question, Session
+from hags import BadArgument, DaemonFull, SessionEnded, SessionLost
+from hags.session import IDLE, LONGEST_IDLE, Question, Session
 from hags.settings import Place
-from hags.wire import Joiner, datagram_of, message_of, up_of
+from hags.wire import QUESTIONS, Joiner, Reply, datagram_of, message_of, query_of, up_of
 
 PLACES = [Place(1, "127.0.0.1", 1), Place(2, "127.0.1.1", 1)]
 HEAD = "01 5250 00 00 00000000 0000000000000001 00000000 00000001 "
@@ -23,7 +23,7 @@ def down(
     """A Down as a datagram, the message of this number of node 1."""
     message = b"RS\2\0" + session.key + struct.pack(">IIBIB", incarnation, done, answer, first, len(events))
     message += b"".join(struct.pack(">H", len(it)) + it.encode() for it in events)
-    return b"\1" + struct.pack(">2sBBIQII", b"RP", 1, 0, incarnation, number, 0, 1) + message
+    return b"\1" + struct.pack(">2sBBIQII", b"RP", 1, 0, incarnation or 5, number, 0, 1) + message
 
 
 def opened() -> Session:
@@ -93,6 +93,26 @@ def test_a_full_daemon_is_told() -> None:
         session.take(down(session, 1, 0, 1, [], answer=3), 0.0)
 
 
+@pytest.mark.parametrize("has_answered", [True, False])
+def test_a_session_that_was_ended_for_its_silence_is_told(has_answered: bool) -> None:
+    session = opened() if has_answered else Session(1, PLACES, 0.0)
+    with pytest.raises(SessionEnded, match="Join again"):
+        session.take(down(session, 2, 0, 1, [], answer=3, incarnation=0), 0.0)
+
+
+@pytest.mark.parametrize("idle", [IDLE, LONGEST_IDLE])
+def test_no_daemon_ends_a_client_that_lives(idle: float) -> None:
+    """The shortest silence that a daemon may be told is a second, and that of daemons as they are shipped five."""
+    session = Session(1, PLACES, 0.0, idle)
+    session.begin("client 1 a -")
+    session.take(down(session, 1, 1, 1, []), 0.0)
+    sent = [at / 100 for at in range(6000) if session.datagrams(at / 100)]
+    assert max(after - before for before, after in zip(sent, sent[1:])) <= idle + 0.011
+    for wrong in (0, 1.5, 5):
+        with pytest.raises(BadArgument, match="idle is from"):
+            Session(1, PLACES, 0.0, wrong)
+
+
 def test_all_networks_are_tried_where_the_daemon_is_silent() -> None:
     session = opened()
     used = [place.network for at in range(40) for place, _ in session.datagrams(at / 10)]
@@ -109,6 +129,17 @@ def test_a_client_at_rest_is_quiet() -> None:
     session.take(down(session, 1, 1, 1, []), 0.0)
     sent = [at for at in range(11_000) if session.datagrams(at / 1000)]
     assert sum(at >= 1000 for at in sent) <= 41  # in ten seconds
+
+
+def test_questions_that_a_daemon_is_asked_of_itself() -> None:
+    assert query_of(1, 3, 7, "hagscl") == bytes.fromhex("5249 01 01 00000007")
+    assert query_of(1, 3, 256, "hagsd") == bytes.fromhex("5249 01 02 00000100")
+    reply = message_of(bytes.fromhex("5249 02 02 00000007") + b"a\n")
+    assert reply == Reply(7, "a\n", "hagsd")
+    assert [what for what in QUESTIONS if reply.answers(what, 7)] == ["hagsd"] and not reply.answers("hagsd", 8)
+    packet = message_of(b"RG\1\x17" + bytes(12) + b"\0\0\0\7hats")
+    assert isinstance(packet, Reply) and packet.answers("hats", 7) and not packet.answers("hagsd", 7)
+    assert message_of(bytes.fromhex("5249 02 03 00000007")) is None and message_of(b"RI\2\1\0\0") is None
 
 
 def test_noise_is_nothing() -> None:

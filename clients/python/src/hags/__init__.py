@@ -21,10 +21,11 @@ from .errors import (
     NoMajority,
     NoReply,
     Rejected,
+    SessionEnded,
     SessionLost,
     TimedOut,
 )
-from .events import HOSTS, Asked, Cast, Event, Heard, Hosts, Noted, Told
+from .events import HOSTS, Asked, Cast, Entered, Event, Heard, Hosts, Noted, Proposal, Row, Told
 from .ids import Host, Member, Token, View
 from .recipes import Barrier, Change, Leader, Lock, Share, Shares, Value, Watch
 from .settings import Adapter, Place, Settings
@@ -49,6 +50,7 @@ __all__ = [
     "Client",
     "ClientClosed",
     "DaemonFull",
+    "Entered",
     "Event",
     "HOSTS",
     "HagsError",
@@ -64,8 +66,11 @@ __all__ = [
     "NoReply",
     "Noted",
     "Place",
+    "Proposal",
     "REJECT",
     "Rejected",
+    "Row",
+    "SessionEnded",
     "SessionLost",
     "Settings",
     "Share",

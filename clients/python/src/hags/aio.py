@@ -44,8 +44,9 @@ class AsyncClient(AbstractAsyncContextManager["AsyncClient"]):
             async for event in client.events():
                 print(event)
 
-    It has no thread: the loop sends and receives for it, and is not to be blocked for long. It is for the loop that
-    runs when it is entered, and for no other thread. The recipes take a plain `Client`.
+    It has no thread: the loop sends and receives for it, and is not to be blocked for long. Blocked for as long as the
+    daemon's `--silence` says, it has lost its session by SessionEnded. It is for the loop that runs when it is entered,
+    and for no other thread. The recipes take a plain `Client`.
     """
 
     def __init__(
@@ -149,7 +150,7 @@ class AsyncClient(AbstractAsyncContextManager["AsyncClient"]):
         return await self._asked(calls.state_line(group, value, by_vote))
 
     async def message(self, group: str, text: Bytes, *, by_vote: bool = False) -> Asked:
-        """Sends a message. Members hear that there was one, and not its text."""
+        """Sends a message, whose text is in the `Entered` of members whose daemon runs with `--entries`."""
         return await self._asked(calls.message_line(group, text, by_vote))
 
     async def expel(

@@ -10,8 +10,8 @@ from dataclasses import dataclass
 from urllib.parse import quote_from_bytes
 
 from .errors import BadArgument
-from .events import TEXT
 from .ids import Member
+from .words import TEXT
 
 APPROVE, CONTINUE, REJECT = "A", "C", "R"  #: votes
 MOST_LINE = 1100  # bytes of a call
@@ -43,6 +43,20 @@ class Attributes:
         words += ["sphases=n"] if self.source_by_vote else []
         words += [f"slimit={number('source_limit', self.source_limit, 0, LONGEST_LIMIT)}"] if self.source_limit else []
         return "".join(f" {word}" for word in words)
+
+    @classmethod
+    def of_words(cls, words: Iterable[str]) -> Attributes:
+        """Attributes as a line spells them, NAME=VALUE each. Names that daemons to come may have are left out."""
+        given = dict(word.split("=", 1) for word in words)
+        return cls(
+            by_vote=given.get("phases") == "n",
+            batch=given.get("batch", "none"),
+            default=given.get("default", "approve"),
+            limit=int(given.get("limit", 0)),
+            source=given.get("source"),
+            source_by_vote=given.get("sphases") == "n",
+            source_limit=int(given.get("slimit", 0)),
+        )
 
 
 PLAIN = Attributes()

@@ -101,12 +101,15 @@ class Client(AbstractContextManager["Client"]):
 
     A call returns once the daemon has taken it, or raises: NoReply where none answers for `seconds`, CallRefused, or
     SessionLost. The group's leader may refuse it later: `Told` comes, with its request. `idle` is how often a client at
-    rest asks its daemon for news, in seconds: so long an event may take, and so many datagrams it costs.
+    rest asks its daemon for news, in seconds: so long an event may take, and so many datagrams it costs. It is at most
+    one second, since a daemon with `--silence` ends a session of which nothing came for so many tenths of a second.
 
     **Threads.** A thread of the client's own sends and receives, so nothing has to be called again and again. All
     methods may be called by any thread, also at once; an event goes to whoever asks first. After a `fork` the child has
     no client. **The end.** At the end of a `with`, by `close`, and at the end of the process the client says goodbye,
-    by which its memberships end. One that is killed says none, and its daemon keeps it a member.
+    by which its memberships end. One that is killed says none: a daemon with `--silence` says it in its stead after
+    that time, and one without keeps it a member. Of one that was stopped for so long, and goes on, the session was
+    ended: SessionEnded comes, which is a SessionLost.
     """
 
     def __init__(
@@ -227,7 +230,8 @@ class Client(AbstractContextManager["Client"]):
         return self._asked(calls.state_line(group, value, by_vote))
 
     def message(self, group: str, text: Bytes, *, by_vote: bool = False) -> Asked:
-        """Sends a message, of up to 1,024 bytes. Members like this one hear that there was one, and not its text."""
+        """Sends a message, of up to 1,024 bytes. Its text is in the `Entered` that each member hears whose daemon runs
+        with `--entries`; others hear that there was one."""
         return self._asked(calls.message_line(group, text, by_vote))
 
     def expel(self, group: str, members: Member | str | Iterable[Member | str], *, by_vote: bool = False) -> Asked:
@@ -240,7 +244,8 @@ class Client(AbstractContextManager["Client"]):
 
     def vote(self, group: str, vote: str, value: Bytes | None = None) -> None:
         """Votes, once a phase was heard to begin: APPROVE, CONTINUE or REJECT. With a value it proposes that one in
-        place of the one proposed."""
+        place of the one proposed. What is voted on is in the `Entered` before the `Heard` that begins it, and in the
+        `membership`, where the daemon runs with `--entries`."""
         self.call(calls.vote_line(group, vote, value))
 
     def subscribe(self, group: str) -> None:

@@ -12,7 +12,7 @@ from typing import Optional, Protocol
 
 from .calls import client_name, line_bytes
 from .errors import BadArgument, CallRefused, ClientClosed, DaemonFull, HagsError, SessionLost
-from .events import HOSTS, Asked, Event, Heard, Hosts, Noted, Told
+from .events import HOSTS, Asked, Entered, Event, Heard, Hosts, Noted, Proposal, Told
 from .ids import Member, View, hosts_of
 from .session import Connection, Question, Session
 from .settings import Settings
@@ -52,12 +52,20 @@ class Membership:
     place: int = -1
     members: tuple[Member, ...] = ()
     value: bytes = b""
+    proposal: Proposal | None = None  #: what is voted on, of daemons with `--entries`
     is_member: bool = False
     ended: str = ""  #: the code, or the kind of entry, by which the membership has ended
 
     def take(self, event: Event) -> None:
-        if isinstance(event, Heard) and event.provider == self.own:
+        if isinstance(event, Entered):
+            if event.step == "begin":
+                self.proposal = event.proposal
+            elif self.proposal is not None and event.value is not None:
+                self.proposal = self.proposal._replace(value=event.value)
+        elif isinstance(event, Heard) and event.provider == self.own:
             self.view, self.place = event.view, event.place
+            if event.what in ("approve", "reject"):
+                self.proposal = None
             self.members, self.value = event.members, event.value
             was, self.is_member = self.is_member, self.own in event.members
             if not self.is_member and (was or event.what == "reject"):
@@ -345,7 +353,7 @@ class Core:
             self.events.append(event)
 
     def _group_of(self, event: Event) -> str:
-        if isinstance(event, (Asked, Heard, Noted)):
+        if isinstance(event, (Asked, Entered, Heard, Noted)):
             return event.group
         if isinstance(event, Hosts):
             return HOSTS

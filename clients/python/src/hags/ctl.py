@@ -22,7 +22,19 @@ from .recipes import Change, Leader, Lock, Value, Watch
 from .recipes.value import versioned
 from .recipes.voter import LIMIT
 from .settings import Settings
-from .status import Group, Network, Nodes, ask, groups_of, networks_of, nodes_of
+from .status import (
+    Daemon,
+    Group,
+    Network,
+    Nodes,
+    Session,
+    ask,
+    daemon_of,
+    groups_of,
+    networks_of,
+    nodes_of,
+    sessions_of,
+)
 
 WHOLE, PARTED, NO_ANSWER = 0, 1, 2  # statuses; 1 is also that something was refused or not found
 NOT_HELD, LOST = 3, 4  # a lock that did not come in time; one that was lost while the command ran
@@ -30,10 +42,8 @@ IDLE = 0.25  # seconds from one datagram to the next, where nothing happens
 ASKING = 1.0  # seconds that daemons have for an answer
 GRACE = 5.0  # seconds from a command's SIGTERM to its SIGKILL
 PLACES = ("settings", "/etc/hags/settings")  # where settings are looked for
-NOT_COMPARED = (
-    "Not compared, since daemons do not say which settings they have read: hb, level, domain, addresses. "
-    "Where these differ, daemons part, or see deaths that are none."
-)
+TICK = 0.1  # seconds
+OLDER = "its daemon is an older one, which does not say who its clients are"
 OF_RECIPES = {  # the attributes of groups that recipes have
     "lock.": PLAIN,
     "leader.": PLAIN,
@@ -143,6 +153,12 @@ def own_members(node: int, groups: list[Group]) -> int:
     return sum(member.node == node for group in groups for member in group.members)
 
 
+def print_table(rows: Sequence[tuple[str, ...]]) -> None:
+    widths = [max(map(len, column)) for column in zip(*rows)]
+    for row in rows:
+        print("  ".join(word.ljust(width) for word, width in zip(row, widths)).rstrip())
+
+
 def print_status(views: dict[int, Nodes | None], groups: dict[int, list[Group]]) -> None:
     rows = [("node", "view", "nodes in it", "frozen", "groups", "own members")]
     for node, view in views.items():
@@ -153,9 +169,43 @@ def print_status(views: dict[int, Nodes | None], groups: dict[int, list[Group]])
         frozen = "yes" if view.is_frozen else "no"
         hosts = numbers([host.node for host in view.hosts])
         rows.append((str(node), str(view.view), hosts, frozen, str(len(known)), str(own_members(node, known))))
-    widths = [max(map(len, column)) for column in zip(*rows)]
-    for row in rows:
-        print("  ".join(word.ljust(width) for word, width in zip(row, widths)).rstrip())
+    print_table(rows)
+
+
+# clients
+
+
+def see_clients(options: argparse.Namespace) -> int:
+    settings = settings_from(options.settings)
+    nodes = options.node or settings.nodes
+    said = ask(settings, "hagscl", nodes, ASKING)
+    mute = [node for node, lines in said.items() if lines is None]
+    older = [node for node, lines in ask(settings, "hagsns", mute, ASKING).items() if lines is not None] if mute else []
+    sessions = {node: sessions_of(lines) for node, lines in said.items() if lines is not None}
+    if options.json:
+        print(json.dumps({str(node): clients_json(sessions.get(node)) for node in nodes}))
+    elif sessions:
+        print_clients(sessions)
+    for node in mute:
+        print(f"hagsctl: node {node}: {OLDER if node in older else 'no answer'}", file=sys.stderr)
+    return NO_ANSWER if len(mute) == len(nodes) and not older else PARTED if mute else WHOLE
+
+
+def clients_json(sessions: list[Session] | None) -> list[dict[str, object]] | None:
+    if sessions is None:
+        return None
+    return [{**one._asdict(), "members": list(map(str, one.members))} for one in sessions]
+
+
+def print_clients(said: dict[int, list[Session]]) -> None:
+    rows = [("node", "client", "key", "silent", "unread", "members")]
+    for node, sessions in said.items():
+        for one in sessions:
+            key = "-" if one.key is None else str(one.key)
+            silent = "-" if one.silent is None else f"{one.silent * TICK:.1f} s"
+            unread = "-" if one.unread is None else str(one.unread)
+            rows.append((str(node), one.name, key, silent, unread, ",".join(map(str, one.members)) or "-"))
+    print_table(rows)
 
 
 # check
@@ -165,13 +215,45 @@ def check(options: argparse.Namespace) -> int:
     settings = settings_from(options.settings)
     rings = ask(settings, "hats", settings.nodes, ASKING)
     views = ask(settings, "hagsns", settings.nodes, ASKING)
-    found = [fault for node in settings.nodes for fault in faults_of(settings, node, rings[node], views[node])]
-    if not any(views.values()):
+    answering = [node for node in settings.nodes if views[node]]
+    if not answering:
         print("no daemon answers")
         return NO_ANSWER
+    said = ask(settings, "hagsd", answering, ASKING)
+    daemons = {node: daemon_of(lines) for node, lines in said.items() if lines}
+    found = [fault for node in settings.nodes for fault in faults_of(settings, node, rings[node], views[node])]
+    found += faults_of_settings(settings, daemons) + faults_of_versions(daemons)
     print("\n".join(found) if found else "nothing is seen that differs from these settings")
-    print(NOT_COMPARED)
+    older = [node for node in answering if node not in daemons]
+    if older:
+        print(f"Not compared of node {numbers(older)}: settings and version, which an older daemon does not say of itself")
     return PARTED if found else WHOLE
+
+
+def alike(daemons: dict[int, Daemon], what: Callable[[Daemon], str]) -> dict[str, list[int]]:
+    """The nodes whose daemons say the same, by what they say."""
+    found: dict[str, list[int]] = {}
+    for node, daemon in daemons.items():
+        found.setdefault(what(daemon), []).append(node)
+    return found
+
+
+def faults_of_settings(settings: Settings, daemons: dict[int, Daemon]) -> list[str]:
+    """Which daemons have read other settings than these, all their lines up to `begin` compared."""
+    return [
+        f"node {numbers(nodes)}: started with other settings ({digest}) than these ({settings.digest}). Compare the "
+        "files by `hags-daemon --check FILE FILE`, let all have one, and start each daemon anew whose file was another"
+        for digest, nodes in alike(daemons, lambda it: it.settings).items()
+        if digest != settings.digest
+    ]
+
+
+def faults_of_versions(daemons: dict[int, Daemon]) -> list[str]:
+    versions = alike(daemons, lambda it: it.version)
+    if len(versions) < 2:
+        return []
+    said = "; ".join(f"{version} at node {numbers(nodes)}" for version, nodes in versions.items())
+    return [f"daemons are of different versions: {said}. Install one version, and start each daemon anew in turn"]
 
 
 def faults_of(settings: Settings, node: int, rings: list[str] | None, view: list[str] | None) -> list[str]:
@@ -423,7 +505,8 @@ def parser_of() -> argparse.ArgumentParser:
 
     status = verb("status", "all nodes in one table: 0 whole, 1 not, 2 no answer", see_status, json=True)
     status.add_argument("--wait", metavar="S", type=float, default=0.0, help="so many seconds for it to be whole")
-    verb("check", "whether what the daemons say fits these settings", check)
+    verb("check", "whether the daemons have these settings, one version, and hear each other", check)
+    verb("clients", "the clients of all daemons: silent for how long, events unread, members", see_clients, json=True)
     members = verb("members", "the nodes of the view, or the members of a group", see_members, json=True)
     members.add_argument("group", metavar="GROUP", nargs="?")
     watching = verb("watch", "a line for each change of the nodes and all groups, or of these", watch, json=True)

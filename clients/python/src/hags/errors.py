@@ -60,12 +60,20 @@ class SessionLost(HagsError):
     has begun a new session by itself (or begins one at `open`, with `reopen=False`): join again."""
 
 
+class SessionEnded(SessionLost):
+    """The daemon has ended the session, since nothing came from this client for as long as its `--silence` says, five
+    seconds as daemons are shipped: the process was stopped, an AsyncClient's loop was blocked, or the network was cut.
+    It was taken out of its groups meanwhile, and others may hold what it held. Do what SessionLost says, and before
+    that drop whatever rests on a membership. Where it comes again and again, let the process run more often."""
+
+
 class ClientClosed(HagsError):
     """The client was closed. Make another one."""
 
 
 class DaemonFull(HagsError):
-    """The daemon has had 1,024 clients in its life, and takes no more. Use another node, or start that daemon anew."""
+    """The daemon has 1,024 clients, and takes no more. Use another node. With `--silence` it forgets clients that are
+    gone by itself; without, it keeps each until it is started anew."""
 
 
 class CallRefused(HagsError):

@@ -12,12 +12,13 @@ from collections.abc import Callable, Sequence
 from contextlib import suppress
 
 from .calls import line_bytes
-from .errors import DaemonFull, SessionLost
+from .errors import BadArgument, DaemonFull, SessionEnded, SessionLost
 from .events import Asked, Event, event_of
 from .settings import Place
 from .wire import FULL, MOST_EVENTS, TAKEN, Down, Joiner, Reply, datagram_of, message_of, query_of, up_of
 
 SHORTEST, IDLE = 0.001, 0.02  # seconds from one Up to the next, while something happens and while nothing does
+LONGEST_IDLE = 1.0  # at most so many: daemons may end a session that was silent for as few as ten ticks of 0.1 seconds
 SILENT = 0.1  # seconds without a word from the daemon, after which its other networks are tried too
 ASK_AGAIN = 0.1  # seconds until a question is asked again
 
@@ -42,7 +43,7 @@ class Question:
     def take(self, datagram: bytes) -> None:
         message = self._joiner.take(datagram[1:])
         said = message_of(message) if message else None
-        if isinstance(said, Reply) and said.question == self._number and not self.is_answered:
+        if isinstance(said, Reply) and said.answers(self.what, self._number) and not self.is_answered:
             self.is_answered = True
             self.answer(said.text.splitlines())
 
@@ -52,6 +53,8 @@ class Session:
     answered last is used, and all of them in turn while none does."""
 
     def __init__(self, node: int, places: Sequence[Place], now: float, idle: float = IDLE) -> None:
+        if not SHORTEST <= idle <= LONGEST_IDLE:
+            raise BadArgument(f"idle is from {SHORTEST:g} to {LONGEST_IDLE:g} seconds, not {idle!r}")
         self.node, self.places, self.idle = node, tuple(places), idle
         self.key, self.incarnation = secrets.token_bytes(4), 0  # the incarnation is 0 until the daemon has answered
         self.events: deque[Event] = deque()  # those heard and not taken out
@@ -102,6 +105,11 @@ class Session:
 
     def _take_down(self, down: Down, now: float) -> None:
         self.last = now
+        if down.answer == FULL and down.incarnation == 0:
+            raise SessionEnded(
+                f"the daemon of node {self.node} has ended the session, since nothing came from this client for too "
+                "long. What it held others may hold now. Join again"
+            )
         was = self.incarnation = self.incarnation or down.incarnation
         if down.incarnation != was:
             raise SessionLost(
@@ -109,8 +117,8 @@ class Session:
             )
         if down.answer == FULL:
             raise DaemonFull(
-                f"the daemon of node {self.node} has had 1,024 clients, and takes no more. "
-                "Use another node, or start it anew"
+                f"the daemon of node {self.node} has 1,024 clients, and takes no more. "
+                "Use another node, or start it anew, with --silence"
             )
         before = self._heard
         for number, line in enumerate(down.events, down.first):

@@ -2,10 +2,11 @@
 
 from __future__ import annotations
 
+import hashlib
 import ipaddress
 import os
-from collections.abc import Callable
-from dataclasses import dataclass
+from collections.abc import Callable, Sequence
+from dataclasses import dataclass, field, replace
 from pathlib import Path
 from typing import NamedTuple
 
@@ -45,6 +46,7 @@ class Settings:
     heartbeat: tuple[int, int] = (1, 4)  #: ticks of 100 ms from one to the next, and how many are missed
     levels: tuple[tuple[int, int], ...] = ()  #: nodes that speak level 2, and from which incarnation on
     domain: int = 1
+    digest: str = field(default="", compare=False)  #: of the lines that were read, as daemons say it
 
     @classmethod
     def read(cls, file: str | os.PathLike[str]) -> Settings:
@@ -54,17 +56,18 @@ class Settings:
     @classmethod
     def parse(cls, text: str) -> Settings:
         """Reads the lines of settings up to `begin`; what stands behind it is for daemons alone."""
-        reading = _Reading()
+        reading, lines = _Reading(), []
         for number, line in enumerate(text.split("\n"), 1):
             words = line.split()
             if words == ["begin"]:
                 break
             if words and not line.startswith("#"):
+                lines.append(words)
                 try:
                     reading.take(*words)
                 except _Bad as fault:
                     raise BadSettings(f"settings, line {number}, `{line.strip()}`: {fault}") from None
-        return reading.settings()
+        return replace(reading.settings(), digest=_digest_of(lines))
 
     @property
     def majority(self) -> int:
@@ -82,6 +85,13 @@ class Settings:
         if not own:
             raise BadSettings(f"the settings have no address of node {node}. Add `adapter {node} NETWORK A.B.C.D`")
         return tuple(Place(network, address, self.port + node) for network, address in own)
+
+
+def _digest_of(lines: Sequence[Sequence[str]]) -> str:
+    """What daemons call the digest of settings: of their lines in order, each with a blank between its words and a line
+    feed behind them."""
+    text = "".join(" ".join(words) + "\n" for words in lines)
+    return hashlib.sha256(text.encode()).hexdigest()[:16]
 
 
 class _Bad(Exception):

@@ -11,11 +11,11 @@ from functools import partial
 from typing import NamedTuple
 
 from .calls import one_of
-from .events import value_of
 from .ids import Host, Member, View, hosts_of, members_of
 from .session import Question
 from .settings import Settings
 from .wire import QUESTIONS
+from .words import value_of
 
 
 class Network(NamedTuple):
@@ -54,6 +54,34 @@ class Vote(NamedTuple):
     phase: int
     kind: str
     waiting: tuple[Member, ...] | None
+
+
+class Session(NamedTuple):
+    """What a daemon says of one of its clients. Of one that its settings have, or an object of its program, the key and
+    what goes with it is None."""
+
+    name: str
+    key: int | None
+    silent: int | None  #: ticks of 0.1 seconds since something came from it
+    unread: int | None  #: events that it has not heard yet
+    members: tuple[Member, ...]
+
+
+class Daemon(NamedTuple):
+    """What a daemon says of itself. All counts are of its life."""
+
+    node: int
+    incarnation: int
+    version: str
+    settings: str  #: the digest of its settings; `Settings.digest` is that of a file here
+    turns: int
+    ticks: int
+    received: int  #: datagrams
+    strays: int  #: datagrams that were none of hags
+    sent: int
+    failed: int  #: sends that the system refused
+    keys: int  #: clients on other machines that it keeps
+    ended: int  #: those that it has ended, since they were silent
 
 
 def _fields(words: list[str]) -> dict[str, str]:
@@ -95,6 +123,23 @@ def votes_of(lines: list[str]) -> list[Vote]:
         waiting = None if fields["waiting"] == "?" else members_of(fields["waiting"])
         found.append(Vote(name, proto, int(fields["phase"]), fields["kind"], waiting))
     return found
+
+
+def sessions_of(lines: list[str]) -> list[Session]:
+    found = []
+    for line in lines:
+        _, name, *words = line.split(" ")
+        fields = _fields(words)
+        key, silent, unread = (None if fields[it] == "-" else int(fields[it]) for it in ("key", "silent", "unread"))
+        found.append(Session(name, key, silent, unread, members_of(fields["members"])))
+    return found
+
+
+def daemon_of(lines: list[str]) -> Daemon:
+    _, name, *words = lines[0].split(" ")
+    fields, host = _fields(words), Host.parse(name)
+    counts = (int(fields[it]) for it in Daemon._fields[4:])
+    return Daemon(host.node, host.incarnation, fields["version"], fields["settings"], *counts)
 
 
 def ask(settings: Settings, what: str, nodes: Iterable[int], seconds: float = 1.0) -> dict[int, list[str] | None]:

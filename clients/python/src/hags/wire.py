@@ -9,8 +9,10 @@ from typing import NamedTuple
 TAKEN, FULL = 1, 3  # answers of a Down
 MOST_EVENTS = 16  # in one Down
 LONGEST_MESSAGE = 65_536
-QUESTIONS = ("hats", "hagsns", "hagsgr", "hagsvote")
+_OF_THE_NODE, _OF_ITSELF = ("hats", "hagsns", "hagsgr", "hagsvote"), ("hagscl", "hagsd")
+QUESTIONS = (*_OF_THE_NODE, *_OF_ITSELF)
 _UP, _DOWN, _PIECE, _PACKET = b"RS\1\0", b"RS\2\0", b"RP", b"RG\1"
+_ASKED, _TOLD = b"RI\1", b"RI\2"  # what a daemon is asked of itself, and says; no packets of a node
 _QUERY, _REPLY = 22, 23
 _PIECE_HEAD = struct.Struct(">2sBBIQII")
 _DOWN_HEAD = struct.Struct(">4sIIBIB")
@@ -29,10 +31,14 @@ class Down(NamedTuple):
 
 
 class Reply(NamedTuple):
-    """The answer to a question."""
+    """The answer to a question, and to which where a daemon says it of itself."""
 
     question: int
     text: str
+    what: str | None = None
+
+    def answers(self, what: str, question: int) -> bool:
+        return self.question == question and self.what == (what if what in _OF_ITSELF else None)
 
 
 def up_of(key: bytes, number: int, heard: int, line: bytes) -> bytes:
@@ -40,8 +46,10 @@ def up_of(key: bytes, number: int, heard: int, line: bytes) -> bytes:
 
 
 def query_of(network: int, node: int, question: int, what: str) -> bytes:
+    if what in _OF_ITSELF:
+        return _ASKED + struct.pack(">BI", 1 + _OF_ITSELF.index(what), question)
     head = _PACKET_HEAD.pack(_PACKET, _QUERY, network, 0, node, 0, 0, 5)
-    return head + struct.pack(">IB", question, 1 + QUESTIONS.index(what))
+    return head + struct.pack(">IB", question, 1 + _OF_THE_NODE.index(what))
 
 
 def datagram_of(network: int, number: int, message: bytes) -> bytes:
@@ -55,10 +63,16 @@ def message_of(message: bytes) -> Down | Reply | None:
         if message.startswith(_DOWN) and len(message) >= 4 + _DOWN_HEAD.size:
             return _down_of(message)
         if message.startswith(_PACKET) and len(message) >= 20 and message[3] == _REPLY:
-            return Reply(int.from_bytes(message[16:20], "big"), message[20:].decode("ascii", errors="replace"))
+            return _reply_of(message[16:])
+        if message.startswith(_TOLD) and len(message) >= 8 and 1 <= message[3] <= len(_OF_ITSELF):
+            return _reply_of(message[4:], _OF_ITSELF[message[3] - 1])
     except (struct.error, ValueError):
         pass
     return None
+
+
+def _reply_of(message: bytes, what: str | None = None) -> Reply:
+    return Reply(int.from_bytes(message[:4], "big"), message[4:].decode("ascii", errors="replace"), what)
 
 
 def _down_of(message: bytes) -> Down:

@@ -1,9 +1,9 @@
 """What recipes have in common: to be a member of a group for as long as that is wanted.
 
-**Members that are dead.** A daemon keeps a client that was killed as a member, for as long as the daemon lives. So
-members here find out who is silent, by signs of life (`office.py`) or by votes that do not come (`voter.py`), and expel
-it after `patience` seconds. Daemons that end the sessions of silent clients themselves make that needless; then
-`expel_silent` is the one place to change."""
+**Members that are dead.** A daemon with `--silence` takes a client that was killed out of its groups by itself, and one
+without keeps it as a member for as long as the daemon lives. So members here find out who is silent, by signs of life
+(`office.py`) or by votes that do not come (`voter.py`), and expel it after `patience` seconds, whichever comes first.
+That also removes who lives and hangs: its client's thread goes on, and no daemon sees it."""
 
 from __future__ import annotations
 
@@ -16,7 +16,7 @@ from ..calls import PLAIN, Attributes, expel_line, join_line, leave_line
 from ..client import Client
 from ..core import Core, Membership
 from ..errors import CallRefused, ClientClosed, HagsError, TimedOut
-from ..events import Event, Heard
+from ..events import Entered, Event, Heard, Proposal
 from ..ids import Member, Token
 
 AGAIN = 0.1  # seconds from one try of a call to the next, and somewhat more by chance
@@ -49,6 +49,12 @@ class Joined:
     def members(self) -> tuple[Member, ...]:
         """Who is a member, as this one has heard last; empty where it is none."""
         return self.membership.members if self.membership else ()
+
+    @property
+    def proposal(self) -> Proposal | None:
+        """What is voted on, also as this one joins; None where nothing is, or the daemon does not tell."""
+        found = self._core.memberships.get(self.group)
+        return found.proposal if found else None
 
     @property
     def own(self) -> Member | None:
@@ -91,6 +97,8 @@ class Joined:
     # What the client's thread calls
 
     def take(self, event: Event) -> None:
+        if isinstance(event, Entered):
+            return  # what it says is in the membership
         membership = self._core.memberships.get(self.group)
         if membership and membership.ended:
             self._is_leaving = False

@@ -79,8 +79,8 @@ class _Keeper(Voter):
         return APPROVE
 
     def _probe(self) -> None:
-        """Is what has begun this member's own change? Just then nothing of its own is under way any more, and its node
-        takes another call, which the leader will refuse."""
+        """Is what has begun this member's own change? A daemon that tells no entries shows it so: just then nothing of
+        its own is under way any more, and its node takes another call, which the leader will refuse."""
         if not self._has_probed:
             self._has_probed = True
             self._core.post_quietly(message_line(self.group, "", False), self._probed)
@@ -94,8 +94,14 @@ class _Keeper(Voter):
         self.vote()
 
     def begun(self, event: Heard) -> None:
-        if event.what != "phase":
-            self._has_probed, self._is_foreign = False, False
+        if event.what == "phase":
+            return
+        self._has_probed, self._is_foreign = False, False
+        proposal, change = self.proposal, self.change
+        if proposal is not None and change is not None and change.request is not None:
+            self._is_foreign = (proposal.asker, proposal.request) != (self.own, change.request)
+            if not self._is_foreign:
+                change.request, change.is_own = None, True
 
     def other(self, event: Event) -> None:
         change = self.change
