@@ -2,16 +2,16 @@
 _hags() {
     local word=${COMP_WORDS[COMP_CWORD]} before=${COMP_WORDS[COMP_CWORD - 1]} command=${COMP_WORDS[1]} words=
     if [ "$COMP_CWORD" = 1 ]; then
-        words='run load daemon status client --help --version'
+        words='run load daemon status client table --help --version'
     else
         case $before in
             --kinds) words='up down ring in base put heard cast asked told noted refused show' ;;
             --node) words=$(seq 1 32) ;;
-            --inc | --turns | --key) return ;;
+            --inc | --turns | --key | --silence | --mend | --gap) return ;;
             *)
                 case $command in
                     run) words='--kinds' ;;
-                    daemon) words='--node --inc --turns --lasting --remote' ;;
+                    daemon) words='--node --inc --turns --lasting --remote --entries --silence --mend --gap' ;;
                     status) words='hats hagsns hagsgr hagsvote --node --turns' ;;
                     client) words='--node --turns --key' ;;
                 esac

@@ -12,7 +12,7 @@ from dataclasses import dataclass
 TOP = pathlib.Path(__file__).resolve().parent.parent
 DOCS = "/usr/share/doc/hags"
 BULLET = r"\(bu"
-COMMANDS = ("run", "load", "daemon", "status", "client")
+COMMANDS = ("run", "load", "daemon", "status", "client", "table")
 INSTALLED = (("./hags ", "hags "), ("tools/hags-", "hags-"), ("tools/", "hags-"), ("clients/python/hagsctl", "hagsctl"))
 
 
@@ -49,7 +49,7 @@ class Page:
 def pages():
     own = ("hags", "--help"), *(("hags", command, "--help") for command in COMMANDS)
     words = Part("command-line.md", "Words"), Part("command-line.md", "Values"), Part("command-line.md", "Examples")
-    running = [Part("operating.md", it) for it in ("Starting", "Asking", "Clients on other machines", "What to watch")]
+    running = [Part("operating.md", it) for it in ("Starting", "The options of a service", "Asking", "Clients on other machines", "What to watch")]
     running += [Part("operating.md", it) for it in ("What it writes", "How fast a death is seen", "How long a daemon runs")]
     running += [Part("operating.md", "Receive buffers"), Part("operating.md", "Ports and networks")]
     settings = Part("operating.md", "Settings"), Part("formats.md", "Settings of a node")

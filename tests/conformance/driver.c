@@ -45,8 +45,72 @@ static void print_state(hags_members members, bool are_hosts, hags_bytes value) 
     print_value(value);
 }
 
+static void print_members(hags_members members) {
+    if (!members.count) putchar('-');
+    for (size_t at = 0; at < members.count; at++) {
+        if (at) putchar(',');
+        print_provider(members.list[at]);
+    }
+}
+
 static const char *const KINDS[] = {"join", "leave", "fail", "expel", "state", "message", "attrs", "reflect"};
 static const char *const STEPS[] = {"once-", "begin-", "phase", "approve", "reject", "late"};
+
+static void print_attributes(const hags_attributes *it) {
+    static const char *const batches[] = {"", " batch=joins", " batch=failures", " batch=both"};
+    if (it->by_vote) printf(" phases=n");
+    printf("%s%s", batches[it->batch], it->rejects ? " default=reject" : "");
+    if (it->limit) printf(" limit=%u", it->limit);
+    if (it->source) printf(" source=%s", it->source);
+    if (it->source_by_vote) printf(" sphases=n");
+    if (it->source_limit) printf(" slimit=%u", it->source_limit);
+}
+
+/* Who failed with the cause, or who voted with the vote, `mark` between the two. */
+static void print_marked(const hags_put *put, char mark) {
+    if (!put->providers.count) putchar('-');
+    for (size_t at = 0; at < put->providers.count; at++) {
+        hags_bytes said = hags_mark(put, at);
+        if (at) putchar(',');
+        print_provider(put->providers.list[at]);
+        printf("%c%.*s", mark, (int)said.length, said.bytes);
+    }
+}
+
+static void print_protocol(hags_protocol it) {
+    print_view(it.view);
+    printf("/%u", it.place);
+}
+
+static void print_proposal(const hags_put *put) {
+    printf("%s ", KINDS[put->kind]);
+    if (put->kind == HAGS_JOIN) print_members(put->providers);
+    else if (put->kind == HAGS_FAIL) print_marked(put, ':');
+    else if (put->kind == HAGS_REFLECT) print_protocol(put->protocol);
+    else print_provider(put->asker), printf("/%u", put->request);
+    if (put->kind == HAGS_EXPEL) putchar(' '), print_members(put->providers);
+    if (put->value.bytes) putchar(' '), print_value(put->value);
+    print_attributes(&put->attributes);
+    if (put->has_source_length) printf(" src=%u", put->source_length);
+}
+
+static void print_entry(const hags_put *put) {
+    static const char *const steps[] = {"once", "begin", "phase", "approve", "reject", "late"};
+    printf("%s ", steps[put->step]);
+    if (put->step <= HAGS_BEGIN) {
+        print_proposal(put);
+        return;
+    }
+    print_protocol(put->protocol);
+    printf(" %u ", put->phase);
+    if (put->step == HAGS_LATE_VOTERS) print_members(put->providers);
+    else print_marked(put, '=');
+    if (put->step == HAGS_PHASE || put->step == HAGS_APPROVE) {
+        putchar(' ');
+        if (put->value.bytes) print_value(put->value);
+        else putchar('-');
+    }
+}
 
 static void print_event(const hags_event *event) {
     switch (event->what) {
@@ -68,8 +132,8 @@ static void print_event(const hags_event *event) {
             printf("event cast ");
             print_provider(event->cast.provider);
             putchar(' ');
-            print_view(event->cast.protocol.view);
-            printf("/%u %u %c", event->cast.protocol.place, event->cast.phase, event->cast.vote);
+            print_protocol(event->cast.protocol);
+            printf(" %u %c", event->cast.phase, event->cast.vote);
             print_value(event->cast.value);
             break;
         case HAGS_TOLD:
@@ -88,7 +152,8 @@ static void print_event(const hags_event *event) {
         case HAGS_PUT:
             printf("event put %u ", event->put.node);
             print_view(event->put.view);
-            printf(" %s %u %s", event->put.group, event->put.place, event->put.entry);
+            printf(" %s %u ", event->put.group, event->put.place);
+            print_entry(&event->put);
             break;
         case HAGS_OTHER: stop(event->line);
     }

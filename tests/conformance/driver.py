@@ -82,6 +82,8 @@ class Driver:
     def take(self, line):
         """Does what a command says, and answers what to write."""
         command, *words = line.split(" ")
+        if self.client is None and command != "open":
+            return "did lost"  # it was given before that was told
         try:
             if command == "open":
                 return self.open(*words)

@@ -1,5 +1,6 @@
 /* A member, as a program of the Group Services interface has one: it waits with select for its descriptor and for commands,
- * approves whatever is proposed, and writes each notification as a line.
+ * approves whatever is proposed, and writes each notification as a line, those of proposals as two: `proposed` or `done`
+ * with the kind, who asks, who comes or goes and why, the proposed value and the message, `-` for what is not known.
  *
  *     subscribe, join, state TEXT, message TEXT, expel NODE, leave, quit
  *
@@ -7,6 +8,7 @@
 #define _POSIX_C_SOURCE 200809L
 #include "../../clients/c/ha_gs.h"
 
+#include <stdbool.h>
 #include <stdio.h>
 #include <stdlib.h>
 #include <string.h>
@@ -22,7 +24,26 @@ static void print_members(const ha_gs_membership_t *list) {
         printf("%c%d.%d", at ? ',' : ' ', list->gs_providers[at].gs_node_number, list->gs_providers[at].gs_instance_number);
 }
 
+static void print_bytes(bool is_there, int length, const char *bytes) {
+    if (is_there) printf(" =%.*s", length, bytes);
+    else printf(" -");
+}
+
+static void print_proposal(const char *word, ha_gs_request_t kind, const ha_gs_proposal_t *it) {
+    const ha_gs_state_value_t *value = it->gs_proposed_state_value;
+    const ha_gs_provider_message_t *message = it->gs_provider_message;
+    printf("%s %d %d.%d", word, kind, it->gs_proposed_by.gs_node_number, it->gs_proposed_by.gs_instance_number);
+    print_members(it->gs_changing_providers);
+    printf(it->gs_leave_info ? " " : " -");
+    for (int at = 0; it->gs_leave_info && at < it->gs_leave_info->gs_count; at++)
+        printf("%s%d", at ? "," : "", it->gs_leave_info->gs_leave_reasons[at]);
+    print_bytes(value, value ? value->gs_length : 0, value ? value->gs_state : NULL);
+    print_bytes(message, message ? message->gs_length : 0, message ? message->gs_message : NULL);
+    printf("\n");
+}
+
 static void on_phase(const ha_gs_n_phase_notification_t *it) {
+    print_proposal("proposed", it->gs_protocol_type, it->gs_proposal);
     printf("phase %d %d\n", it->gs_protocol_type, it->gs_proposal->gs_phase_info.gs_phase_number);
     ha_gs_rc_t code = ha_gs_vote(it->gs_provider_token, HA_GS_VOTE_APPROVE, NULL, NULL, HA_GS_NULL_VOTE);
     if (code != HA_GS_OK) printf("vote %d\n", code);
@@ -33,6 +54,7 @@ static void on_approved(const ha_gs_approved_notification_t *it) {
     printf("approved %d", it->gs_protocol_type);
     print_members(it->gs_proposal->gs_current_providers);
     printf(" =%.*s\n", value ? value->gs_length : 0, value ? value->gs_state : "");
+    print_proposal("done", it->gs_protocol_type, it->gs_proposal);
 }
 
 static void on_rejected(const ha_gs_rejected_notification_t *it) {

@@ -1,5 +1,6 @@
 """A program against the Group Services interface of clients/c at each of three daemons: it joins, votes, sets the group's
-value, sends a message, expels, leaves and subscribes, and all members are notified of the same."""
+value, sends a message, expels, leaves and subscribes, one is killed, and all members are notified of the same. The daemons
+tell entries, so each notification says who asks for what, and why who goes does."""
 import os
 import subprocess
 import time
@@ -11,7 +12,9 @@ NODES = (1, 2, 3)
 SECONDS = 120  # the longest wait for one thing
 HEARTBEAT = (1, 30)  # a node is missed after three seconds: here no view may part, however busy the machine is
 OK, BAD_MEMBER_TOKEN = 0, 8
-JOIN, LEAVE, EXPEL, STATE, MESSAGE = 1, 3, 4, 5, 6  # ha_gs_request_t
+JOIN, FAILURE, LEAVE, EXPEL, STATE, MESSAGE = 1, 2, 3, 4, 5, 6  # ha_gs_request_t
+OWN_WILL, FAILED = 0, 1  # ha_gs_leave_reason_t
+WORDS = ["--remote", "--entries", "--silence", "100"]
 
 
 class Member:
@@ -65,6 +68,13 @@ def names_of(*nodes):
     return ",".join(f"{node}.{10 + node}" for node in nodes)
 
 
+def see(members, word, kind, asker, who="-", why="-", value="-", text="-"):
+    """Waits until each of these was told what was proposed or done, whole."""
+    line = f"{word} {kind} {names_of(asker) if asker else '0.0'} {who} {why} {value} {text}"
+    for member in members:
+        member.wait_for(line, lambda lines: line in lines)
+
+
 def tell(cluster, settings, words):
     """The story of the three members. Answers how much they were notified of."""
     cluster.start()
@@ -76,27 +86,38 @@ def tell(cluster, settings, words):
             member.do("subscribe")
             member.do("join")
             wait_for_all(members[:count], JOIN, "", names_of(*NODES[:count]))
+            see(members[: count - 1], "proposed", JOIN, count, names_of(count))
+            see(members[:count], "done", JOIN, count, names_of(count))
         one.do("state red")
         wait_for_all(members, STATE, "red", names_of(1, 2, 3))
+        see(members, "proposed", STATE, 1, value="=red")
         two.do("message hello")
         wait_for_all(members, MESSAGE, "red", names_of(1, 2, 3))
+        for word in ("proposed", "done"):
+            see(members, word, MESSAGE, 2, text="=hello")
         three.do("expel 2")
         wait_for_all(members, EXPEL, "red", names_of(1, 3))
+        see([one, three], "proposed", EXPEL, 3, names_of(2), OWN_WILL)
         two.do("state blue", BAD_MEMBER_TOKEN)
+        heard_by_two = two.approvals()
+        two.do("join")
+        wait_for_all(members, JOIN, "red", names_of(1, 3, 2))
+        two.process.kill()
+        wait_for_all([one, three], FAILURE, "red", names_of(1, 3))
+        see([one, three], "done", FAILURE, None, names_of(2), FAILED)
         three.do("leave")
         wait_for_all([one, three], LEAVE, "red", names_of(1))
+        see([one, three], "done", LEAVE, 3, names_of(3), OWN_WILL)
         cluster.daemons[3].kill()
         one.wait_for("the hosts 1 and 2", lambda lines: "noted 8 1.0,2.0" in lines)
         all_heard = one.approvals()
-        for member, last in ((two, EXPEL), (three, LEAVE)):
-            heard = member.approvals()
+        for member, heard, last in ((two, heard_by_two, EXPEL), (three, three.approvals(), LEAVE)):
             start = all_heard.index(heard[0])
             if heard != all_heard[start : start + len(heard)] or not heard[-1].startswith(f"approved {last} "):
                 raise drivers.DriverError(f"node {member.node} was notified of {heard}, and node 1 of {all_heard}")
-        for member in (one, two):
-            member.process.stdin.write(b"quit\n")
-            if member.process.wait(SECONDS):
-                raise drivers.DriverError(f"node {member.node} ended with status {member.process.returncode}")
+        one.process.stdin.write(b"quit\n")
+        if one.process.wait(SECONDS):
+            raise drivers.DriverError(f"node {one.node} ended with status {one.process.returncode}")
         return sum(len(member.lines) for member in members)
     finally:
         for member in members:
@@ -109,7 +130,7 @@ def play(program, folder):
     words = drivers.compiled(drivers.HERE / "gs_member.c", folder, [drivers.C / "ha_gs.c", drivers.C / "hags.c"])
     began = time.monotonic()
     text = daemons.Plan(len(NODES), heartbeat=HEARTBEAT).settings(daemons.free_port(len(NODES)))
-    cluster = daemons.Cluster([daemons.Daemon(program, node, text, folder, words=["--remote"]) for node in NODES])
+    cluster = daemons.Cluster([daemons.Daemon(program, node, text, folder, words=WORDS) for node in NODES])
     with cluster:
         count = tell(cluster, folder / "settings-1", words)
-    return f"gsapi: three members joined, voted, sent and subscribed; {count} lines; {time.monotonic() - began:.1f} s"
+    return f"gsapi: three members joined, voted, sent and subscribed, and one was killed; {count} lines; {time.monotonic() - began:.1f} s"

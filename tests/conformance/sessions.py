@@ -2,9 +2,26 @@
 from hags_tools.comparing import Fault
 
 
-def compare_events(session, life, least):
-    """What was heard is the beginning of what the daemon wrote of this client, and so much of it at least."""
-    own = [line for line in life.lines if session.is_own(line)]
+def own_events(session, life, has_entries):
+    """What the daemon has for this client, by what it wrote: the client's own lines; and where daemons tell entries, before
+    the first `heard` of an entry the line in which the daemon put it."""
+    puts, told, events = {}, set(), []
+    for line in life.lines:
+        words = line.split(" ", 5)
+        if words[0] == "put":
+            puts[tuple(words[2:5])] = line
+        elif session.is_own(line):
+            entry = tuple(words[2:5])
+            if words[0] == "heard" and has_entries and entry not in told:
+                told.add(entry)
+                events.append(puts[entry])
+            events.append(line)
+    return events
+
+
+def compare_events(session, life, least, has_entries):
+    """What was heard is the beginning of what the daemon has for this client, and so much of it at least."""
+    own = own_events(session, life, has_entries)
     heard = session.lines
     if heard != own[: len(heard)]:
         at = next(at for at, line in enumerate(heard) if own[at : at + 1] != [line])
@@ -70,9 +87,15 @@ def undecided(session, life, begun):
 
 
 def compare_places(session, places):
-    """All clients heard the same at a place, and each provider hears the places of a view one after another."""
+    """All clients heard the same at a place, and were told the same entry there; and each provider hears the places of a
+    view one after another."""
     last = {}
     for line in session.lines:
+        if line.startswith("put "):
+            _, _, view, group, place, entry = line.split(" ", 5)
+            known = places.setdefault(("put", view, group, place), (session.name, entry))
+            if known[1] != entry:
+                raise Fault(f"{session.name}: {line}\n  {known[0]} was told {known[1]} there")
         if not line.startswith("heard "):
             continue
         _, provider, view, group, place, *said = line.split(" ")

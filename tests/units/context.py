@@ -5,7 +5,7 @@ import sys
 sys.dont_write_bytecode = True
 TOP = pathlib.Path(__file__).resolve().parents[2]
 sys.path.insert(0, str(TOP / "tools"))
-STORED = sorted(path for path in (TOP / "tests" / "cases").glob("*/*.out") if path.parent.name not in ("kinds", "load"))
+STORED = sorted(path for path in (TOP / "tests" / "cases").glob("*/*.out") if path.parent.name not in ("kinds", "load", "tables"))
 
 
 def lines_of(name):

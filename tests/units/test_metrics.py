@@ -11,14 +11,21 @@ NAMES = {metric.name for metric in metrics.METRICS}
 class Answers:
     """What a daemon says, as it is taken for a while."""
 
-    def __init__(self, view="3.1.5", members=("1.5", "2.5"), frozen=False, ring=("3.5.4", (1, 2)), votes=()):
+    def __init__(self, view="3.1.5", members=("1.5", "2.5"), frozen=False, ring=("3.5.4", (1, 2)), votes=(), itself=None):
         self.view = records.ViewStatus(view, 1, members, frozen)
         self.ring = records.RingStatus(1, ring[0], ring[1], 2)
-        self.votes = votes
+        self.votes, self.itself = votes, itself
 
     def all(self):
         group = records.GroupStatus("db", 1, 4, ("1.5.1.1",), "a%20b")
-        return {"hagsns": [self.view], "hats": [self.ring], "hagsgr": [group], "hagsvote": list(self.votes)}
+        answers = {"hagsns": [self.view], "hats": [self.ring], "hagsgr": [group], "hagsvote": list(self.votes)}
+        for line in self.itself or ():
+            answers.setdefault(line.split(" ")[0], []).append(records.read_status(line))
+        return answers
+
+
+DAEMON = "hagsd 1.5 version=0.2.0 settings=00112233aabbccdd turns=900 ticks=80 received=70 strays=2 sent=60 failed=1 keys=2 ended=4"
+CLIENTS = ("hagscl a key=7 silent=12 unread=3 members=1.5.7.1", "hagscl own key=- silent=- unread=- members=-")
 
 
 def told(*answers):
@@ -48,6 +55,34 @@ class Told(unittest.TestCase):
         found = told(Answers(), Answers("4.1.5"), Answers("4.1.5", ring=("3.5.9", (1, 2))), Answers("5.1.5", ring=("1.5.2", (1,))))
         self.assertEqual(found["hags_views_entered_total",], 3)
         self.assertEqual(found["hags_rings_formed_total", "1"], 1 + 0 + 5 + 1)
+
+    def test_what_a_daemon_says_of_itself(self):
+        found = told(Answers(itself=(DAEMON, *CLIENTS)))
+        self.assertEqual(found["hags_daemon_info", "0.2.0", "00112233aabbccdd"], 1)
+        counts = ("turns_total", "ticks_total", "datagrams_received_total", "strays_total", "datagrams_sent_total", "sends_failed_total")
+        self.assertEqual([found[f"hags_{name}",] for name in counts], [900, 80, 70, 2, 60, 1])
+        self.assertEqual((found["hags_sessions",], found["hags_sessions_ended_total",]), (2, 4))
+        self.assertEqual((found["hags_client_silent_seconds", "a"], found["hags_client_unread_events", "a"]), (1.2, 3))
+        self.assertNotIn(("hags_client_silent_seconds", "own"), found)
+        self.assertNotIn(("hags_daemon_info", "0.2.0", "00112233aabbccdd"), told(Answers()))
+
+    def test_turns_left(self):
+        said = records.read_status(DAEMON)
+        for turns, left in ((1000, 100), (900, 0), (10, 0), (metrics.LASTING, metrics.LASTING - 900)):
+            found = {name: number for name, _, number in metrics.of_counts(said, turns)}
+            self.assertEqual(found["hags_turns_left"], left)
+        self.assertNotIn("hags_turns_left", {name for name, _, _ in metrics.of_counts(said, None)})
+
+    def test_an_older_daemon_is_asked_once(self):
+        """Of itself, and again once it was started anew."""
+        settings, _ = reading.read(b"node 1\nnode 2\nbegin\n", reading.STATUS)
+        watch, asked = metrics.Watch("hags", settings, b"", 1), []
+        watch.ask = asked.append
+        for members in (("1.5", "2.5"), ("1.5",), ("1.6", "2.5"), ("1.6",)):
+            self.assertEqual(watch.of_itself(Answers(members=members).view), {})
+        self.assertEqual(asked, ["hagsd"] * 2)
+        watch.ask = lambda what: [what]
+        self.assertEqual(watch.of_itself(Answers(members=("1.7",)).view), {"hagsd": ["hagsd"], "hagscl": ["hagscl"]})
 
     def test_text(self):
         text = metrics.text_of([("hags_up", {"node": "1"}, 1), ("hags_receive_buffer_errors_total", {}, 7)])

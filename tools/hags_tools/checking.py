@@ -8,16 +8,23 @@ import stat
 
 from hags_tools import asking, reading, sockets
 
-COMMANDS = ("run", "load", "daemon", "status", "client")
+COMMANDS = ("run", "load", "daemon", "status", "client", "table")
 KINDS = ("up", "down", "ring", "in", "base", "put", "heard", "cast", "asked", "told", "noted", "refused", "show")
 STATUSES = ("hats", "hagsns", "hagsgr", "hagsvote")
-RANGES = {"--node": (1, 32), "--inc": (1, 4_294_967_295), "--turns": (1, 4_294_967_295), "--key": (1, 4_294_967_295)}
-OPTIONS = {
-    "run": ("--kinds",), "load": (), "daemon": ("--node", "--inc", "--turns"), "status": ("--node", "--turns"),
-    "client": ("--node", "--turns", "--key"),
+RANGES = {
+    "--node": (1, 32), "--inc": (1, 4_294_967_295), "--turns": (1, 4_294_967_295), "--key": (1, 4_294_967_295),
+    "--silence": (10, 1_000_000), "--mend": (10, 10_000), "--gap": (100, 3_600_000),
 }
-FLAGS = {"daemon": ("--lasting", "--remote")}  # they have no value
-MODES = {"run": reading.SCRIPT, "daemon": reading.DAEMON, "status": reading.STATUS, "client": reading.CLIENT}
+OPTIONS = {
+    "run": ("--kinds",), "load": (), "daemon": ("--node", "--inc", "--turns", "--silence", "--mend", "--gap"),
+    "status": ("--node", "--turns"), "client": ("--node", "--turns", "--key"), "table": (),
+}
+FLAGS = {"daemon": ("--lasting", "--remote", "--entries")}  # they have no value
+MODES = {
+    "run": reading.SCRIPT, "daemon": reading.DAEMON, "status": reading.STATUS, "client": reading.CLIENT,
+    "table": reading.SCRIPT,
+}
+GROUP = re.compile(r"[A-Za-z0-9_.-]{1,32}")
 PATIENCE = 2  # seconds until standard input is taken for one that never ends
 FIRST_FREE_PORT = 1024
 
@@ -110,7 +117,7 @@ class Words:
         return "" if good else f"`{value}` is not good for `{name}`: it is to be {self._good(name)}."
 
     def _of_operands(self, operands):
-        most = 1 if self.command in ("load", "status") else 0
+        most = 1 if self.command in ("load", "status", "table") else 0
         if len(operands) > most:
             word = operands[most]
             if word.startswith("-"):
@@ -125,6 +132,8 @@ class Words:
                 return f"{said}. Write one of hats (rings), hagsns (the view), hagsgr (groups), hagsvote (votes) behind `status`."
         if self.command == "load" and not (operands and reading.NUMBER.fullmatch(operands[0]) and 1 <= int(operands[0]) <= 2000):
             return "Behind `load` comes a number from 1 to 2,000."
+        if self.command == "table" and not (operands and GROUP.fullmatch(operands[0])):
+            return "Behind `table` comes a group's name: 1 to 32 letters, digits, `_`, `-` and `.`."
         return ""
 
     def _of_missing(self):
@@ -132,6 +141,9 @@ class Words:
             return f"The node is not said. Write `--node N`, N being its number in the settings, from 1 to 32."
         if {"--lasting", "--turns"} <= self.given.keys():
             return "`--lasting` and `--turns` both say how long the daemon is to run. Give one of them."
+        for it in ("--entries", "--silence"):
+            if it in self.given and "--remote" not in self.given:
+                return f"`{it}` is for clients on other machines. Write `--remote` too, or leave it out."
         return ""
 
 

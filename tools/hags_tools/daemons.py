@@ -2,6 +2,9 @@
 
 Node N has 127.0.0.N on network 1, 127.0.1.N on network 2 and so on."""
 import ctypes
+import os
+import pathlib
+import resource
 import signal
 import socket
 import subprocess
@@ -81,7 +84,9 @@ class Plan:
 
 class Daemon:
     """The daemon of a node. `lives` are the transcripts of its starts, in their order; all of its files are in `folder`.
-    `words` are words more for each start, as --remote."""
+    `words` are words more for each start, as --remote; it has no others of a service."""
+
+    STARTED = ("--plain",)  # how tools/hags-daemon starts it
 
     def __init__(self, program, node, settings, folder, turns=None, words=()):
         self.program, self.node, self.folder = str(program), node, folder
@@ -96,7 +101,7 @@ class Daemon:
         life = len(self.lives) + 1
         transcript = self.folder / f"node-{self.node}-life-{life}"
         kept = self.folder / f"incarnation-{self.node}"
-        words = [TOP / "tools" / "hags-daemon", "--kept", kept, "--program", self.program, "--node", str(self.node)]
+        words = [TOP / "tools" / "hags-daemon", *self.STARTED, "--kept", kept, "--program", self.program, "--node", str(self.node)]
         words += [*self.words, *(["--turns", str(self.turns)] if self.turns else [])]
         said = transcript.with_suffix(".said")
         with self.settings.open() as settings, transcript.open("w") as out, said.open("w") as err:
@@ -111,6 +116,10 @@ class Daemon:
     def is_alive(self):
         return self.process is not None and self.process.poll() is None
 
+    def lines(self):
+        """What its last life has written so far, but for a line that has no end yet."""
+        return self.lives[-1].read_text(encoding="ascii").split("\n")[:-1]
+
     def member(self):
         """The node with its incarnation, once its last life has written it."""
         with self.lives[-1].open() as transcript:
@@ -120,6 +129,10 @@ class Daemon:
 
     def signal(self, number):
         self.process.send_signal(number)
+
+    def memory(self):
+        """How many bytes of memory it has now."""
+        return int(pathlib.Path(f"/proc/{self.process.pid}/statm").read_text().split()[1]) * resource.getpagesize()
 
     def kill(self):
         if self.process is not None:
@@ -140,6 +153,32 @@ class Daemon:
             said = said.decode(errors="replace").strip()
             raise DaemonError(f"hags status of node {self.node}: status {asking.returncode}: {said}")
         return None if asking.returncode else lines.decode("ascii").splitlines()
+
+
+class Supervised(Daemon):
+    """A daemon with its supervisor, which starts it as a service is started, and anew after each pause. What it writes then
+    stands in one transcript, as of one life."""
+
+    STARTED = ("--supervise",)
+
+    def member(self):
+        last = next((line.split() for line in reversed(self.lines()) if line.startswith("up ")), None)
+        return last and f"{last[1]}.{last[2]}"
+
+    def pause(self, seconds, with_supervisor):
+        """Stops the daemon for so long, alone or with its supervisor, and lets it go on."""
+        stopped = [daemon_of(self.process.pid), *([self.process.pid] if with_supervisor else [])]
+        for process in stopped:
+            os.kill(process, signal.SIGSTOP)
+        time.sleep(seconds)
+        for process in stopped:
+            os.kill(process, signal.SIGCONT)
+
+
+def daemon_of(supervisor):
+    """The process of the daemon beside which this process stands; 0 where there is none now."""
+    children = pathlib.Path(f"/proc/{supervisor}/task/{supervisor}/children").read_text().split()
+    return next((int(it) for it in children if b"\0daemon\0" in pathlib.Path(f"/proc/{it}/cmdline").read_bytes()), 0)
 
 
 def die_with_parent():

@@ -1,18 +1,20 @@
 """What Prometheus is told of the daemons of this machine, from `hags status` and /proc alone.
 
 A `Watch` looks at one daemon again and again, since how long something lasts, and how often something changed, is seen in no
-single answer. What a daemon does not say of itself today (its turns, keys, unread events and strays) is not told; it has a
-place in `of_daemon`."""
+single answer. An older daemon does not answer what is asked of itself (`hagsd`, `hagscl`): then what these have is not told,
+and it is not asked again until it was started anew."""
 import os
 import pathlib
 import time
 from typing import NamedTuple
 
-from hags_tools import asking, sockets
+from hags_tools import asking, records, sockets
 
 TURNS = 50  # of 20 milliseconds, for an answer
 PROC = pathlib.Path("/proc")
 TICKS, PAGE = os.sysconf("SC_CLK_TCK"), os.sysconf("SC_PAGE_SIZE")
+TICKS_OF_A_SECOND = 10  # of a daemon
+LASTING, TURNS_UNTOLD = 2**64 - 1, 2**32 - 1  # turns of a daemon with --lasting, and of one that was told nothing
 
 
 class Metric(NamedTuple):
@@ -40,6 +42,18 @@ METRICS = (
     Metric("hags_group_entries", "gauge", "entries of a group's list in this view; at 4,096 the list is full"),
     Metric("hags_group_value_bytes", "gauge", "bytes of a group's value"),
     Metric("hags_vote_seconds", "gauge", "for how long this phase of a vote has been seen"),
+    Metric("hags_daemon_info", "gauge", "1; its version and the digest of its settings are labels, so that those of nodes can be compared"),
+    Metric("hags_sessions", "gauge", "clients on other machines that it keeps, of 1,024 at most"),
+    Metric("hags_sessions_ended_total", "counter", "sessions that it has ended, since their clients were silent"),
+    Metric("hags_client_silent_seconds", "gauge", "for how long nothing came of a client"),
+    Metric("hags_client_unread_events", "gauge", "events that it keeps for a client, which has not heard them"),
+    Metric("hags_turns_total", "counter", "turns that it has done"),
+    Metric("hags_turns_left", "gauge", "turns until it ends, by the words that it was started with"),
+    Metric("hags_ticks_total", "counter", "ticks of its node"),
+    Metric("hags_datagrams_received_total", "counter", "datagrams that it has received"),
+    Metric("hags_strays_total", "counter", "datagrams among them that brought no message and were no piece of one"),
+    Metric("hags_datagrams_sent_total", "counter", "datagrams that it has sent"),
+    Metric("hags_sends_failed_total", "counter", "datagrams that the system did not send"),
     Metric("hags_socket_dropped_total", "counter", "datagrams for which its socket had no room"),
     Metric("hags_socket_waiting_bytes", "gauge", "bytes that its socket holds and it has not taken yet"),
     Metric("hags_process_up", "gauge", "1 where there is a process of the daemon, else 0"),
@@ -70,15 +84,17 @@ class Watch:
         self.view, self.entered = None, 0
         self.rings, self.formed = {}, {}
         self.lasting = Lasting()
+        self.mute = None  # the daemon, as NODE.INC, that did not answer what it was asked of itself
         self.samples = []
 
     def look(self):
         """Looks once, and keeps what is told: a name, labels and a number each."""
         began = time.monotonic()
-        answers = {what: asking.ask(self.program, what, self.node, self.data, TURNS) for what in ("hagsns", "hats")}
+        answers = {what: self.ask(what) for what in ("hagsns", "hats")}
         is_up = None not in answers.values() and bool(answers["hagsns"])
         if is_up:
-            answers |= {what: asking.ask(self.program, what, self.node, self.data, TURNS) or [] for what in ("hagsgr", "hagsvote")}
+            answers |= {what: self.ask(what) or [] for what in ("hagsgr", "hagsvote")}
+            answers |= self.of_itself(answers["hagsns"][0])
         now = time.monotonic()
         found = [("hags_up", {}, int(is_up)), ("hags_nodes", {}, len(self.settings.nodes))]
         found += self.of_machine()
@@ -86,6 +102,16 @@ class Watch:
             found.append(("hags_answer_seconds", {}, now - began))
             found += self.of_daemon(answers, now)
         self.samples = [(name, {"node": str(self.node), **labels}, number) for name, labels, number in found]
+
+    def ask(self, what):
+        return asking.ask(self.program, what, self.node, self.data, TURNS)
+
+    def of_itself(self, view):
+        """What the daemon says of itself, where it does."""
+        member = next((it for it in view.members if records.node_of(it) == self.node), None)
+        said = None if member == self.mute else self.ask("hagsd")
+        self.mute = None if said else member
+        return {"hagsd": said, "hagscl": self.ask("hagscl") or []} if said else {}
 
     def of_daemon(self, answers, now):
         view, rings = answers["hagsns"][0], answers["hats"]
@@ -113,6 +139,21 @@ class Watch:
             yield "hags_group_value_bytes", {"group": group.group}, len(group.value) - 2 * group.value.count("%")
         for group, protocol, phase in phases:
             yield "hags_vote_seconds", {"group": group}, lasts[group, protocol, phase]
+        for said in answers.get("hagsd", ()):
+            yield from of_counts(said, self.turns_told())
+        for client in answers.get("hagscl", ()):
+            if client.key is not None:
+                yield "hags_client_silent_seconds", {"client": client.name}, client.silent / TICKS_OF_A_SECOND
+                yield "hags_client_unread_events", {"client": client.name}, client.unread
+
+    def turns_told(self):
+        """How many turns the daemon was started for; None where that is not seen."""
+        process = process_of(self.settings.port + self.node, self.node)
+        words = words_of(process) if process else []
+        if b"--lasting" in words:
+            return LASTING
+        told = [int(after) for word, after in zip(words, words[1:]) if word == b"--turns" and after.isdigit()]
+        return told[0] if told else TURNS_UNTOLD if words else None
 
     def note_ring(self, ring):
         """Counts the rings since the last look: those of one leader are numbered one after another."""
@@ -133,6 +174,21 @@ class Watch:
             yield from of_process(process)
 
 
+def of_counts(said, turns):
+    """What a daemon has counted, of so many turns for which it was started."""
+    yield "hags_daemon_info", {"version": said.version, "settings": said.settings}, 1
+    yield "hags_sessions", {}, said.keys
+    yield "hags_sessions_ended_total", {}, said.ended
+    yield "hags_turns_total", {}, said.turns
+    if turns is not None:
+        yield "hags_turns_left", {}, max(0, turns - said.turns)
+    yield "hags_ticks_total", {}, said.ticks
+    yield "hags_datagrams_received_total", {}, said.received
+    yield "hags_strays_total", {}, said.strays
+    yield "hags_datagrams_sent_total", {}, said.sent
+    yield "hags_sends_failed_total", {}, said.failed
+
+
 def process_of(port, node):
     """The folder under /proc of the process that has the port; where one may not see whose that is, of one that was started as
     the daemon of the node."""
@@ -147,11 +203,16 @@ def process_of(port, node):
     return None
 
 
-def is_daemon(folder, node):
+def words_of(folder):
+    """The words that started the process of this folder."""
     try:
-        words = (folder / "cmdline").read_bytes().split(b"\0")
+        return (folder / "cmdline").read_bytes().split(b"\0")
     except OSError:
-        return False
+        return []
+
+
+def is_daemon(folder, node):
+    words = words_of(folder)
     return words[1:2] == [b"daemon"] and any(pair == (b"--node", b"%d" % node) for pair in zip(words, words[1:]))
 
 

@@ -16,6 +16,9 @@ GROUPS = {
 STATUSES = ("hats", "hagsns", "hagsgr", "hagsvote")
 TEXTS = ("red", "green", "blue", "x=1", "~", "%00%FF", "a%20b", "%2C", "up")
 LONG_GROUP = "g" * 33
+# The group of tables, whose joins are voted on, and the keys that its messages put and take out.
+TABLE_GROUP = "db"
+KEYS = tuple(f"key{number}" for number in range(6))
 MASK = (1 << 64) - 1
 
 
@@ -57,13 +60,15 @@ class Chance:
 
 @dataclass(frozen=True)
 class Wanted:
-    """What is asked of a script; what is None is left to the seed. A fault is one line that is outside the grammar."""
+    """What is asked of a script; what is None is left to the seed. A fault is one line that is outside the grammar. With
+    tables the messages to one group put pairs into a map and take them out, and newcomers are sent the map in phases."""
 
     mode: str = None
     nodes: int = None
     level: int = None
     lines: int = None
     fault: bool = False
+    table: bool = False
 
 
 @dataclass
@@ -89,6 +94,7 @@ class Script:
     clients: dict = field(default_factory=dict)
     sessions: set = field(default_factory=set)
     providers: list = field(default_factory=list)
+    table: bool = False
 
     def add(self, *words):
         self.lines.append(" ".join(str(word) for word in words))
@@ -114,10 +120,11 @@ def add_words(parser):
     parser.add_argument("--level", type=int, choices=(1, 2), help="the level that the nodes speak")
     parser.add_argument("--lines", type=int, metavar="N", help="how many random lines, about")
     parser.add_argument("--fault", action="store_true", help="one line is outside the grammar")
+    parser.add_argument("--table", action="store_true", help=f"messages to the group {TABLE_GROUP} write a table")
 
 
 def wanted_of(options):
-    return Wanted(options.mode, options.nodes, options.level, options.lines, options.fault)
+    return Wanted(options.mode, options.nodes, options.level, options.lines, options.fault, options.table)
 
 
 def random_script(seed, wanted=Wanted()):
@@ -126,7 +133,7 @@ def random_script(seed, wanted=Wanted()):
     count = chance.between(1, 5)
     nodes = list(range(1, 1 + (wanted.nodes or count)))
     mode = chance.one_of(("fixed", "asked", "rings"))
-    script = Script(chance, wanted.mode or mode, nodes)
+    script = Script(chance, wanted.mode or mode, nodes, table=wanted.table)
     length = chance.between(30, 120)
     _settings(script, wanted.level)
     _beginning(script)
@@ -357,11 +364,20 @@ def _join(script):
     name = chance.one_of(sorted(script.sessions if chance.happens(90) else script.clients))
     group = chance.weighted({"db": 40, "disk": 30, "a": 20, "log.x-1_y": 15, LONG_GROUP: 1, "HostMembership": 1})
     instance = chance.between(0, 5)
-    script.add("join", name, group, instance, *_attributes(chance, group))
+    if script.table:
+        group, instance = TABLE_GROUP if chance.happens(80) else group, chance.between(0, 50)
+    script.add("join", name, group, instance, *_attributes_in(script, group))
     node = script.clients[name]
     script.requests[node] = script.requests.get(node, 0) + 1
     word = f"{node}.{script.incarnations.get(node, 1)}.{instance}.{script.requests[node]}"
     script.providers.append(Provider(name, group, word))
+
+
+def _attributes_in(script, group):
+    """Joins of the group of tables are mostly voted on: else nobody is sent the map."""
+    if script.table and group == TABLE_GROUP and script.chance.happens(95):
+        return ["phases=n"]
+    return _attributes(script.chance, group)
 
 
 def _attributes(chance, group):
@@ -387,6 +403,19 @@ def _text(chance):
     return "v" * chance.one_of((255, 256, 257, 1024, 1025))
 
 
+def _write(chance):
+    """A message to a table: a pair, mostly with a long value, so that the map goes in several pieces; a key that is taken
+    out; or a text as another group has it."""
+    kind = chance.weighted({"long": 8, "short": 4, "out": 2, "text": 1})
+    key = chance.one_of(KEYS)
+    if kind == "text":
+        return _text(chance)
+    if kind == "out":
+        return key
+    length = chance.between(400, 1000) if kind == "long" else chance.between(0, 9)
+    return key + "=" + chance.one_of("vwx") * length
+
+
 PROVIDER_CALLS = {
     "state": 20, "message": 14, "vote": 14, "leave": 6, "expel": 8, "attrs": 5, "subscribe": 7, "unsubscribe": 3, "goodbye": 4,
 }
@@ -400,6 +429,10 @@ def _provider_call(script):
         name, group = chance.one_of(sorted(script.clients)), chance.one_of(list(GROUPS))
     phases = chance.one_of("1n")
     kind = chance.weighted(PROVIDER_CALLS)
+    if script.table and group == TABLE_GROUP and chance.happens(60):
+        script.add("message", name, group, phases, _write(chance))
+        script.requests[script.clients[name]] = script.requests.get(script.clients[name], 0) + 1
+        return
     if kind in ("state", "message"):
         script.add(kind, name, group, phases, _text(chance))
     elif kind == "vote":

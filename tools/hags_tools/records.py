@@ -203,6 +203,32 @@ class VoteStatus(NamedTuple):
     waiting: tuple | None
 
 
+class DaemonStatus(NamedTuple):
+    """The line of `hags status hagsd`. All counts are of the daemon's life."""
+
+    member: str  # the node with its incarnation
+    version: str
+    settings: str  # the digest of their lines up to `begin`
+    turns: int
+    ticks: int
+    received: int
+    strays: int
+    sent: int
+    failed: int
+    keys: int
+    ended: int
+
+
+class ClientStatus(NamedTuple):
+    """A line of `hags status hagscl`; of a client of the settings the key and what goes with it is None."""
+
+    name: str
+    key: int | None
+    silent: int | None  # ticks
+    unread: int | None  # events
+    members: tuple
+
+
 class Show(NamedTuple):
     node: int
     status: RingStatus | ViewStatus | GroupStatus | VoteStatus
@@ -335,7 +361,19 @@ def _vote_status(words):
     return VoteStatus(words[0], words[1], int(own["phase"]), own["kind"], waiting)
 
 
+def _daemon_status(words):
+    own = _fields(words[1:])
+    return DaemonStatus(words[0], own["version"], own["settings"], *(int(own[it]) for it in DaemonStatus._fields[3:]))
+
+
+def _client_status(words):
+    own = _fields(words[1:])
+    of_key = (None if own[it] == "-" else int(own[it]) for it in ("key", "silent", "unread"))
+    return ClientStatus(words[0], *of_key, items(own["members"]))
+
+
 _STATUSES = {"hats": _ring_status, "hagsns": _view_status, "hagsgr": _group_status, "hagsvote": _vote_status}
+_OF_DAEMONS = {"hagsd": _daemon_status, "hagscl": _client_status}  # no line of a transcript shows these
 
 
 def _status(words):
@@ -395,8 +433,9 @@ def kind_of(record):
 
 def read_status(line):
     """What a line of `hags status` says."""
+    words = line.split(" ")
     try:
-        return _status(line.split(" "))
+        return _OF_DAEMONS[words[0]](words[1:]) if words[0] in _OF_DAEMONS else _status(words)
     except (KeyError, ValueError, IndexError) as error:
         raise NoRecord(f"no line of a status: {line}") from error
 

@@ -1,4 +1,5 @@
-"""Stays beside a daemon: tells systemd that it is ready and alive, hands signals on, and says what to do where it ends."""
+"""Stays beside a daemon: tells systemd that it is ready and alive, hands signals on, starts it anew where it was paused, and
+says what to do where it ends otherwise."""
 import ctypes
 import os
 import select
@@ -12,6 +13,7 @@ from hags_tools import asking, checking, reading
 DIE_WITH_PARENT = 1  # PR_SET_PDEATHSIG of Linux
 SOON, SELDOM = 0.2, 10  # seconds from one question to the next, until it is ready and then
 TURNS = 50  # of 20 milliseconds, for an answer
+PAUSED = 12  # the status of a daemon at a pause (--gap)
 TOLD = {signal.SIGTERM, signal.SIGINT, signal.SIGHUP}
 ENDS = {
     3: "Memory has run out, or the limit of its memory (MemoryMax= of the unit). What it knew of groups is gone with it; it may start again.",
@@ -36,45 +38,61 @@ def before_start():
     signal.signal(signal.SIGHUP, signal.SIG_IGN)
 
 
-class Supervisor:
-    """Beside the daemon that these words start, of a node in this incarnation."""
+def file_of(settings):
+    """The settings as a file that can be read again."""
+    file = os.memfd_create("settings")
+    os.write(file, settings)
+    return file
 
-    def __init__(self, words, node, incarnation):
-        self.words, self.node, self.member = words, node, f"{node}.{incarnation}"
+
+class Supervisor:
+    """Beside the daemon of a node that these words start with these settings, each time in the next incarnation, which the
+    function `raise_incarnation` keeps and gives. The settings are bytes, or None where standard input cannot be read."""
+
+    def __init__(self, words, node, settings, raise_incarnation):
+        self.words, self.node, self.settings, self.raise_incarnation = words, node, settings or b"", raise_incarnation
+        self.input = 0 if settings is None else file_of(settings)
         self.program = words[0]
         self.is_ready = self.is_ending = False
-        self.view = None  # as it was told last
+        self.view = None  # of this incarnation, as it was told last
         watchdog = int(os.environ.get("WATCHDOG_USEC", 0)) / 1_000_000
         self.pause = min(SELDOM, watchdog / 4) if watchdog else SELDOM
 
     def run(self):
-        """Runs the daemon to its end, and answers its status; of one that a signal has ended 128 and the signal's number."""
-        self.settings = sys.stdin.buffer.read()
-        wake, wakes = socket.socketpair()
-        for end in (wake, wakes):
+        """Runs the daemon to its end, anew after each pause, and answers its status; of one that a signal has ended 128 and the
+        signal's number."""
+        self.wake, wakes = socket.socketpair()
+        for end in (self.wake, wakes):
             end.setblocking(False)
         signal.set_wakeup_fd(wakes.fileno(), warn_on_full_buffer=False)
         for number in TOLD:
             signal.signal(number, lambda *_: None)
-        with subprocess.Popen(self.words, stdin=self.input(), preexec_fn=before_start) as self.daemon:
+        while (status := self.live()) == PAUSED and not self.is_ending:
+            self.say(
+                "the daemon was paused for as long as --gap says, or longer, and has ended before it disturbed anybody. It "
+                "starts anew at once, in the next incarnation; what its clients had joined is gone"
+            )
+        return self.end(status)
+
+    def live(self):
+        """Runs the daemon once, and answers how it ended."""
+        incarnation = self.raise_incarnation()
+        self.member, self.view = f"{self.node}.{incarnation}", None
+        words = [*self.words, "--inc", str(incarnation)]
+        if self.input:
+            os.lseek(self.input, 0, os.SEEK_SET)
+        with subprocess.Popen(words, stdin=self.input, preexec_fn=before_start) as self.daemon:
             end = os.pidfd_open(self.daemon.pid)
             while True:
-                ready, _, _ = select.select([end, wake], [], [], self.pause if self.is_ready else SOON)
+                ready, _, _ = select.select([end, self.wake], [], [], self.pause if self.is_ready and self.view else SOON)
                 if end in ready:
                     break
-                if wake in ready:
-                    self.hear(wake.recv(4096))
+                if self.wake in ready:
+                    self.hear(self.wake.recv(4096))
                 elif not self.is_ending:
                     self.look()
             os.close(end)
-        return self.end(self.daemon.returncode)
-
-    def input(self):
-        """The settings as a file that can be read again."""
-        file = os.memfd_create("settings")
-        os.write(file, self.settings)
-        os.lseek(file, 0, os.SEEK_SET)
-        return file
+        return self.daemon.returncode
 
     def hear(self, signals):
         for number in signals:

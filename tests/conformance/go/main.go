@@ -83,6 +83,10 @@ func (d *driver) wait(commands <-chan string) bool {
 
 // carryOut does what a command says, and writes what is heard meanwhile.
 func (d *driver) carryOut(command string) {
+	if d.client == nil && !strings.HasPrefix(command, "open ") {
+		fmt.Println("did lost") // it was given before that was told
+		return
+	}
 	before, done := d.client, make(chan error)
 	go func() { done <- d.do(command) }()
 	var events <-chan hags.Event
