@@ -42,7 +42,7 @@ opened_first d (o ∷ os) ts = opened_first (did d (Opens o)) os ts
 
 pub lives_are_actions : LivesAreActions
 unfolding lived
-lives_are_actions c me incarnation life = opened_first (begun_for life.remote c me incarnation life.start) life.opening life.turns
+lives_are_actions c me incarnation life = opened_first (begun_for life.service c me incarnation life.start) life.opening life.turns
 
 pub opens_done : (d : Daemon) (os : List Opening) → opened_all d os ≡ did_all d (map Opens os)
 unfolding opened_all did_all did

@@ -10,9 +10,11 @@ use Rattle.node_state.specs.Bytes.{event_of}
 use Rattle.node_state.specs.Step.{NodeEvent, Ticks, Asks, Calls, stepped, started}
 use Rattle.remote_session.specs.Daemon.{SeenUp, NotUp, EndedKey, KeysFull, KnownKey, CallMade}
 use Rattle.remote_clients.specs.declared.sessions.Sessions.{Sessions}
-use Rattle.daemon_model.specs.declared.options.RemoteService.{RemoteService}
-use Rattle.daemon_model.specs.Sent.{Exchange, plain, said, as_sent, message_calls, sent_calls}
-use Rattle.daemon_model.specs.Daemon.{Daemon, Life, left_for, stepped_for, fresh, begun_for, opened, is_due, ticked_if, ticked, joined_by, received, given, up_in, with_up, call_in, key_called, line_carried, called_by, down_in, down_sent, brought, given_on, network_of, heard, goodbye_in, goodbye_said, key_over, mended, lived}
+use Rattle.self_questions.specs.declared.messages.SelfQuestion.{SelfQuestion}
+use Rattle.self_questions.specs.Messages.{question_of, reply_text}
+use Rattle.daemon_model.specs.declared.options.Service.{Service}
+use Rattle.daemon_model.specs.Sent.{Exchange, plain, as_sent, sent_calls}
+use Rattle.daemon_model.specs.Daemon.{Daemon, Life, left_for, stepped_for, fresh, begun_for, opened, is_due, ticked_if, ticked, joined_by, received, given, up_in, with_up, call_in, key_called, line_carried, called_by, down_in, said_back, sent_back, down_sent, brought, self_text, told_itself, asked, given_on, network_of, heard, goodbye_in, goodbye_said, key_over, mended, lived}
 use Rattle.daemon_model.specs.Actions.{Action, did, did_all, life_actions}
 use Rattle.daemon_model.specs.Actions as actions
 use Rattle.daemon_model.specs.Doings.{Doing, Reads, Exchanges, Writes, step_doings, since, doings, doings_of, life_doings, exchanges_in, records_in}
@@ -75,9 +77,12 @@ pub adds_called : (key : ℕ) (line : List ℕ) (f : Answering) (d : Daemon) →
 unfolding called_by
 adds_called key line f d = adds_line key (call_in d.sessions d.me key line) f d
 
+adds_back : (network : ℕ) (message : List ℕ) (d : Daemon) → Adds d (sent_back network message d)
+adds_back network message d = record { calls = said_back network message d; called = refl; records = []; recorded = sym (append-nil d.records) }
+
 pub adds_down : (key network : ℕ) (d : Daemon) → Adds d (down_sent key network d)
 unfolding down_sent
-adds_down key network d = record { calls = map (said d.number) (message_calls d.me d.incarnation d.number 0 network (down_in d.sessions key)); called = refl; records = []; recorded = sym (append-nil d.records) }
+adds_down key network d = adds_back network (down_in d.sessions key) d
 
 adds_brought : (u : SeenUp) (network : ℕ) (message : List ℕ) (f : Answering) (d : Daemon) → Adds d (brought u network message f d)
 unfolding brought given
@@ -88,10 +93,15 @@ adds_brought (KnownKey key) network message f d = adds_on d (with_up message d) 
 adds_brought (CallMade key line) network message f d =
     adds_on d (with_up message d) _ (adds_sessions d _) (adds_on (with_up message d) (called_by key line f (with_up message d)) _ (adds_called key line f (with_up message d)) (adds_down key network (called_by key line f (with_up message d))))
 
+adds_asked : (o : Option SelfQuestion) (network : ℕ) (message : List ℕ) (f : Answering) (d : Daemon) → Adds d (asked o network message f d)
+unfolding asked told_itself
+adds_asked None network message f d = adds_brought (up_in d.sessions message) network message f d
+adds_asked (Some q) network message f d = adds_back network (reply_text q (self_text q.what d)) d
+
 pub adds_given : (network : ℕ) (message : Option (List ℕ)) (f : Answering) (d : Daemon) → Adds d (given_on network message f d)
 unfolding given_on
 adds_given network None f d = adds_none d
-adds_given network (Some message) f d = adds_brought (up_in d.sessions message) network message f d
+adds_given network (Some message) f d = adds_asked (question_of message) network message f d
 
 adds_tick : (moment : ℕ) (f : Answering) (due : Bool) (d : Daemon) → Adds d (ticked_if due moment f d)
 adds_tick moment f true d = let h = adds_step None f Ticks (record d { last = moment }) in record { calls = h.calls; called = h.called; records = h.records; recorded = h.recorded }
@@ -183,16 +193,16 @@ unfolding did_all doings_of
 shares_all d [] = shares_none d
 shares_all d (a ∷ acts) = shares_on d (did d a) (did_all (did d a) acts) (doings d a) (doings_of (did d a) acts) (shares_did d a) (shares_all (did d a) acts)
 
-begun_adds : (remote : RemoteService) (c : Config) (me incarnation moment : ℕ) → Adds (fresh remote c me incarnation moment) (begun_for remote c me incarnation moment)
+begun_adds : (service : Service) (c : Config) (me incarnation moment : ℕ) → Adds (fresh service c me incarnation moment) (begun_for service c me incarnation moment)
 unfolding begun_for
-begun_adds remote c me incarnation moment = adds_left None (fresh remote c me incarnation moment) (started c me incarnation)
+begun_adds service c me incarnation moment = adds_left None (fresh service c me incarnation moment) (started c me incarnation)
 
-pub life_shares : (c : Config) (me incarnation : ℕ) (life : Life) → Shares (fresh life.remote c me incarnation life.start) (lived c me incarnation life) (life_doings c me incarnation life)
+pub life_shares : (c : Config) (me incarnation : ℕ) (life : Life) → Shares (fresh life.service c me incarnation life.start) (lived c me incarnation life) (life_doings c me incarnation life)
 unfolding life_doings
 life_shares c me incarnation life =
-    let d : Daemon = fresh life.remote c me incarnation life.start in
-    let e : Daemon = begun_for life.remote c me incarnation life.start in
-    let first : Shares d e (since d e) = shares_since d e (begun_adds life.remote c me incarnation life.start) in
+    let d : Daemon = fresh life.service c me incarnation life.start in
+    let e : Daemon = begun_for life.service c me incarnation life.start in
+    let first : Shares d e (since d e) = shares_since d e (begun_adds life.service c me incarnation life.start) in
     let next : Shares e (lived c me incarnation life) (doings_of e (life_actions life)) =
     subst (λ (f : Daemon). Shares e f (doings_of e (life_actions life))) (sym (lives_are_actions c me incarnation life)) (shares_all e (life_actions life)) in
     let read : Shares d e (Reads life.start ∷ since d e) = record { calls = first.calls; records = first.records } in

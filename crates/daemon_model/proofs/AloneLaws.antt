@@ -8,25 +8,33 @@ use Rattle.node_state.specs.Bytes.{event_of}
 use Rattle.node_state.specs.HandOn.{Answering}
 use Rattle.node_state.specs.Step.{NodeEvent, Ticks, Asks, Calls, stepped}
 use Rattle.remote_clients.specs.declared.sessions.Sessions.{Sessions}
+use Rattle.self_questions.specs.declared.messages.SelfQuestion.{SelfQuestion}
+use Rattle.self_questions.specs.Messages.{question_of}
 use Rattle.remote_clients.specs.Entries.{noted_with}
 use Rattle.remote_clients.specs.Ending.{session_ended}
+use Rattle.daemon_model.specs.declared.options.Service.{Service}
 use Rattle.daemon_model.specs.declared.options.RemoteService.{RemoteService}
-use Rattle.daemon_model.specs.declared.options.RemoteService.TheVariants as service
-use Rattle.daemon_model.specs.Daemon.{Daemon, Opening, KeyEnd, Turn, Life, left_for, stepped_for, sessions_if, begun_for, opened, opened_all, is_due, counted_in, ticked_if, ticked, joined_by, received, given, up_in, brought, given_on, network_of, heard, goodbye_in, goodbye_said, key_over, key_ends, keys_over, mended, mended_if, kept_up, turned, turned_all, lived}
+use Rattle.daemon_model.specs.declared.options.RemoteService.TheVariants as remotes
+use Rattle.daemon_model.specs.Daemon.{Daemon, Opening, KeyEnd, Turn, Life, left_for, stepped_for, sessions_if, begun_for, opened, opened_all, is_due, counted_in, ticked_if, ticked, joined_by, received, given, up_in, brought, told_itself, asked, AsksNothing, given_on, network_of, heard, goodbye_in, goodbye_said, key_over, key_ends, keys_over, mended, mended_if, kept_up, turned, turned_all, lived}
 
 abbrev pub IsAlone : Daemon → Type 0
 IsAlone d = d.sessions ≡ None
 
--- ---- a message is the node's
+-- ---- a message that is no question about the daemon itself is the node's
 
-pub given_alone : (network : ℕ) (message : Option (List ℕ)) (f : Answering) (d : Daemon) → IsAlone d → given_on network message f d ≡ given message f d
-unfolding given_on given brought
-given_alone network None f d e = refl
-given_alone network (Some m) f d e = ap (λ (s : Option Sessions). brought (up_in s m) network m f d) e
+asked_alone : (o : Option SelfQuestion) (network : ℕ) (m : List ℕ) (f : Answering) (d : Daemon) → IsAlone d → o ≡ None → asked o network m f d ≡ given (Some m) f d
+unfolding asked given brought
+asked_alone None network m f d e q = ap (λ (s : Option Sessions). brought (up_in s m) network m f d) e
+asked_alone (Some x) network m f d e q = absurd cc
 
-pub heard_alone : (d : Daemon) (got : LinkCall) (f : Answering) → IsAlone d → heard got f d ≡ given (joined_by got d.joining).message f (received got d)
+pub given_alone : (network : ℕ) (message : Option (List ℕ)) (f : Answering) (d : Daemon) → IsAlone d → AsksNothing message → given_on network message f d ≡ given message f d
+unfolding given_on given
+given_alone network None f d e q = refl
+given_alone network (Some m) f d e q = asked_alone (question_of m) network m f d e q
+
+pub heard_alone : (d : Daemon) (got : LinkCall) (f : Answering) → IsAlone d → AsksNothing (joined_by got d.joining).message → heard got f d ≡ given (joined_by got d.joining).message f (received got d)
 unfolding heard received
-heard_alone d got f e = given_alone (network_of got) (joined_by got d.joining).message f (received got d) e
+heard_alone d got f e q = given_alone (network_of got) (joined_by got d.joining).message f (received got d) e q
 
 -- ---- and it stays so
 
@@ -69,12 +77,21 @@ kept_alone : (d : Daemon) (t : Turn) → IsAlone d → IsAlone (kept_up d t)
 kept_alone d t h =
     mends_alone t.mends (keys_over t.ends (ticked t.moment t.tick d)) (keys_alone t.ends (ticked t.moment t.tick d) (tick_alone (is_due d.last t.moment) t.moment t.tick d h))
 
+said_alone : (o : Option SelfQuestion) (network : ℕ) (m : List ℕ) (f : Answering) (d : Daemon) → IsAlone d → IsAlone (asked o network m f d)
+unfolding asked told_itself
+said_alone None network m f d h = ap (λ (q : Daemon). q.sessions) (asked_alone None network m f d h refl) ∙ message_alone (Some m) f d h
+said_alone (Some x) network m f d h = h
+
+on_alone : (network : ℕ) (message : Option (List ℕ)) (f : Answering) (d : Daemon) → IsAlone d → IsAlone (given_on network message f d)
+unfolding given_on
+on_alone network None f d h = h
+on_alone network (Some m) f d h = said_alone (question_of m) network m f d h
+
 pub turned_alone : (d : Daemon) (t : Turn) → IsAlone d → IsAlone (turned d t)
-unfolding turned
+unfolding turned heard
 turned_alone d t h =
     let e : Daemon = kept_up d t in
-    let alone : IsAlone e = kept_alone d t h in
-    ap (λ (q : Daemon). q.sessions) (heard_alone e t.got t.answers alone) ∙ message_alone (joined_by t.got e.joining).message t.answers (received t.got e) (received_alone t.got e alone)
+    on_alone (network_of t.got) (joined_by t.got e.joining).message t.answers (received t.got e) (received_alone t.got e (kept_alone d t h))
 
 pub turned_all_alone : (d : Daemon) (ts : List Turn) → IsAlone d → IsAlone (turned_all d ts)
 unfolding turned_all
@@ -90,12 +107,12 @@ unfolding opened_all
 opened_all_alone d [] h = h
 opened_all_alone d (o ∷ os) h = opened_all_alone (opened d o) os (opened_alone d o h)
 
-pub begun_alone : (remote : RemoteService) (c : Config) (me incarnation moment : ℕ) → remote ≡ service.Off → IsAlone (begun_for remote c me incarnation moment)
+pub begun_alone : (service : Service) (c : Config) (me incarnation moment : ℕ) → service.remote ≡ remotes.Off → IsAlone (begun_for service c me incarnation moment)
 unfolding begun_for
-begun_alone remote c me incarnation moment e = left_alone None _ _ (ap (λ (r : RemoteService). sessions_if r incarnation) e)
+begun_alone service c me incarnation moment e = left_alone None _ _ (ap (λ (r : RemoteService). sessions_if r incarnation) e)
 
-pub lived_alone : (c : Config) (me incarnation : ℕ) (life : Life) → life.remote ≡ service.Off → IsAlone (lived c me incarnation life)
+pub lived_alone : (c : Config) (me incarnation : ℕ) (life : Life) → life.service.remote ≡ remotes.Off → IsAlone (lived c me incarnation life)
 unfolding lived
 lived_alone c me incarnation life e =
-    turned_all_alone (opened_all (begun_for life.remote c me incarnation life.start) life.opening) life.turns
-    (opened_all_alone (begun_for life.remote c me incarnation life.start) life.opening (begun_alone life.remote c me incarnation life.start e))
+    turned_all_alone (opened_all (begun_for life.service c me incarnation life.start) life.opening) life.turns
+    (opened_all_alone (begun_for life.service c me incarnation life.start) life.opening (begun_alone life.service c me incarnation life.start e))

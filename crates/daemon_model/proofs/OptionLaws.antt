@@ -3,7 +3,7 @@ use Rattle.std.proofs.Common.{◌≡◌, ℕ, Bool, true, false, List, [], ◌�
 use Rattle.std.specs.Prelude.{map, is_some}
 use Rattle.node_state.specs.HandOn.{Answering}
 use Rattle.daemon_model.specs.declared.options.Options.{Options}
-use Rattle.daemon_model.specs.declared.options.RemoteService.{RemoteService}
+use Rattle.daemon_model.specs.declared.options.Service.{Service}
 use Rattle.daemon_model.specs.Daemon.{Daemon, KeyEnd, Turn, is_due, ticked, heard, keys_over, mended_if, turned}
 use Rattle.daemon_model.specs.Options.{plainly, keys_due, is_long_apart, apart_in, IsPlain, KeepsIf, paced, NothingUnasked, PlainFollows, PlainTurns}
 
@@ -28,14 +28,14 @@ nothing_unasked o p d [] silence mend h = tt
 nothing_unasked o p d (t ∷ ts) silence mend h =
     (plain_if (is_due d.last t.moment) o p.apart d t silence mend h.0.keeps, nothing_unasked o (paced o p d t) (turned d t) ts silence mend h.1)
 
-plain_keeps : (due : Bool) (remote : RemoteService) (ticks : ℕ) (d : Daemon) (t : Turn) → IsPlain t → KeepsIf due (plainly remote) ticks d t
-plain_keeps true remote ticks d t h = record { ends = ap (λ (es : List KeyEnd). map (λ (e : KeyEnd). e.key) es) h.ends; mends = ap is_some h.mends }
-plain_keeps false remote ticks d t h = h
+plain_keeps : (due : Bool) (service : Service) (ticks : ℕ) (d : Daemon) (t : Turn) → IsPlain t → KeepsIf due (plainly service) ticks d t
+plain_keeps true service ticks d t h = record { ends = ap (λ (es : List KeyEnd). map (λ (e : KeyEnd). e.key) es) h.ends; mends = ap is_some h.mends }
+plain_keeps false service ticks d t h = h
 
 pub plain_follows : PlainFollows
-plain_follows remote p d [] h = tt
-plain_follows remote p d (t ∷ ts) h =
-    (record { in_time = refl; keeps = plain_keeps (is_due d.last t.moment) remote p.apart d t h.0 }, plain_follows remote (paced (plainly remote) p d t) (turned d t) ts h.1)
+plain_follows service p d [] h = tt
+plain_follows service p d (t ∷ ts) h =
+    (record { in_time = refl; keeps = plain_keeps (is_due d.last t.moment) service p.apart d t h.0 }, plain_follows service (paced (plainly service) p d t) (turned d t) ts h.1)
 
 pub plain_turns : PlainTurns
 unfolding turned

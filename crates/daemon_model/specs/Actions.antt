@@ -44,7 +44,7 @@ life_actions life = map Opens life.opening ++ flat_map turn_actions life.turns
 
 -- a daemon after a life is that after its acts
 abbrev pub LivesAreActions : Type 0
-LivesAreActions = (c : Config) (me incarnation : ℕ) (life : Life) → lived c me incarnation life ≡ did_all (begun_for life.remote c me incarnation life.start) (life_actions life)
+LivesAreActions = (c : Config) (me incarnation : ℕ) (life : Life) → lived c me incarnation life ≡ did_all (begun_for life.service c me incarnation life.start) (life_actions life)
 
 -- opens each word of this file, for a computation
 unfoldable pub actions_opens : Unit {0}

@@ -1,5 +1,5 @@
 -- What a daemon does: a fold over what comes to it from outside, turn by turn.
-use Rattle.std.specs.Prelude.{ℕ, ◌+◌, ◌-◌, ◌==◌, min, nat_le, Bool, true, false, List, [], ◌∷◌, ◌++◌, not, map, fold, flat_map, Option, Some, None, option_map, if◌then◌else◌}
+use Rattle.std.specs.Prelude.{◌≡◌, ℕ, ◌+◌, ◌-◌, ◌==◌, min, nat_le, Bool, true, false, List, [], ◌∷◌, ◌++◌, length, not, map, fold, flat_map, Option, Some, None, option_map, if◌then◌else◌}
 use Rattle.hags_io.specs.declared.link.LinkCall.{LinkCall}
 use Rattle.hags_io.specs.declared.link.LinkCall.TheVariants as call
 use Rattle.piece_link.specs.Joining.{Joining, Joined, taken}
@@ -24,14 +24,25 @@ use Rattle.remote_clients.specs.Clients.{goodbye_owed}
 use Rattle.remote_clients.specs.Sessions.{sessions_new, call_for, is_refused, finished, turned_down}
 use Rattle.remote_clients.specs.Entries.{noted_with}
 use Rattle.remote_clients.specs.Ending.{session_ended}
+use Rattle.self_questions.specs.declared.messages.SelfWhat.{SelfWhat}
+use Rattle.self_questions.specs.declared.messages.SelfWhat.TheVariants.{Hagscl, Hagsd}
+use Rattle.self_questions.specs.declared.messages.SelfQuestion.{SelfQuestion}
+use Rattle.self_questions.specs.Messages.{question_of, reply_text}
+use Rattle.daemon_model.specs.declared.counts.ReceiveCounts.{ReceiveCounts}
+use Rattle.daemon_model.specs.declared.counts.Counts.{Counts}
+use Rattle.daemon_model.specs.declared.options.About.{About}
+use Rattle.daemon_model.specs.declared.options.Service.{Service}
 use Rattle.daemon_model.specs.declared.options.RemoteService.{RemoteService}
-use Rattle.daemon_model.specs.declared.options.RemoteService.TheVariants as service
+use Rattle.daemon_model.specs.declared.options.RemoteService.TheVariants as remotes
+use Rattle.daemon_model.specs.Counts.{one_more, sent_more, nothing_counted, counted_by}
+use Rattle.daemon_model.specs.SelfLines.{clients_text, daemon_text}
 use Rattle.daemon_model.specs.Sent.{Exchange, plain, said, as_sent, number_if, message_calls, sent_calls, number_after}
 
 -- Where a daemon stands, and what it did: which node it is, in which incarnation; its node, at work; the moment of its
 -- last tick, or of its start; what it joins; the number of the next message that it cuts; how many receives failed in a
 -- row, up to 16; what it received and sent so far, with each send as if it went out; what its node recorded so far; the
--- sessions of clients on other machines, where it serves them; and whether it tells those the lines of entries.
+-- sessions of clients on other machines, where it serves them, and whether it tells those the lines of entries; and for who
+-- asks it about itself, what it was told at its start, how often it ticked, what came, and how many datagrams it sent.
 pub record Daemon : Type 0 where
   pub me : ℕ
   pub incarnation : ℕ
@@ -44,6 +55,10 @@ pub record Daemon : Type 0 where
   pub records : List Happened
   pub sessions : Option Sessions
   pub entries : Bool
+  pub about : About
+  pub ticks : ℕ
+  pub receives : ReceiveCounts
+  pub sent : ℕ
 
 -- What a step of the node leaves is sent, and recorded; and each line of its records goes to the client on another machine
 -- that is to hear it. The step was a call of this key, or of none.
@@ -51,6 +66,7 @@ unfoldable pub left_for : Option ℕ → Daemon → Core → Daemon
 left_for calling d s = record d {
   core = at_work s;
   number = number_after d.number s.sends;
+  sent = sent_more d.sent (sent_calls d.me d.incarnation d.number s.sends);
   calls = d.calls ++ sent_calls d.me d.incarnation d.number s.sends;
   records = d.records ++ s.records;
   sessions = option_map (noted_with d.entries calling s.records) d.sessions;
@@ -70,16 +86,16 @@ stepped_by f e d = stepped_for None f e d
 
 -- the sessions of clients on other machines, where they are served
 abbrev pub sessions_if : RemoteService → ℕ → Option Sessions
-sessions_if service.Off incarnation = None
-sessions_if (service.On entries) incarnation = Some (sessions_new incarnation)
+sessions_if remotes.Off incarnation = None
+sessions_if (remotes.On entries) incarnation = Some (sessions_new incarnation)
 
 abbrev pub tells_entries : RemoteService → Bool
-tells_entries service.Off = false
-tells_entries (service.On entries) = entries
+tells_entries remotes.Off = false
+tells_entries (remotes.On entries) = entries
 
--- before its node starts; whether it serves clients on other machines
-abbrev pub fresh : RemoteService → Config → ℕ → ℕ → ℕ → Daemon
-fresh remote c me incarnation moment = record {
+-- before its node starts; whom it serves on other machines, and what it tells of itself
+abbrev pub fresh : Service → Config → ℕ → ℕ → ℕ → Daemon
+fresh service c me incarnation moment = record {
   me = me;
   incarnation = incarnation;
   core = started c me incarnation;
@@ -89,16 +105,27 @@ fresh remote c me incarnation moment = record {
   failed = 0;
   calls = [];
   records = [];
-  sessions = sessions_if remote incarnation;
-  entries = tells_entries remote;
+  sessions = sessions_if service.remote incarnation;
+  entries = tells_entries service.remote;
+  about = service.about;
+  ticks = 0;
+  receives = nothing_counted;
+  sent = 0;
 }
 
-unfoldable pub begun_for : RemoteService → Config → ℕ → ℕ → ℕ → Daemon
-begun_for remote c me incarnation moment = left_by (fresh remote c me incarnation moment) (started c me incarnation)
+unfoldable pub begun_for : Service → Config → ℕ → ℕ → ℕ → Daemon
+begun_for service c me incarnation moment = left_by (fresh service c me incarnation moment) (started c me incarnation)
+
+-- told nothing of itself
+abbrev pub plain_service : RemoteService → Service
+plain_service remote = record { remote = remote; about = record { version = record { major = 0; minor = 0; patch = 0 }; settings = 0 } }
 
 -- one that serves no clients on other machines
+abbrev pub serves_nobody : Service
+serves_nobody = plain_service remotes.Off
+
 abbrev pub begun : Config → ℕ → ℕ → ℕ → Daemon
-begun c me incarnation moment = begun_for service.Off c me incarnation moment
+begun c me incarnation moment = begun_for serves_nobody c me incarnation moment
 
 -- a call of the settings, and what the clients answer at it
 pub record Opening : Type 0 where
@@ -130,7 +157,7 @@ abbrev pub counted_in : Option Sessions → Option Sessions
 counted_in o = option_map (λ (s : Sessions). record s { remote = remote_ticked s.remote }) o
 
 abbrev pub counted : Daemon → Daemon
-counted d = record d { sessions = counted_in d.sessions }
+counted d = record d { sessions = counted_in d.sessions; ticks = one_more d.ticks }
 
 abbrev pub ticked_if : Bool → ℕ → Answering → Daemon → Daemon
 ticked_if true moment f d = counted (stepped_by f Ticks (record d { last = moment }))
@@ -153,6 +180,7 @@ unfoldable pub received : LinkCall → Daemon → Daemon
 received got d = record d {
   joining = (joined_by got d.joining).joining;
   failed = failed_by got d.failed;
+  receives = counted_by got d.receives;
   calls = d.calls ++ plain (as_sent got) ∷ [];
 }
 
@@ -192,12 +220,20 @@ abbrev pub down_in : Option Sessions → ℕ → List ℕ
 down_in None key = []
 down_in (Some s) key = down_text (down_for s.remote key)
 
--- the Down of a key, as it is now, goes to the sender of the datagram that came last, on this network
-unfoldable pub down_sent : ℕ → ℕ → Daemon → Daemon
-down_sent key network d = record d {
-  number = number_if (can_cut (down_in d.sessions key)) d.number;
-  calls = d.calls ++ map (said d.number) (message_calls d.me d.incarnation d.number 0 network (down_in d.sessions key));
+-- the pieces of a message that is no packet, to the sender of the datagram that came last, on this network
+abbrev pub said_back : ℕ → List ℕ → Daemon → List Exchange
+said_back network message d = map (said d.number) (message_calls d.me d.incarnation d.number 0 network message)
+
+abbrev pub sent_back : ℕ → List ℕ → Daemon → Daemon
+sent_back network message d = record d {
+  number = number_if (can_cut message) d.number;
+  sent = sent_more d.sent (said_back network message d);
+  calls = d.calls ++ said_back network message d;
 }
+
+-- the Down of a key, as it is now, goes there
+unfoldable pub down_sent : ℕ → ℕ → Daemon → Daemon
+down_sent key network d = sent_back network (down_in d.sessions key) d
 
 -- what an Up brings, and then one Down of its key; every other message is the node's. An Up of a key that has ended brings
 -- nothing.
@@ -208,10 +244,44 @@ brought (KeysFull key limit) network message f d = down_sent key network (with_u
 brought (KnownKey key) network message f d = down_sent key network (with_up message d)
 brought (CallMade key line) network message f d = down_sent key network (called_by key line f (with_up message d))
 
+-- ---- questions about itself
+
+abbrev pub keys_in : Option Sessions → ℕ
+keys_in None = 0
+keys_in (Some s) = length s.remote.sessions
+
+abbrev pub ended_in : Option Sessions → ℕ
+ended_in None = 0
+ended_in (Some s) = length s.remote.ended
+
+-- what it counts, up to now
+abbrev pub counts_of : Daemon → Counts
+counts_of d = record { ticks = d.ticks; receives = d.receives; sent = d.sent; keys = keys_in d.sessions; ended = ended_in d.sessions }
+
+-- what it says of itself, as it is now
+unfoldable pub self_text : SelfWhat → Daemon → List ℕ
+self_text Hagscl d = clients_text d.sessions d.core.sessions
+self_text Hagsd d = daemon_text (record { node = d.me; inc = d.incarnation }) d.about (counts_of d)
+
+-- the reply goes to the sender of the datagram that came last, on the question's network: its node makes no step
+unfoldable pub told_itself : SelfQuestion → ℕ → Daemon → Daemon
+told_itself q network d = sent_back network (reply_text q (self_text q.what d)) d
+
+-- A question about itself is answered, whomever the daemon serves; any other message is an Up or the node's. A question is no
+-- Up and no packet: without an answer it would be bytes that come to nothing but the end of a step.
+unfoldable pub asked : Option SelfQuestion → ℕ → List ℕ → Answering → Daemon → Daemon
+asked None network message f d = brought (up_in d.sessions message) network message f d
+asked (Some q) network message f d = told_itself q network d
+
+-- no message, or one that asks it nothing about itself
+abbrev pub AsksNothing : Option (List ℕ) → Type 0
+AsksNothing None = Unit {0}
+AsksNothing (Some message) = question_of message ≡ None
+
 -- a whole message that came on this network
 unfoldable pub given_on : ℕ → Option (List ℕ) → Answering → Daemon → Daemon
 given_on network None f d = d
-given_on network (Some message) f d = brought (up_in d.sessions message) network message f d
+given_on network (Some message) f d = asked (question_of message) network message f d
 
 abbrev pub network_of : LinkCall → ℕ
 network_of (call.Received network bytes) = network
@@ -285,10 +355,10 @@ turned_all d ts = fold turned d ts
 
 -- ---- a life
 
--- all that comes from outside in a life: whether clients on other machines are served, the moment of the start, the calls
--- of the settings, and turns
+-- all that comes from outside in a life: whom it serves on other machines and what it tells of itself, the moment of the
+-- start, the calls of the settings, and turns
 pub record Life : Type 0 where
-  pub remote : RemoteService
+  pub service : Service
   pub start : ℕ
   pub opening : List Opening
   pub turns : List Turn
@@ -305,7 +375,7 @@ life_moments life = life.start ∷ turn_moments life.turns
 
 -- the daemon after its turns
 unfoldable pub lived : Config → ℕ → ℕ → Life → Daemon
-lived c me incarnation life = turned_all (opened_all (begun_for life.remote c me incarnation life.start) life.opening) life.turns
+lived c me incarnation life = turned_all (opened_all (begun_for life.service c me incarnation life.start) life.opening) life.turns
 
 -- what is written of records: a line each
 unfoldable pub records_text : List Happened → List ℕ
@@ -313,5 +383,5 @@ records_text rs = flat_map line_of rs
 
 -- opens each word of this file, for a computation
 unfoldable pub daemon_opens : Unit {0}
-unfolding left_for stepped_for begun_for opened opened_all own_calls received given called_by down_sent brought given_on heard key_over mended turned turned_all lived records_text
+unfolding left_for stepped_for begun_for opened opened_all own_calls received given called_by down_sent brought self_text told_itself asked given_on heard key_over mended turned turned_all lived records_text
 daemon_opens = tt

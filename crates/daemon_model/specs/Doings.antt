@@ -43,11 +43,11 @@ doings_of d (a ∷ actions) = doings d a ++ doings_of (did d a) actions
 -- the clock is read, the node starts, and then come the acts
 abbrev pub started_doings : Config → ℕ → ℕ → Life → List Doing
 started_doings c me incarnation life =
-    Reads life.start ∷ since (fresh life.remote c me incarnation life.start) (begun_for life.remote c me incarnation life.start)
+    Reads life.start ∷ since (fresh life.service c me incarnation life.start) (begun_for life.service c me incarnation life.start)
 
 unfoldable pub life_doings : Config → ℕ → ℕ → Life → List Doing
 life_doings c me incarnation life =
-    started_doings c me incarnation life ++ doings_of (begun_for life.remote c me incarnation life.start) (life_actions life)
+    started_doings c me incarnation life ++ doings_of (begun_for life.service c me incarnation life.start) (life_actions life)
 
 -- ---- as deeds
 

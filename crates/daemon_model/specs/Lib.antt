@@ -1,4 +1,6 @@
 pub mod Sent
+pub mod Counts
+pub mod SelfLines
 pub mod Daemon
 pub mod Actions
 pub mod Options
@@ -9,4 +11,5 @@ pub mod Lives
 pub mod Laws
 pub mod Samples
 pub mod OptionSamples
+pub mod SelfSamples
 pub mod Opens

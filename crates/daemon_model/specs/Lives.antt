@@ -15,7 +15,7 @@ most_failed = 16
 
 -- the daemon as it is once it carried out the calls of the settings
 abbrev pub first_of : Script → ℕ → ℕ → Life → Daemon
-first_of script me incarnation life = opened_all (begun_for life.remote script.config me incarnation life.start) life.opening
+first_of script me incarnation life = opened_all (begun_for life.service script.config me incarnation life.start) life.opening
 
 abbrev pub last_of : Script → ℕ → ℕ → Life → Daemon
 last_of script me incarnation life = lived script.config me incarnation life
@@ -28,14 +28,14 @@ GoesOn d (t ∷ ts) = ((turned d t).failed < most_failed) × GoesOn (turned d t)
 -- The daemon lived this life with these options: its calls are those of the settings, and what it did of its own is what the
 -- options ask for; and what it did are the doings of that life, in their order.
 pub record Lived (script : Script) (me incarnation : ℕ) (options : Options) (life : Life) (old new : Telling) : Type 0 where
-  pub serves : life.remote ≡ options.remote
+  pub serves : life.service ≡ options.service
   pub opening : opening_calls life ≡ own_calls me script.lines
   pub follows : Follows options (first_pace life.start) (first_of script me incarnation life) life.turns
   pub made : Made old new (life_doings script.config me incarnation life)
 
 -- It broke off on the way: what it did are a front of those doings.
 pub record LivedFront (script : Script) (me incarnation : ℕ) (options : Options) (life : Life) (old new : Telling) : Type 0 where
-  pub serves : life.remote ≡ options.remote
+  pub serves : life.service ≡ options.service
   pub opening : opening_calls life ≡ own_calls me script.lines
   pub follows : Follows options (first_pace life.start) (first_of script me incarnation life) life.turns
   pub made : MadeFront old new (life_doings script.config me incarnation life)

@@ -8,8 +8,7 @@ use Rattle.node_state.specs.declared.state.Core.{Core}
 use Rattle.node_state.specs.Step.{at_work, started}
 use Rattle.remote_clients.specs.declared.sessions.Sessions.{Sessions}
 use Rattle.remote_clients.specs.declared.clients.RemoteClient.{RemoteClient}
-use Rattle.daemon_model.specs.declared.options.RemoteService.TheVariants as service
-use Rattle.daemon_model.specs.Daemon.{Daemon, Turn, fresh}
+use Rattle.daemon_model.specs.Daemon.{Daemon, Turn, serves_nobody, fresh}
 use Rattle.daemon_model.specs.Samples.{settings_for, silent, server_after, given_at, quiet_at, up_piece}
 
 -- ---- a client that is silent
@@ -48,7 +47,7 @@ left_behind =
     }
 
 unfoldable pub behind : Daemon
-behind = record (fresh service.Off (settings_for (1 ∷ 2 ∷ [])) 2 5 0) { core = left_behind }
+behind = record (fresh serves_nobody (settings_for (1 ∷ 2 ∷ [])) 2 5 0) { core = left_behind }
 
 abbrev pub is_gathering : Daemon → Bool
 is_gathering d = is_some d.core.views.gathering

@@ -13,12 +13,12 @@ use Rattle.remote_session.specs.Ending.{silent_keys}
 use Rattle.remote_clients.specs.declared.sessions.Sessions.{Sessions}
 use Rattle.daemon_model.specs.declared.options.Options.{Options}
 use Rattle.daemon_model.specs.declared.options.Pace.{Pace}
-use Rattle.daemon_model.specs.declared.options.RemoteService.{RemoteService}
+use Rattle.daemon_model.specs.declared.options.Service.{Service}
 use Rattle.daemon_model.specs.Daemon.{Daemon, KeyEnd, Turn, is_due, ticked, heard, keys_over, turned}
 
 -- to serve clients on other machines or not, and nothing else
-abbrev pub plainly : RemoteService → Options
-plainly remote = record { remote = remote; silence = None; mend = None; gap = None }
+abbrev pub plainly : Service → Options
+plainly service = record { service = service; silence = None; mend = None; gap = None }
 
 -- ---- silent keys
 
@@ -122,7 +122,7 @@ NothingUnasked = (o : Options) (p : Pace) (d : Daemon) (ts : List Turn) → o.si
 
 -- and whatever turns are so are those of such a daemon
 abbrev pub PlainFollows : Type 0
-PlainFollows = (remote : RemoteService) (p : Pace) (d : Daemon) (ts : List Turn) → ArePlain ts → Follows (plainly remote) p d ts
+PlainFollows = (service : Service) (p : Pace) (d : Daemon) (ts : List Turn) → ArePlain ts → Follows (plainly service) p d ts
 
 -- and a turn is then a tick, where one is due, and a receive
 abbrev pub PlainTurns : Type 0

@@ -14,9 +14,9 @@ use Rattle.node_state.specs.HandOn.{Answering}
 use Rattle.world_model.specs.Load.{settings_of}
 use Rattle.remote_session.specs.declared.messages.Answer.{Answer}
 use Rattle.remote_session.specs.Messages.{up_text, down_text}
-use Rattle.daemon_model.specs.declared.options.RemoteService.TheVariants as service
+use Rattle.daemon_model.specs.declared.options.RemoteService.TheVariants as remotes
 use Rattle.daemon_model.specs.Sent.{call_of}
-use Rattle.daemon_model.specs.Daemon.{Daemon, Turn, lived}
+use Rattle.daemon_model.specs.Daemon.{Daemon, Turn, plain_service, serves_nobody, lived}
 
 unfoldable pub settings_for : List ℕ → Config
 settings_for nodes = record (settings_of Rings nodes) { port = 4000 }
@@ -30,11 +30,11 @@ turn_at moment got = record { moment = moment; tick = silent; ends = []; mends =
 
 -- it starts at moment 0, in a domain of these nodes
 unfoldable pub daemon_after : List ℕ → List Turn → Daemon
-daemon_after nodes turns = lived (settings_for nodes) 1 5 (record { remote = service.Off; start = 0; opening = []; turns = turns })
+daemon_after nodes turns = lived (settings_for nodes) 1 5 (record { service = serves_nobody; start = 0; opening = []; turns = turns })
 
 -- one that serves clients on other machines
 unfoldable pub server_after : List ℕ → List Turn → Daemon
-server_after nodes turns = lived (settings_for nodes) 1 5 (record { remote = service.On false; start = 0; opening = []; turns = turns })
+server_after nodes turns = lived (settings_for nodes) 1 5 (record { service = plain_service (remotes.On false); start = 0; opening = []; turns = turns })
 
 unfoldable pub quiet_at : ℕ → Turn
 quiet_at moment = turn_at moment call.Quiet

@@ -187,6 +187,13 @@ impl Clients {
         }
     }
 
+    /// The key of the client of this name that has not said goodbye.
+    pub fn key_of(&self, name: &[u8]) -> Option<u32>
+        ensures { result ≡ key_of_name self.now.made self.now.gone name.now }
+    {
+        key_of_name(self.made.as_slice(), self.gone.as_slice(), name)
+    }
+
     /// The key whose client is to hear this record, if one is. `calling`: the key whose call the step was that made it.
     #[tactic(auto, unfolding(crate::specs::Clients::hearer_of))]
     pub fn hearer(&self, calling: Option<u32>, happened: &Happened) -> Option<u32>

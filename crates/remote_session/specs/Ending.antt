@@ -1,8 +1,9 @@
--- Keys that end: how long each was silent, and what is left of one that ended.
-use Rattle.std.specs.Prelude.{ℕ, Bool, not, nat_eq, nat_le, nat_lt, List, [], ◌∷◌, ◌++◌, length, map, filter, if◌then◌else◌}
+-- Keys that end: how long each was silent, and what is left of one that ended; and how a key stands.
+use Rattle.std.specs.Prelude.{ℕ, Bool, not, nat_eq, nat_le, nat_lt, List, [], ◌∷◌, ◌++◌, length, map, filter, Option, option_map, if◌then◌else◌}
 use Rattle.rsct_packet.specs.Ids.{risen}
 use Rattle.remote_session.specs.declared.session.Session.{Session}
-use Rattle.remote_session.specs.Daemon.{Sessions, RemoteState, is_ended}
+use Rattle.remote_session.specs.declared.remote.Standing.{Standing}
+use Rattle.remote_session.specs.Daemon.{Sessions, RemoteState, session_of, is_ended}
 
 -- how many keys end in a daemon's life
 abbrev pub max_ended : ℕ
@@ -42,7 +43,16 @@ with_ended key ended = if is_ended key ended then ended else ended ++ key ∷ []
 unfoldable pub key_ended : ℕ → RemoteState → RemoteState
 key_ended key r = if may_end r then record r { sessions = without key r.sessions; ended = with_ended key r.ended } else r
 
+-- ---- how a key stands
+
+abbrev pub standing : Session → Standing
+standing s = record { silent = s.silent; unread = length s.events }
+
+-- nothing of a key that is not kept
+unfoldable pub standing_of : ℕ → RemoteState → Option Standing
+standing_of key r = option_map standing (session_of key r.sessions)
+
 -- opens each word of this file, for a computation
 unfoldable pub ending_opens : Unit {0}
-unfolding waited remote_ticked silent_keys may_end without key_ended
+unfolding waited remote_ticked silent_keys may_end without key_ended standing_of
 ending_opens = tt

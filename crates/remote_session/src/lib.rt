@@ -16,7 +16,7 @@ pub use laws::{
     messages_have_one_spelling,
 };
 pub use messages::{Answer, MAX_EVENTS, MAX_LINE};
-pub use remote::{MAX_ENDED, MAX_KEYS, Remote, UpSeen};
+pub use remote::{MAX_ENDED, MAX_KEYS, Remote, Standing, UpSeen};
 pub use worked_rows::{
     down_of_the_first_call, repeated_after_the_end, repeats_and_a_restart, same_up_twice,
     silent_keys_by_ticks, up_of_an_ended_key, up_of_the_first_call,

@@ -2,7 +2,7 @@
 ghost use Rattle.std.specs.Prelude.{◌≡◌, ◌++◌, ◌≤◌, ◌^◌, length, take, not, true, nat_eq, nat_le, IfOk, OnOk, OnErr, IsErr, option_copied};
 ghost use Rattle.remote_session.specs.Messages.{down_text};
 ghost use Rattle.remote_session.specs.Daemon.{kept, is_full_for, call_made, edited, session_up, session_done, session_event, remote_new, seen_up, up_seen, up_taken, done_told, event_added, down_as, life_told, down_for};
-ghost use Rattle.remote_session.specs.Ending.{silent_longer, waited, remote_ticked, silent_keys, may_end, without, key_ended};
+ghost use Rattle.remote_session.specs.Ending.{silent_longer, waited, remote_ticked, silent_keys, may_end, without, key_ended, standing_of};
 
 use crate::messages::{Answer, Up, put_down_head, read_up, settled};
 use crate::session::Session;
@@ -32,6 +32,13 @@ pub enum UpSeen<'a> {
     Full(u32, u32),
     Known(u32),
     Call { key: u32, line: &'a [u8] },
+}
+
+/// How a key stands: for how many ticks no Up of it came, up to 4,294,967,295; and how many of its events are kept.
+#[derive(Clone, Copy, Debug, PartialEq, Eq)]
+pub struct Standing {
+    pub silent: u32,
+    pub unread: usize,
 }
 
 /// Has the key no session while as many are kept as may be?
@@ -268,6 +275,34 @@ impl Remote {
         self.ended.insert(key)?;
         forget(&mut self.sessions, key);
         Ok(true)
+    }
+
+    /// How a key stands, where it is kept.
+    #[tactic(auto, unfolding(crate::specs::Ending::standing_of))]
+    pub fn standing(&self, key: u32) -> Option<Standing>
+        ensures { result ≡ standing_of key self.now }
+    {
+        match self.sessions.get(&key) {
+            None => None,
+            Some(session) => Some(Standing {
+                silent: session.silent,
+                unread: session.events.len(),
+            }),
+        }
+    }
+
+    /// How many keys are kept: at most 1,024.
+    pub fn kept_count(&self) -> usize
+        ensures { result ≡ length self.now.sessions }
+    {
+        self.sessions.len()
+    }
+
+    /// How many keys have ended: at most 1,048,576.
+    pub fn ended_count(&self) -> usize
+        ensures { result ≡ length self.now.ended }
+    {
+        self.ended.len()
     }
 
     /// Takes the Down of a key, as it is now, to the end of `out`: how many of its calls were answered, the last answer,

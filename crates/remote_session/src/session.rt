@@ -53,6 +53,12 @@ fn put_front(out: &mut Vec<u8>, lines: &VecDeque<Text>) -> Result<(), NoMemory>
 }
 
 impl Events {
+    pub(crate) fn len(&self) -> usize
+        ensures { result ≡ length self.now }
+    {
+        self.lines.len()
+    }
+
     fn new(alloc: Global) -> Events
         ensures { result ≡ [] }
     {
