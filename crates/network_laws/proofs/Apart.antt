@@ -10,10 +10,9 @@ use Rattle.node_state.specs.declared.happened.Happened.TheVariants as happened
 use Rattle.node_state.specs.Step.{started}
 use Rattle.step_refinement.specs.Rules.{at_node}
 use Rattle.step_refinement.proofs.Changed.{set_here, set_there}
-use Rattle.daemon_model.specs.declared.options.RemoteService.{RemoteService}
-use Rattle.daemon_model.specs.declared.options.RemoteService.TheVariants as service
+use Rattle.daemon_model.specs.declared.options.Service.{Service}
 use Rattle.daemon_model.specs.Sent.{Exchange}
-use Rattle.daemon_model.specs.Daemon.{Daemon, begun_for}
+use Rattle.daemon_model.specs.Daemon.{Daemon, begun_for, serves_nobody}
 use Rattle.daemon_model.specs.Actions.{Action, did, did_all}
 use Rattle.network_model.specs.Network.{Act, Begins, Does, Ends, Net, no_net, made_since, noted_since, went_on, starts, ends, idles, begins, does_if, acted}
 use Rattle.network_model.specs.Lives.{LifeIn, daemon_of, end_of, acts_of, is_at, noted_if, records_at, idle_records, down_of, lives_records, NodesRecordTheirLives}
@@ -46,19 +45,19 @@ made_by f (Some d) = made_since d (f d)
 
 -- an act of the node
 unfoldable pub acted_at : Config → ℕ → At → Act → At
-acted_at c n s (Begins node incarnation moment remote) = record { daemon = Some (begun_for remote c n incarnation moment); last = incarnation }
+acted_at c n s (Begins node incarnation moment service) = record { daemon = Some (begun_for service c n incarnation moment); last = incarnation }
 acted_at c n s (Does node action) = with_daemon s (λ d. did d action) s.daemon
 acted_at c n s (Ends node) = record s { daemon = None }
 
 pub noted_at : Config → ℕ → At → Act → List Happened
-noted_at c n s (Begins node incarnation moment remote) =
-    idle_records c n s.last (incarnation - 1 - s.last) ++ (begun_for remote c n incarnation moment).records
+noted_at c n s (Begins node incarnation moment service) =
+    idle_records c n s.last (incarnation - 1 - s.last) ++ (begun_for service c n incarnation moment).records
 noted_at c n s (Does node action) = noted_by (λ d. did d action) s.daemon
 noted_at c n s (Ends node) = happened.Down n ∷ []
 
 -- what it receives and sends
 unfoldable pub made_at : At → Act → List Exchange
-made_at s (Begins node incarnation moment remote) = []
+made_at s (Begins node incarnation moment service) = []
 made_at s (Does node action) = made_by (λ d. did d action) s.daemon
 made_at s (Ends node) = []
 
@@ -77,30 +76,30 @@ idles_records : (c : Config) (n k : ℕ) (net : Net) → (idles c n k net).recor
 unfolding idles idle_records starts ends
 idles_records c n zero net = sym (append-nil net.records)
 idles_records c n (suc k) net =
-    idles_records c n k (ends n (starts service.Off c n (net.incarnations n + 1) 0 net))
-    ∙ ap (λ i. ((net.records ++ (begun_for service.Off c n (net.incarnations n + 1) 0).records) ++ happened.Down n ∷ []) ++ idle_records c n i k) (set_here net.incarnations n (net.incarnations n + 1))
-    ∙ ap (λ xs. ((net.records ++ xs) ++ happened.Down n ∷ []) ++ idle_records c n (net.incarnations n + 1) k) (begun_records service.Off c n (net.incarnations n + 1) 0)
+    idles_records c n k (ends n (starts serves_nobody c n (net.incarnations n + 1) 0 net))
+    ∙ ap (λ i. ((net.records ++ (begun_for serves_nobody c n (net.incarnations n + 1) 0).records) ++ happened.Down n ∷ []) ++ idle_records c n i k) (set_here net.incarnations n (net.incarnations n + 1))
+    ∙ ap (λ xs. ((net.records ++ xs) ++ happened.Down n ∷ []) ++ idle_records c n (net.incarnations n + 1) k) (begun_records serves_nobody c n (net.incarnations n + 1) 0)
     ∙ append_assoc (net.records ++ (started c n (net.incarnations n + 1)).records) (happened.Down n ∷ []) (idle_records c n (net.incarnations n + 1) k)
     ∙ append_assoc net.records (started c n (net.incarnations n + 1)).records (happened.Down n ∷ idle_records c n (net.incarnations n + 1) k)
 
-started_wire : (remote : RemoteService) (c : Config) (n inc moment : ℕ) (net : Net) → (starts remote c n inc moment net).wire ≡ net.wire
+started_wire : (service : Service) (c : Config) (n inc moment : ℕ) (net : Net) → (starts service c n inc moment net).wire ≡ net.wire
 unfolding starts
-started_wire remote c n inc moment net = ap (λ xs. net.wire ++ xs) (begun_calls remote c n inc moment) ∙ append-nil net.wire
+started_wire service c n inc moment net = ap (λ xs. net.wire ++ xs) (begun_calls service c n inc moment) ∙ append-nil net.wire
 
 idles_wire : (c : Config) (n k : ℕ) (net : Net) → (idles c n k net).wire ≡ net.wire
 unfolding idles ends
 idles_wire c n zero net = refl
 idles_wire c n (suc k) net =
-    idles_wire c n k (ends n (starts service.Off c n (net.incarnations n + 1) 0 net)) ∙ started_wire service.Off c n (net.incarnations n + 1) 0 net
+    idles_wire c n k (ends n (starts serves_nobody c n (net.incarnations n + 1) 0 net)) ∙ started_wire serves_nobody c n (net.incarnations n + 1) 0 net
 
-begin_same : (c : Config) (n incarnation moment : ℕ) (remote : RemoteService) (net : Net) → Same c n net (Begins n incarnation moment remote)
+begin_same : (c : Config) (n incarnation moment : ℕ) (service : Service) (net : Net) → Same c n net (Begins n incarnation moment service)
 unfolding acted begins starts at_of acted_at noted_at made_at
-begin_same c n incarnation moment remote net =
+begin_same c n incarnation moment service net =
     let idled : Net = idles c n (incarnation - 1 - net.incarnations n) net in
     record {
-      state = λ i. record { daemon = set_here idled.daemons n (Some (begun_for remote c n incarnation moment)) i; last = set_here idled.incarnations n incarnation i };
-      records = ap (λ xs. xs ++ (begun_for remote c n incarnation moment).records) (idles_records c n (incarnation - 1 - net.incarnations n) net) ∙ append_assoc net.records (idle_records c n (net.incarnations n) (incarnation - 1 - net.incarnations n)) (begun_for remote c n incarnation moment).records;
-      wire = started_wire remote c n incarnation moment idled ∙ idles_wire c n (incarnation - 1 - net.incarnations n) net ∙ sym (append-nil net.wire);
+      state = λ i. record { daemon = set_here idled.daemons n (Some (begun_for service c n incarnation moment)) i; last = set_here idled.incarnations n incarnation i };
+      records = ap (λ xs. xs ++ (begun_for service c n incarnation moment).records) (idles_records c n (incarnation - 1 - net.incarnations n) net) ∙ append_assoc net.records (idle_records c n (net.incarnations n) (incarnation - 1 - net.incarnations n)) (begun_for service c n incarnation moment).records;
+      wire = started_wire service c n incarnation moment idled ∙ idles_wire c n (incarnation - 1 - net.incarnations n) net ∙ sym (append-nil net.wire);
     }
 
 does_state : (f : Daemon → Daemon) (n : ℕ) (net : Net) (o : Option Daemon) → net.daemons n ≡ o → at_of n (does_if f n o net) ≡ with_daemon (at_of n net) f o
@@ -134,9 +133,9 @@ end_same c n net =
 
 pub act_same : (c : Config) (n : ℕ) (net : Net) (a : Act) → is_at n a ≡ true → Same c n net a
 unfolding acted_at noted_at made_at
-act_same c n net (Begins m incarnation moment remote) e =
+act_same c n net (Begins m incarnation moment service) e =
     let is : m ≡ n = eqb-true m n e in
-    subst (λ j. Same c n net (Begins j incarnation moment remote)) (sym is) (begin_same c n incarnation moment remote net)
+    subst (λ j. Same c n net (Begins j incarnation moment service)) (sym is) (begin_same c n incarnation moment service net)
 act_same c n net (Does m x) e = let is : m ≡ n = eqb-true m n e in subst (λ j. Same c n net (Does j x)) (sym is) (does_same c n x net)
 act_same c n net (Ends m) e = let is : m ≡ n = eqb-true m n e in subst (λ j. Same c n net (Ends j)) (sym is) (end_same c n net)
 
@@ -145,9 +144,9 @@ idles_other : (c : Config) (m n k : ℕ) (net : Net) → n ≢ m → at_of n (id
 unfolding idles starts ends at_of
 idles_other c m n zero net ne = refl
 idles_other c m n (suc k) net ne =
-    let up : ℕ → Option Daemon = at_node net.daemons m (Some (begun_for service.Off c m (net.incarnations m + 1) 0)) in
-    idles_other c m n k (ends m (starts service.Off c m (net.incarnations m + 1) 0 net)) ne
-    ∙ (λ i. record { daemon = (set_there up m None n ne ∙ set_there net.daemons m (Some (begun_for service.Off c m (net.incarnations m + 1) 0)) n ne) i; last = set_there net.incarnations m (net.incarnations m + 1) n ne i })
+    let up : ℕ → Option Daemon = at_node net.daemons m (Some (begun_for serves_nobody c m (net.incarnations m + 1) 0)) in
+    idles_other c m n k (ends m (starts serves_nobody c m (net.incarnations m + 1) 0 net)) ne
+    ∙ (λ i. record { daemon = (set_there up m None n ne ∙ set_there net.daemons m (Some (begun_for serves_nobody c m (net.incarnations m + 1) 0)) n ne) i; last = set_there net.incarnations m (net.incarnations m + 1) n ne i })
 
 does_other : (f : Daemon → Daemon) (m n : ℕ) (net : Net) (o : Option Daemon) → n ≢ m → at_of n (does_if f m o net) ≡ at_of n net
 unfolding at_of went_on
@@ -156,10 +155,10 @@ does_other f m n net (Some d) ne = λ i. record { daemon = set_there net.daemons
 
 pub act_other : (c : Config) (n : ℕ) (net : Net) (a : Act) → is_at n a ≡ false → at_of n (acted c net a) ≡ at_of n net
 unfolding acted begins starts ends at_of
-act_other c n net (Begins m incarnation moment remote) e =
+act_other c n net (Begins m incarnation moment service) e =
     let ne : n ≢ m = λ is. eqb-false m n e (sym is) in
     let idled : Net = idles c m (incarnation - 1 - net.incarnations m) net in
-    (λ i. record { daemon = set_there idled.daemons m (Some (begun_for remote c m incarnation moment)) n ne i; last = set_there idled.incarnations m incarnation n ne i })
+    (λ i. record { daemon = set_there idled.daemons m (Some (begun_for service c m incarnation moment)) n ne i; last = set_there idled.incarnations m incarnation n ne i })
     ∙ idles_other c m n (incarnation - 1 - net.incarnations m) net ne
 act_other c n net (Does m x) e = does_other (λ d. did d x) m n net (net.daemons m) (λ is. eqb-false m n e (sym is))
 act_other c n net (Ends m) e =
@@ -208,7 +207,7 @@ life_at : (c : Config) (n : ℕ) (s : At) (l : LifeIn) (rest : List Act) → all
     ≡ idle_records c n s.last (l.incarnation - 1 - s.last) ++ ((daemon_of c n l).records ++ (down_of n l.ended ++ all_at c n (rest_at c n l.incarnation (daemon_of c n l) l.ended) rest))
 unfolding acts_of all_at acted_at noted_at daemon_of
 life_at c n s l rest =
-    let b : Daemon = begun_for l.remote c n l.incarnation l.start in
+    let b : Daemon = begun_for l.service c n l.incarnation l.start in
     let idle : List Happened = idle_records c n s.last (l.incarnation - 1 - s.last) in
     let up : Daemon → At = λ d. record { daemon = Some d; last = l.incarnation } in
     append_assoc idle b.records (all_at c n (up b) ((map (Does n) l.actions ++ end_of n l.ended) ++ rest))

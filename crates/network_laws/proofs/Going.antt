@@ -10,10 +10,12 @@ use Rattle.node_state.specs.HandOn.{Answering}
 use Rattle.node_state.specs.State.{with_sessions}
 use Rattle.node_state.specs.Step.{NodeEvent, Ticks, Asks, Calls, started, stepped}
 use Rattle.remote_session.specs.Daemon.{SeenUp, NotUp, EndedKey, KeysFull, KnownKey, CallMade}
+use Rattle.self_questions.specs.declared.messages.SelfQuestion.{SelfQuestion}
+use Rattle.self_questions.specs.Messages.{question_of, reply_text}
 use Rattle.step_refinement.specs.Rules.{at_node}
-use Rattle.daemon_model.specs.declared.options.RemoteService.{RemoteService}
-use Rattle.daemon_model.specs.Sent.{Exchange, plain, said, as_sent, message_calls, sent_calls}
-use Rattle.daemon_model.specs.Daemon.{Daemon, Opening, left_for, stepped_for, stepped_by, begun_for, opened, is_due, ticked_if, joined_by, received, given, up_in, with_up, call_in, line_carried, called_by, down_in, down_sent, brought, given_on, network_of, heard, goodbye_in, goodbye_said, key_over, mended}
+use Rattle.daemon_model.specs.declared.options.Service.{Service}
+use Rattle.daemon_model.specs.Sent.{Exchange, plain, as_sent, sent_calls}
+use Rattle.daemon_model.specs.Daemon.{Daemon, Opening, left_for, stepped_for, stepped_by, begun_for, opened, is_due, ticked_if, joined_by, received, given, up_in, with_up, call_in, line_carried, called_by, down_in, said_back, sent_back, down_sent, brought, self_text, told_itself, asked, given_on, network_of, heard, goodbye_in, goodbye_said, key_over, mended}
 use Rattle.daemon_model.specs.Actions.{Action, Opens, EndsKey, Mends, Hears, did}
 use Rattle.daemon_model.specs.Actions as action
 use Rattle.network_model.specs.Network.{Net, made_since, noted_since, went_on}
@@ -75,13 +77,13 @@ goes_twice n d e g net a b =
 -- ---- a start
 
 -- a daemon that starts has recorded that it is up, and has sent nothing
-pub begun_records : (remote : RemoteService) (c : Config) (n inc moment : ℕ) → (begun_for remote c n inc moment).records ≡ (started c n inc).records
+pub begun_records : (service : Service) (c : Config) (n inc moment : ℕ) → (begun_for service c n inc moment).records ≡ (started c n inc).records
 unfolding begun_for left_for
-begun_records remote c n inc moment = refl
+begun_records service c n inc moment = refl
 
-pub begun_calls : (remote : RemoteService) (c : Config) (n inc moment : ℕ) → (begun_for remote c n inc moment).calls ≡ []
+pub begun_calls : (service : Service) (c : Config) (n inc moment : ℕ) → (begun_for service c n inc moment).calls ≡ []
 unfolding begun_for left_for started with_sessions sent_calls
-begun_calls remote c n inc moment = refl
+begun_calls service c n inc moment = refl
 
 -- ---- a step, and a call of the settings
 
@@ -115,9 +117,13 @@ received_more got d = record { calls = plain (as_sent got) ∷ []; called = refl
 pub same_more : (d e : Daemon) → e.calls ≡ d.calls → e.records ≡ d.records → More d e
 same_more d e calls records = record { calls = []; called = calls ∙ sym (append-nil d.calls); records = []; recorded = records ∙ sym (append-nil d.records) }
 
+-- a message that is no packet is sent
+pub back_more : (network : ℕ) (message : List ℕ) (d : Daemon) → More d (sent_back network message d)
+back_more network message d = record { calls = said_back network message d; called = refl; records = []; recorded = sym (append-nil d.records) }
+
 pub down_more : (key network : ℕ) (d : Daemon) → More d (down_sent key network d)
 unfolding down_sent
-down_more key network d = record { calls = map (said d.number) (message_calls d.me d.incarnation d.number 0 network (down_in d.sessions key)); called = refl; records = []; recorded = sym (append-nil d.records) }
+down_more key network d = back_more network (down_in d.sessions key) d
 
 pub carried_more : (key : ℕ) (o : Option CallLine) (message : List ℕ) (f : Answering) (d : Daemon) → More d (line_carried key o f (with_up message d))
 unfolding left_for
@@ -139,10 +145,15 @@ brought_more (CallMade key line) network message f d =
     let e : Daemon = line_carried key o f (with_up message d) in
     more_on d e (down_sent key network e) (carried_more key o message f d) (down_more key network e)
 
+asked_more : (o : Option SelfQuestion) (network : ℕ) (message : List ℕ) (f : Answering) (d : Daemon) → More d (asked o network message f d)
+unfolding asked told_itself
+asked_more None network message f d = brought_more (up_in d.sessions message) network message f d
+asked_more (Some q) network message f d = back_more network (reply_text q (self_text q.what d)) d
+
 pub given_on_more : (network : ℕ) (message : Option (List ℕ)) (f : Answering) (d : Daemon) → More d (given_on network message f d)
 unfolding given_on
 given_on_more network None f d = same_more d d refl refl
-given_on_more network (Some message) f d = brought_more (up_in d.sessions message) network message f d
+given_on_more network (Some message) f d = asked_more (question_of message) network message f d
 
 pub heard_more : (got : LinkCall) (f : Answering) (d : Daemon) → More d (heard got f d)
 unfolding heard

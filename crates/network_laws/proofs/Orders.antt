@@ -21,13 +21,13 @@ use Rattle.network_laws.proofs.Apart.{At, nothing_at, at_of, with_daemon, made_b
 use Rattle.network_laws.proofs.Sorting.{sorted, refl_later, sorted_order, sorted_filter}
 
 node_of : Act → ℕ
-node_of (Begins n incarnation moment remote) = n
+node_of (Begins n incarnation moment service) = n
 node_of (Does n action) = n
 node_of (Ends n) = n
 
 its_own : (a : Act) → is_at (node_of a) a ≡ true
 unfolding node_of
-its_own (Begins n incarnation moment remote) = eq-eqb n n refl
+its_own (Begins n incarnation moment service) = eq-eqb n n refl
 its_own (Does n action) = eq-eqb n n refl
 its_own (Ends n) = eq-eqb n n refl
 
@@ -128,7 +128,7 @@ module _ {T : Type 0} where
           record { life = l; lived = inl refl; action = r.0; among = r.1; time = ap (λ (z : Timed T Act). z.time) e; what = (cc) }
 
       here : Has (record { time = t; what = Does m x }) (timed_acts n l) → IsDone (l ∷ ls) t x
-      here (inl e) = let f : Does m x ≡ Begins n l.incarnation l.start l.remote = ap what_of e in absurd (cc)
+      here (inl e) = let f : Does m x ≡ Begins n l.incarnation l.start l.service = ap what_of e in absurd (cc)
       here (inr i) = elim (has_append (record { time = t; what = Does m x }) (map (done_at n) l.actions) (ended_at n l.ended) i) [
         | inl j ↦ made (has_map (done_at n) (record { time = t; what = Does m x }) l.actions j)
         | inr j ↦ absurd (end_no_deed n l.ended t x m j)
@@ -144,7 +144,7 @@ IsUpAt None = ⊥
 IsUpAt (Some d) = Unit {0}
 
 MayBeAt : ℕ → At → Act → Type 0
-MayBeAt n s (Begins m incarnation moment remote) = (1 ≤ n) × (n ≤ 32) × (s.daemon ≡ None) × (s.last < incarnation) × (incarnation ≤ last_u32)
+MayBeAt n s (Begins m incarnation moment service) = (1 ≤ n) × (n ≤ 32) × (s.daemon ≡ None) × (s.last < incarnation) × (incarnation ≤ last_u32)
 MayBeAt n s (Does m x) = IsUpAt s.daemon
 MayBeAt n s (Ends m) = IsUpAt s.daemon
 
@@ -186,7 +186,7 @@ module _ {T : Type 0} (c : Config) where
   life_made : (n : ℕ) (l : TimedLife T) (rest : List (Timed T Act)) (x : Timed T Exchange) → Has x (made_in c n l) → (s : At) → Has x (later_made n s (timed_acts n l ++ rest))
   unfolding later_made acted_at made_at
   life_made n l rest x h s =
-      let b : Daemon = begun_for l.remote c n l.incarnation l.start in
+      let b : Daemon = begun_for l.service c n l.incarnation l.start in
       subst (λ zs. Has x (later_made n (record { daemon = Some b; last = l.incarnation }) zs)) (sym (append_assoc (map (done_at n) l.actions) (ended_at n l.ended) rest)) (done_made n l.incarnation b l.actions (ended_at n l.ended ++ rest) x h)
 
   lives_made : (n : ℕ) (ls : List (TimedLife T)) (l : TimedLife T) → Has l ls → (x : Timed T Exchange) → Has x (made_in c n l) → (s : At) → Has x (later_made n s (flat_map (timed_acts n) ls))
@@ -209,8 +209,8 @@ module _ {T : Type 0} (c : Config) where
   lives_may n (l ∷ ls) last nodes one =
       let node = nodes l (inl refl) in (
         (node.0, node.1, refl, one.0, one.1),
-        subst (AllMayBe n (record { daemon = Some (begun_for l.remote c n l.incarnation l.start); last = l.incarnation })) (sym (append_assoc (map (done_at n) l.actions) (ended_at n l.ended) (flat_map (timed_acts n) ls)))
-            (done_may n l.incarnation (ended_at n l.ended ++ flat_map (timed_acts n) ls) (λ d. ends l.ended ls one.2 d (λ m. lives_may n ls l.incarnation (λ k i. nodes k (inr i)) one.3)) l.actions (begun_for l.remote c n l.incarnation l.start)),
+        subst (AllMayBe n (record { daemon = Some (begun_for l.service c n l.incarnation l.start); last = l.incarnation })) (sym (append_assoc (map (done_at n) l.actions) (ended_at n l.ended) (flat_map (timed_acts n) ls)))
+            (done_may n l.incarnation (ended_at n l.ended ++ flat_map (timed_acts n) ls) (λ d. ends l.ended ls one.2 d (λ m. lives_may n ls l.incarnation (λ k i. nodes k (inr i)) one.3)) l.actions (begun_for l.service c n l.incarnation l.start)),
       )
     where
       ends : (o : Option T) (later : List (TimedLife T)) → EndsBefore o later → (d : Daemon) → (ℕ → AllMayBe n (record { daemon = None; last = l.incarnation }) (flat_map (timed_acts n) later)) → AllMayBe n (record { daemon = Some d; last = l.incarnation }) (ended_at n o ++ flat_map (timed_acts n) later)
@@ -247,7 +247,7 @@ module _ {T : Type 0} (no_later : T → T → Bool) (linear : IsLinear T no_late
 
   MayBringIf : Net → List (Timed T Act) → T → Act → Type 0
   MayBringIf net rest t (Does n x) = MayBring net rest t x
-  MayBringIf net rest t (Begins n incarnation moment remote) = Unit {0}
+  MayBringIf net rest t (Begins n incarnation moment service) = Unit {0}
   MayBringIf net rest t (Ends n) = Unit {0}
 
   -- the acts that are still to come, in a network
@@ -289,7 +289,7 @@ module _ {T : Type 0} (no_later : T → T → Bool) (linear : IsLinear T no_late
 
     may_by : (x : Act) → MayBeAt (node_of x) (at_of (node_of x) net) x → MayBringIf net (a ∷ more) a.time x → MayAct P net x
     unfolding MayBeAt node_of at_of MayBringIf
-    may_by (Begins n incarnation moment remote) may h = record { some = may.0; most = may.1; down = may.2; later = may.3; fits = may.4 }
+    may_by (Begins n incarnation moment service) may h = record { some = may.0; most = may.1; down = may.2; later = may.3; fits = may.4 }
     may_by (Does n x) may h = of_up (MayDo P net.wire x) (net.daemons n) may (may_do x h)
     may_by (Ends n) may h = of_up (Unit {0}) (net.daemons n) may tt
 
@@ -337,7 +337,7 @@ module _ {T : Type 0} (no_later : T → T → Bool) (linear : IsLinear T no_late
 
     brings_after : (t : T) (x : Act) → MayBringIf net (a ∷ more) t x → MayBringIf after more t x
     unfolding MayBringIf MayBring
-    brings_after t (Begins n incarnation moment remote) h = tt
+    brings_after t (Begins n incarnation moment service) h = tt
     brings_after t (Ends n) h = tt
     brings_after t (Does n (Opens o)) h = tt
     brings_after t (Does n (Ticks moment f)) h = tt
@@ -406,7 +406,7 @@ module _ {T : Type 0} (no_later : T → T → Bool) (linear : IsLinear T no_late
 
     act_ready : (a : Timed T Act) → Has a acts → (w : Act) → a.what ≡ w → MayBringIf no_net acts a.time w
     unfolding MayBringIf at
-    act_ready a i (Begins n incarnation moment remote) e = tt
+    act_ready a i (Begins n incarnation moment service) e = tt
     act_ready a i (Ends n) e = tt
     act_ready a i (Does n y) e =
         let here : at_its n a ≡ true = ap (is_at n) e ∙ eq-eqb n n refl in
@@ -438,7 +438,7 @@ untimed_end n (Some t) = refl
 untimed_acts : {T : Type 0} (n : ℕ) (l : TimedLife T) → map what_of (timed_acts n l) ≡ acts_of n (untimed l)
 unfolding acts_of
 untimed_acts n l =
-    ap (λ zs. Begins n l.incarnation l.start l.remote ∷ zs) (map-append what_of (map (done_at n) l.actions) (ended_at n l.ended) ∙ ap₂ (λ xs ys. xs ++ ys) (untimed_done n l.actions) (untimed_end n l.ended))
+    ap (λ zs. Begins n l.incarnation l.start l.service ∷ zs) (map-append what_of (map (done_at n) l.actions) (ended_at n l.ended) ∙ ap₂ (λ xs ys. xs ++ ys) (untimed_done n l.actions) (untimed_end n l.ended))
 
 untimed_lives : {T : Type 0} (n : ℕ) (ls : List (TimedLife T)) → map what_of (flat_map (timed_acts n) ls) ≡ flat_map (acts_of n) (map untimed ls)
 untimed_lives n [] = refl

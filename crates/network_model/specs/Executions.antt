@@ -5,7 +5,7 @@ use Rattle.rsct_packet.specs.Ids.{last_u32}
 use Rattle.piece_link.specs.Answers.{Among}
 use Rattle.node_state.specs.declared.config.Config.{Config}
 use Rattle.node_state.specs.Settings.{is_fixed}
-use Rattle.daemon_model.specs.declared.options.RemoteService.{RemoteService}
+use Rattle.daemon_model.specs.declared.options.Service.{Service}
 use Rattle.daemon_model.specs.Sent.{Exchange}
 use Rattle.daemon_model.specs.Daemon.{Daemon, begun_for}
 use Rattle.daemon_model.specs.Actions.{Action, Hears, did}
@@ -35,12 +35,12 @@ NeverBack {T} {A} no_later (x ∷ xs) = ((y : Timed T A) → Among y xs → no_l
 
 -- ---- what a daemon did, and when
 
--- A daemon's life up to now: its incarnation, whether it serves clients on other machines, and what its clock said as it
+-- A daemon's life up to now: its incarnation, what it serves, and what its clock said as it
 -- started; when it began; its acts, each with the time at which it began; and when it ended, if it has. A tick begins as the
 -- clock is read, and a receive as its datagram is taken: so what an act sends it sends later than it begins.
 pub record TimedLife (T : Type 0) : Type 0 where
   pub incarnation : ℕ
-  pub remote : RemoteService
+  pub service : Service
   pub start : ℕ
   pub began : T
   pub actions : List (Timed T Action)
@@ -48,7 +48,7 @@ pub record TimedLife (T : Type 0) : Type 0 where
 
 -- without its times
 abbrev pub untimed : {T : Type 0} → TimedLife T → LifeIn
-untimed l = record { incarnation = l.incarnation; remote = l.remote; start = l.start; actions = map what_of l.actions; ended = not (is_none l.ended) }
+untimed l = record { incarnation = l.incarnation; service = l.service; start = l.start; actions = map what_of l.actions; ended = not (is_none l.ended) }
 
 abbrev pub done_at : {T : Type 0} → ℕ → Timed T Action → Timed T Act
 done_at n a = record { time = a.time; what = Does n a.what }
@@ -59,7 +59,7 @@ ended_at n (Some t) = record { time = t; what = Ends n } ∷ []
 
 -- the acts of a life of this node's daemon
 abbrev pub timed_acts : {T : Type 0} → ℕ → TimedLife T → List (Timed T Act)
-timed_acts n l = record { time = l.began; what = Begins n l.incarnation l.start l.remote } ∷ map (done_at n) l.actions ++ ended_at n l.ended
+timed_acts n l = record { time = l.began; what = Begins n l.incarnation l.start l.service } ∷ map (done_at n) l.actions ++ ended_at n l.ended
 
 -- ---- what it sent, and when
 
@@ -72,7 +72,7 @@ made_from d [] = []
 made_from d (a ∷ actions) = map (made_when a.time) (made_since d (did d a.what)) ++ made_from (did d a.what) actions
 
 abbrev pub made_in : {T : Type 0} → Config → ℕ → TimedLife T → List (Timed T Exchange)
-made_in c n l = made_from (begun_for l.remote c n l.incarnation l.start) l.actions
+made_in c n l = made_from (begun_for l.service c n l.incarnation l.start) l.actions
 
 -- The daemon of some node sent these bytes, to whichever, in an act that began earlier than this time; and of that send this
 -- holds. Not all that the definition of a daemon sends need have been sent, since it may end in the midst of an act.

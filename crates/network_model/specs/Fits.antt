@@ -84,7 +84,7 @@ OfUp P None = ⊥
 OfUp P (Some d) = P d
 
 abbrev pub MayAct : (Exchange → Type 0) → Net → Act → Type 0
-MayAct P net (Begins n incarnation moment remote) = MayBegin net n incarnation
+MayAct P net (Begins n incarnation moment service) = MayBegin net n incarnation
 MayAct P net (Does n action) = OfUp (λ d. MayDo P net.wire action) (net.daemons n)
 MayAct P net (Ends n) = OfUp (λ d. Unit {0}) (net.daemons n)
 

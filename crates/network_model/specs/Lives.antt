@@ -4,37 +4,37 @@ use Rattle.node_state.specs.declared.config.Config.{Config}
 use Rattle.node_state.specs.declared.happened.Happened.{Happened}
 use Rattle.node_state.specs.declared.happened.Happened.TheVariants as happened
 use Rattle.node_state.specs.Step.{started}
-use Rattle.daemon_model.specs.declared.options.RemoteService.{RemoteService}
+use Rattle.daemon_model.specs.declared.options.Service.{Service}
 use Rattle.daemon_model.specs.Daemon.{Daemon, Life, begun_for}
 use Rattle.daemon_model.specs.Actions.{Action, did_all, life_actions}
 use Rattle.network_model.specs.Network.{Act, Begins, Does, Ends, Net, no_net, acted}
 
--- a life that a daemon lived up to now: its incarnation, whether it serves clients on other machines, what its clock said as it
+-- a life that a daemon lived up to now: its incarnation, what it serves, what its clock said as it
 -- started, its acts, and whether it has ended
 pub record LifeIn : Type 0 where
   pub incarnation : ℕ
-  pub remote : RemoteService
+  pub service : Service
   pub start : ℕ
   pub actions : List Action
   pub ended : Bool
 
 -- a life of turns, that has ended or not
 abbrev pub life_in : ℕ → Life → Bool → LifeIn
-life_in incarnation life ended = record { incarnation = incarnation; remote = life.remote; start = life.start; actions = life_actions life; ended = ended }
+life_in incarnation life ended = record { incarnation = incarnation; service = life.service; start = life.start; actions = life_actions life; ended = ended }
 
 -- the daemon at the end of it
 unfoldable pub daemon_of : Config → ℕ → LifeIn → Daemon
-daemon_of c n l = did_all (begun_for l.remote c n l.incarnation l.start) l.actions
+daemon_of c n l = did_all (begun_for l.service c n l.incarnation l.start) l.actions
 
 abbrev pub end_of : ℕ → Bool → List Act
 end_of n true = Ends n ∷ []
 end_of n false = []
 
 unfoldable pub acts_of : ℕ → LifeIn → List Act
-acts_of n l = Begins n l.incarnation l.start l.remote ∷ map (Does n) l.actions ++ end_of n l.ended
+acts_of n l = Begins n l.incarnation l.start l.service ∷ map (Does n) l.actions ++ end_of n l.ended
 
 abbrev pub is_at : ℕ → Act → Bool
-is_at n (Begins node incarnation moment remote) = node == n
+is_at n (Begins node incarnation moment service) = node == n
 is_at n (Does node action) = node == n
 is_at n (Ends node) = node == n
 

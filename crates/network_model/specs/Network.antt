@@ -4,16 +4,15 @@ use Rattle.node_state.specs.declared.config.Config.{Config}
 use Rattle.node_state.specs.declared.happened.Happened.{Happened}
 use Rattle.node_state.specs.declared.happened.Happened.TheVariants as happened
 use Rattle.step_refinement.specs.Rules.{at_node}
-use Rattle.daemon_model.specs.declared.options.RemoteService.{RemoteService}
-use Rattle.daemon_model.specs.declared.options.RemoteService.TheVariants as service
+use Rattle.daemon_model.specs.declared.options.Service.{Service}
 use Rattle.daemon_model.specs.Sent.{Exchange}
-use Rattle.daemon_model.specs.Daemon.{Daemon, begun_for}
+use Rattle.daemon_model.specs.Daemon.{Daemon, begun_for, serves_nobody}
 use Rattle.daemon_model.specs.Actions.{Action, did}
 
--- what happens in a network: the daemon of a node starts, in an incarnation and at a moment, and serves clients on other
--- machines or not; it acts; and it ends, however it does
+-- what happens in a network: the daemon of a node starts, in an incarnation and at a moment, with what it serves; it acts; and
+-- it ends, however it does
 pub data Act : Type 0 where
-  Begins : (node incarnation moment : ℕ) (remote : RemoteService) → Act
+  Begins : (node incarnation moment : ℕ) (service : Service) → Act
   Does : (node : ℕ) (action : Action) → Act
   Ends : (node : ℕ) → Act
 
@@ -50,9 +49,9 @@ went_on n d e net = record net {
 
 -- ---- acts
 
-unfoldable pub starts : RemoteService → Config → ℕ → ℕ → ℕ → Net → Net
-starts remote c n incarnation moment net =
-    let d : Daemon = begun_for remote c n incarnation moment in
+unfoldable pub starts : Service → Config → ℕ → ℕ → ℕ → Net → Net
+starts service c n incarnation moment net =
+    let d : Daemon = begun_for service c n incarnation moment in
     record {
       daemons = at_node net.daemons n (Some d);
       incarnations = at_node net.incarnations n incarnation;
@@ -66,14 +65,14 @@ ends n net = record net { daemons = at_node net.daemons n None; records = net.re
 -- in each of the next incarnations, so many, the node starts and is down at once
 unfoldable pub idles : Config → ℕ → ℕ → Net → Net
 idles c n zero net = net
-idles c n (suc k) net = idles c n k (ends n (starts service.Off c n (net.incarnations n + 1) 0 net))
+idles c n (suc k) net = idles c n k (ends n (starts serves_nobody c n (net.incarnations n + 1) 0 net))
 
 -- how many incarnations a node skips that starts in this one
 abbrev pub skipped : Net → ℕ → ℕ → ℕ
 skipped net n incarnation = incarnation - 1 - net.incarnations n
 
-unfoldable pub begins : RemoteService → Config → ℕ → ℕ → ℕ → Net → Net
-begins remote c n incarnation moment net = starts remote c n incarnation moment (idles c n (skipped net n incarnation) net)
+unfoldable pub begins : Service → Config → ℕ → ℕ → ℕ → Net → Net
+begins service c n incarnation moment net = starts service c n incarnation moment (idles c n (skipped net n incarnation) net)
 
 -- what the daemon of a node does, if it is up
 abbrev pub does_if : (Daemon → Daemon) → ℕ → Option Daemon → Net → Net
@@ -81,7 +80,7 @@ does_if f n None net = net
 does_if f n (Some d) net = went_on n d (f d) net
 
 unfoldable pub acted : Config → Net → Act → Net
-acted c net (Begins n incarnation moment remote) = begins remote c n incarnation moment net
+acted c net (Begins n incarnation moment service) = begins service c n incarnation moment net
 acted c net (Does n action) = does_if (λ d. did d action) n (net.daemons n) net
 acted c net (Ends n) = ends n net
 

@@ -3,9 +3,9 @@ use Rattle.std.specs.Prelude.{ℕ, ◌+◌, ◌==◌, false, List, [], ◌∷◌
 use Rattle.hags_io.specs.declared.link.LinkCall.{LinkCall}
 use Rattle.hags_io.specs.declared.link.LinkCall.TheVariants as call
 use Rattle.node_state.specs.declared.config.Config.{Config}
-use Rattle.daemon_model.specs.declared.options.RemoteService.TheVariants as service
+use Rattle.daemon_model.specs.declared.options.RemoteService.TheVariants as remotes
 use Rattle.daemon_model.specs.Sent.{Exchange}
-use Rattle.daemon_model.specs.Daemon.{records_text}
+use Rattle.daemon_model.specs.Daemon.{plain_service, serves_nobody, records_text}
 use Rattle.daemon_model.specs.Actions.{Ticks, Hears}
 use Rattle.daemon_model.specs.Samples.{settings_for, silent, up_piece}
 use Rattle.network_model.specs.Network.{Act, Begins, Does, Ends, net_after}
@@ -23,7 +23,7 @@ hears n bytes = Does n (Hears (call.Received 1 bytes) silent)
 
 -- node 1 starts in incarnation 1, and 100 milliseconds later it ticks
 unfoldable pub one_ticks : List Act
-one_ticks = Begins 1 1 0 service.Off ∷ ticks 1 100 ∷ []
+one_ticks = Begins 1 1 0 serves_nobody ∷ ticks 1 100 ∷ []
 
 abbrev pub datagram_in : LinkCall → List (List ℕ)
 datagram_in (call.Sent node network bytes out) = bytes ∷ []
@@ -39,15 +39,15 @@ first_piece = slice_index_or (wire_after one_ticks) 0 []
 
 -- then node 2 starts, and is given that piece, twice
 unfoldable pub two_speak : List Act
-two_speak = Begins 1 1 0 service.Off ∷ ticks 1 100 ∷ Begins 2 1 100 service.Off ∷ hears 2 first_piece ∷ hears 2 first_piece ∷ []
+two_speak = Begins 1 1 0 serves_nobody ∷ ticks 1 100 ∷ Begins 2 1 100 serves_nobody ∷ hears 2 first_piece ∷ hears 2 first_piece ∷ []
 
 -- the daemon of node 1 ends, and starts again, skipping incarnation 2
 unfoldable pub starts_again : List Act
-starts_again = Begins 1 1 0 service.Off ∷ Ends 1 ∷ Begins 1 3 0 service.Off ∷ []
+starts_again = Begins 1 1 0 serves_nobody ∷ Ends 1 ∷ Begins 1 3 0 serves_nobody ∷ []
 
 -- node 1 serves clients on other machines: one of key 7 begins, and makes a call that is refused
 unfoldable pub one_serves : List Act
-one_serves = Begins 1 1 0 (service.On false) ∷ hears 1 (up_piece 1 1 (codes "client 1 a -")) ∷ hears 1 (up_piece 2 2 (codes "leave a db 1")) ∷ []
+one_serves = Begins 1 1 0 (plain_service (remotes.On false)) ∷ hears 1 (up_piece 1 1 (codes "client 1 a -")) ∷ hears 1 (up_piece 2 2 (codes "leave a db 1")) ∷ []
 
 -- what node 1 sent to that client first
 unfoldable pub first_down : List ℕ
@@ -56,27 +56,27 @@ first_down = slice_index_or (wire_after one_serves) 0 []
 -- then node 2 starts, and is given that by mistake
 unfoldable pub client_served : List Act
 client_served =
-    Begins 1 1 0 (service.On false) ∷ hears 1 (up_piece 1 1 (codes "client 1 a -")) ∷ hears 1 (up_piece 2 2 (codes "leave a db 1")) ∷ Begins 2 1 0 service.Off ∷ hears 2 first_down ∷ []
+    Begins 1 1 0 (plain_service (remotes.On false)) ∷ hears 1 (up_piece 1 1 (codes "client 1 a -")) ∷ hears 1 (up_piece 2 2 (codes "leave a db 1")) ∷ Begins 2 1 0 serves_nobody ∷ hears 2 first_down ∷ []
 
 -- ---- turns that cross
 
 -- both nodes tick, and each is then given what the other's tick sent: no order of whole turns, each a tick and its receive,
 -- has that
 unfoldable pub both_tick : List Act
-both_tick = Begins 1 1 0 service.Off ∷ Begins 2 1 0 service.Off ∷ ticks 1 100 ∷ ticks 2 100 ∷ []
+both_tick = Begins 1 1 0 serves_nobody ∷ Begins 2 1 0 serves_nobody ∷ ticks 1 100 ∷ ticks 2 100 ∷ []
 
 unfoldable pub second_piece : List ℕ
 second_piece = slice_index_or (wire_after both_tick) 1 []
 
 unfoldable pub ticks_cross : List Act
-ticks_cross = Begins 1 1 0 service.Off ∷ Begins 2 1 0 service.Off ∷ ticks 1 100 ∷ ticks 2 100 ∷ hears 1 second_piece ∷ hears 2 first_piece ∷ []
+ticks_cross = Begins 1 1 0 serves_nobody ∷ Begins 2 1 0 serves_nobody ∷ ticks 1 100 ∷ ticks 2 100 ∷ hears 1 second_piece ∷ hears 2 first_piece ∷ []
 
 -- the same with times: node 1 begins at 0 and node 2 at 1, each ticks two later and receives two after that, and goes on
 abbrev pub ticks_and_hears : ℕ → List ℕ → TimedLife ℕ
 ticks_and_hears began bytes =
     record {
       incarnation = 1;
-      remote = service.Off;
+      service = serves_nobody;
       start = 0;
       began = began;
       actions = record { time = began + 2; what = Ticks 100 silent } ∷ record { time = began + 4; what = Hears (call.Received 1 bytes) silent } ∷ [];
@@ -88,40 +88,40 @@ crossing n = if n == 1 then ticks_and_hears 0 second_piece ∷ [] else if n == 2
 
 -- what node 2 sends in its tick, where node 1 has not ticked, and what node 1 answers
 unfoldable pub second_alone : List ℕ
-second_alone = slice_index_or (wire_after (Begins 1 1 0 service.Off ∷ Begins 2 1 0 service.Off ∷ ticks 2 100 ∷ [])) 0 []
+second_alone = slice_index_or (wire_after (Begins 1 1 0 serves_nobody ∷ Begins 2 1 0 serves_nobody ∷ ticks 2 100 ∷ [])) 0 []
 
 -- node 2 ticks, and node 1 answers what that tick sent
 unfoldable pub one_answers : List Act
-one_answers = Begins 1 1 0 service.Off ∷ Begins 2 1 0 service.Off ∷ ticks 2 100 ∷ hears 1 second_alone ∷ []
+one_answers = Begins 1 1 0 serves_nobody ∷ Begins 2 1 0 serves_nobody ∷ ticks 2 100 ∷ hears 1 second_alone ∷ []
 
 unfoldable pub answer_piece : List ℕ
 answer_piece = slice_index_or (wire_after one_answers) 1 []
 
 -- node 2 is given the answer in the turn of that tick
 unfoldable pub answered_at_once : List Act
-answered_at_once = Begins 1 1 0 service.Off ∷ Begins 2 1 0 service.Off ∷ ticks 2 100 ∷ hears 1 second_alone ∷ hears 2 answer_piece ∷ []
+answered_at_once = Begins 1 1 0 serves_nobody ∷ Begins 2 1 0 serves_nobody ∷ ticks 2 100 ∷ hears 1 second_alone ∷ hears 2 answer_piece ∷ []
 
 -- ---- what no network may do
 
 -- node 2 is given what node 1 never sent
 unfoldable pub never_sent : List Act
-never_sent = Begins 1 1 0 service.Off ∷ Begins 2 1 0 service.Off ∷ hears 2 first_piece ∷ []
+never_sent = Begins 1 1 0 serves_nobody ∷ Begins 2 1 0 serves_nobody ∷ hears 2 first_piece ∷ []
 
 -- node 2 is given what node 1 sends later
 unfoldable pub heard_before : List Act
-heard_before = Begins 1 1 0 service.Off ∷ Begins 2 1 0 service.Off ∷ hears 2 first_piece ∷ ticks 1 100 ∷ []
+heard_before = Begins 1 1 0 serves_nobody ∷ Begins 2 1 0 serves_nobody ∷ hears 2 first_piece ∷ ticks 1 100 ∷ []
 
 -- node 1 is given what its own tick sends later
 unfoldable pub own_before : List Act
-own_before = Begins 1 1 0 service.Off ∷ hears 1 first_piece ∷ ticks 1 100 ∷ []
+own_before = Begins 1 1 0 serves_nobody ∷ hears 1 first_piece ∷ ticks 1 100 ∷ []
 
 -- node 1 starts again in its old incarnation
 unfoldable pub old_incarnation : List Act
-old_incarnation = Begins 1 1 0 service.Off ∷ Ends 1 ∷ Begins 1 1 0 service.Off ∷ []
+old_incarnation = Begins 1 1 0 serves_nobody ∷ Ends 1 ∷ Begins 1 1 0 serves_nobody ∷ []
 
 -- a second daemon of node 1 starts while the first is up
 unfoldable pub two_at_once : List Act
-two_at_once = Begins 1 1 0 service.Off ∷ Begins 1 2 0 service.Off ∷ []
+two_at_once = Begins 1 1 0 serves_nobody ∷ Begins 1 2 0 serves_nobody ∷ []
 
 -- the lines of what was recorded
 unfoldable pub lines_after : List Act → List ℕ

@@ -1,7 +1,9 @@
 //! Worked examples of networks. Each function is a law: what the definitions compute, and which runs they let be.
 ghost use Rattle.std.specs.Prelude.{◌≡◌, ℕ, List, None, length, nat_le};
 ghost use Rattle.node_state.specs.Bytes.{packet_of};
-ghost use Rattle.remote_session.specs.Messages.{UpIn, up_text, DownIn, down_text};
+ghost use Rattle.remote_session.specs.Messages.{UpIn, up_text, up_of, DownIn, down_text};
+ghost use Rattle.self_questions.specs.declared.messages.SelfQuestion.{SelfQuestion};
+ghost use Rattle.self_questions.specs.Messages.{question_text, reply_text};
 ghost use Rattle.network_model.specs.Executions.{Execution};
 ghost use Rattle.network_model.specs.Fits.{IsSpelledSend, NetworkRun};
 ghost use Rattle.network_model.specs.Samples.{pair, wire_after, lines_after, one_ticks, two_speak, two_speak_lines, both_tick, ticks_cross, crossing, one_answers, answered_at_once, both_up_lines, heard_before, own_before, starts_again, starts_again_lines, client_served, client_served_lines, never_sent, old_incarnation, old_incarnation_lines, two_at_once};
@@ -38,6 +40,15 @@ pub fn turns_cross()
 pub fn client_text_is_no_packet()
     ensures up { (u : UpIn) → packet_of (up_text u) ≡ None }
     ensures down { (d : DownIn) → packet_of (down_text d) ≡ None }
+{}
+
+/// What a daemon is asked about itself is no packet and no Up, and what it replies is no packet: so both may come, and
+/// without the answer a question does nothing.
+#[tactic(auto, using(crate::proofs::Marks::question_is_no_packet, crate::proofs::Marks::reply_is_no_packet, crate::proofs::Marks::question_is_no_up))]
+pub fn self_text_is_no_packet()
+    ensures question { (q : SelfQuestion) → packet_of (question_text q) ≡ None }
+    ensures reply { (q : SelfQuestion) (text : List ℕ) → packet_of (reply_text q text) ≡ None }
+    ensures up { (q : SelfQuestion) → up_of (question_text q) ≡ None }
 {}
 
 /// A client on another machine makes calls of a node, and what is sent to it does nothing at another.

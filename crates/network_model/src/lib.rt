@@ -5,5 +5,6 @@ mod examples;
 
 pub use examples::{
     client_text_is_no_packet, gives_after_the_send, gives_what_was_sent, has_one_daemon_of_a_node,
-    serves_a_client, skips_an_incarnation, speaks, starts_in_a_greater_incarnation, turns_cross,
+    self_text_is_no_packet, serves_a_client, skips_an_incarnation, speaks,
+    starts_in_a_greater_incarnation, turns_cross,
 };

@@ -1,4 +1,5 @@
--- What a whole message brings: a packet of the node, or what a client on another machine says, and then what is said to it.
+-- What a whole message brings: a packet of the node; what a client on another machine says, and then what is said to it; or a
+-- question about the daemon itself, and the reply.
 use Rattle.std.proofs.Common.{◌≡◌, ℕ, List, [], ◌∷◌, ◌++◌, Option, Some, None, refl, sym, ◌∙◌, subst, append-nil}
 use Rattle.rsct_packet.specs.Packet.{front_at, packet_at}
 use Rattle.node_state.specs.declared.call.CallLine.{CallLine}
@@ -12,11 +13,13 @@ use Rattle.world_laws.specs.world_answers.Answers.{Answered, goes_on}
 use Rattle.step_refinement.proofs.Changed.{set_here}
 use Rattle.remote_session.specs.Daemon.{SeenUp, NotUp, EndedKey, KeysFull, KnownKey, CallMade, down_for}
 use Rattle.remote_clients.specs.declared.sessions.Sessions.{Sessions}
-use Rattle.daemon_model.specs.Daemon.{Daemon, Opening, left_for, up_in, with_up, call_in, line_carried, called_by, down_in, down_sent, brought, given_on}
+use Rattle.self_questions.specs.declared.messages.SelfQuestion.{SelfQuestion}
+use Rattle.self_questions.specs.Messages.{question_of, reply_text}
+use Rattle.daemon_model.specs.Daemon.{Daemon, Opening, left_for, up_in, with_up, call_in, line_carried, called_by, down_in, sent_back, down_sent, brought, self_text, told_itself, asked, given_on}
 use Rattle.network_model.specs.Network.{Net, went_on}
-use Rattle.network_model.proofs.Marks.{down_is_no_packet}
-use Rattle.network_safety.specs.Safe.{answered_by, call_events, BroughtEvents, GivenEvents}
-use Rattle.network_laws.proofs.Going.{More, noted_is, goes_twice, same_more, down_more, carried_more}
+use Rattle.network_model.proofs.Marks.{down_is_no_packet, reply_is_no_packet}
+use Rattle.network_safety.specs.Safe.{answered_by, call_events, BroughtEvents, AskedEvents, GivenEvents}
+use Rattle.network_laws.proofs.Going.{More, noted_is, goes_twice, same_more, back_more, carried_more}
 use Rattle.network_safety.proofs.Joins.{IsJoinedOf}
 use Rattle.network_safety.proofs.Standing.{IsKnown, Stand}
 use Rattle.network_safety.proofs.Stepping.{StepsTo, own_up, step_stands, Says, keeps_stands, says_stands}
@@ -35,14 +38,18 @@ down_none None key = refl
 down_none (Some s) key = down_is_no_packet (down_for s.remote key)
 
 module _ (c : Config) (n : ℕ) (f : Answering) where
-  -- a daemon went on to another, which then sends the Down of a key
+  -- a daemon went on to another, which then sends a message that is no packet
+  says_back : (net : Net) (es : List Answered) (w : World) (d e : Daemon) → Stand c (went_on n d e net) es w → More d e → (network : ℕ) (message : List ℕ) → packet_of message ≡ None → Stand c (went_on n d (sent_back network message e) net) es w
+  says_back net es w d e k more network message none =
+      subst (λ z. Stand c z es w) (goes_twice n d e (sent_back network message e) net more (back_more network message e)) (says_stands c (went_on n d e net) es w k n e (went_here n d e net) network message none (sent_back network message e) says (noted_is e (sent_back network message e) [] (sym (append-nil e.records))))
+    where
+      says : Says (went_on n d e net) w k.wires n e (went_here n d e net) network message (sent_back network message e)
+      says = record { core = refl; me = refl; incarnation = refl; joining = refl; number = refl; calls = refl }
+
+  -- the Down of a key
   downs : (net : Net) (es : List Answered) (w : World) (d e : Daemon) → Stand c (went_on n d e net) es w → More d e → (key network : ℕ) → Stand c (went_on n d (down_sent key network e) net) es w
   unfolding down_sent
-  downs net es w d e k more key network =
-      subst (λ z. Stand c z es w) (goes_twice n d e (down_sent key network e) net more (down_more key network e)) (says_stands c (went_on n d e net) es w k n e (went_here n d e net) network (down_in e.sessions key) (down_none e.sessions key) (down_sent key network e) says (noted_is e (down_sent key network e) [] (sym (append-nil e.records))))
-    where
-      says : Says (went_on n d e net) w k.wires n e (went_here n d e net) network (down_in e.sessions key) (down_sent key network e)
-      says = record { core = refl; me = refl; incarnation = refl; joining = refl; number = refl; calls = refl }
+  downs net es w d e k more key network = says_back net es w d e k more network (down_in e.sessions key) (down_none e.sessions key)
 
   module _ (net : Net) (es : List Answered) (w : World) (k : Stand c net es w) (d : Daemon) (at : net.daemons n ≡ Some d) where
     -- only its sessions change
@@ -94,9 +101,22 @@ module _ (c : Config) (n : ℕ) (f : Answering) where
     brought_gives (KnownKey key) network message known = speaks key network message
     brought_gives (CallMade key line) network message known = calls_by (call_in (with_up message d).sessions d.me key line) key network message
 
+    -- a question about the daemon itself brings nothing, and the reply to it is no packet
+    asked_gives : (o : Option SelfQuestion) (network : ℕ) (message : List ℕ) → IsKnown w message → Gives c net es n d (asked o network message f d) (AskedEvents n d o message f)
+    unfolding asked told_itself
+    asked_gives None network message known = brought_gives (up_in d.sessions message) network message known
+    asked_gives (Some q) network message known =
+        let text : List ℕ = reply_text q (self_text q.what d) in
+        record {
+          events = [];
+          are = refl;
+          world = w;
+          stand = subst (λ zs. Stand c (went_on n d (sent_back network text d) net) zs w) (sym (append-nil es)) (says_back net es w d d (none_given c net es w k n d at) (same_more d d refl refl) network text (reply_is_no_packet q (self_text q.what d)));
+        }
+
 pub given_on_gives : (c : Config) (net : Net) (es : List Answered) (w : World) (k : Stand c net es w) (n : ℕ) (d : Daemon) → net.daemons n ≡ Some d → (network : ℕ) (f : Answering) (message : Option (List ℕ)) → IsKnownIf w message → Gives c net es n d (given_on network message f d) (GivenEvents n d message f)
 unfolding given_on
 given_on_gives c net es w k n d at network f None known =
     record { events = []; are = refl; world = w; stand = subst (λ zs. Stand c (went_on n d d net) zs w) (sym (append-nil es)) (none_given c net es w k n d at) }
 given_on_gives c net es w k n d at network f (Some message) known =
-    brought_gives c n f net es w k d at (up_in d.sessions message) network message known
+    asked_gives c n f net es w k d at (question_of message) network message known

@@ -19,7 +19,7 @@ use Rattle.world_safety.specs.Scripts.{IsSafe}
 use Rattle.world_safety.proofs.Scripts.{every_answer_is_safe}
 use Rattle.hags_io.specs.declared.link.LinkCall.{LinkCall}
 use Rattle.piece_link.specs.Answers.{Among}
-use Rattle.daemon_model.specs.declared.options.RemoteService.{RemoteService}
+use Rattle.daemon_model.specs.declared.options.Service.{Service}
 use Rattle.daemon_model.specs.Sent.{Exchange}
 use Rattle.daemon_model.specs.Doings.{Doing, Reads, Exchanges, Writes, AreSpelled, exchanges_in}
 use Rattle.daemon_model.specs.Daemon.{Daemon, Opening, opened, is_due, ticked, heard, goodbye_in, key_over, mended, left_for, stepped_for}
@@ -79,21 +79,21 @@ record ActGoes (c : Config) (net : Net) (es : List Answered) (a : Act) : Type 0 
   stand : Stand c (acted c net a) (es ++ events) world
 
 module _ (c : Config) (free : is_fixed c.mode ≡ false) (net : Net) (es : List Answered) (w : World) (k : Stand c net es w) where
-  begin_goes : (n incarnation moment : ℕ) (remote : RemoteService) → MayBegin net n incarnation → ActGoes c net es (Begins n incarnation moment remote)
+  begin_goes : (n incarnation moment : ℕ) (service : Service) → MayBegin net n incarnation → ActGoes c net es (Begins n incarnation moment service)
   unfolding acted begins
-  begin_goes n incarnation moment remote may =
+  begin_goes n incarnation moment service may =
       let i : ℕ = skipped net n incarnation in
       let later : net.incarnations n < incarnation = may.later in
       let fits : incarnation ≤ last_u32 = may.fits in
       let r : Idled c net es n (skipped net n incarnation) = idles_stand c n free may.some may.most (skipped net n incarnation) net es w k may.down (omega (arith, later, fits)) in
       let risen : (idles c n (skipped net n incarnation) net).incarnations n ≡ net.incarnations n + skipped net n incarnation = r.risen in
       let now : (idles c n (skipped net n incarnation) net).incarnations n + 1 ≡ incarnation = omega (arith, later, risen) in
-      let s = start_stands c (idles c n (skipped net n incarnation) net) (es ++ idle_events n (skipped net n incarnation)) r.world r.stand remote n moment free may.some may.most r.down (omega (arith, now, fits)) in
+      let s = start_stands c (idles c n (skipped net n incarnation) net) (es ++ idle_events n (skipped net n incarnation)) r.world r.stand service n moment free may.some may.most r.down (omega (arith, now, fits)) in
       record {
         events = idle_events n (skipped net n incarnation) ++ silent (event.Start n) ∷ [];
         are = refl;
         world = goes_on r.world (silent (event.Start n));
-        stand = subst (λ zs. Stand c (starts remote c n incarnation moment (idles c n (skipped net n incarnation) net)) zs (goes_on r.world (silent (event.Start n)))) (append_assoc es (idle_events n (skipped net n incarnation)) (silent (event.Start n) ∷ [])) (subst (λ j. Stand c (starts remote c n j moment (idles c n (skipped net n incarnation) net)) ((es ++ idle_events n (skipped net n incarnation)) ++ silent (event.Start n) ∷ []) (goes_on r.world (silent (event.Start n)))) now s);
+        stand = subst (λ zs. Stand c (starts service c n incarnation moment (idles c n (skipped net n incarnation) net)) zs (goes_on r.world (silent (event.Start n)))) (append_assoc es (idle_events n (skipped net n incarnation)) (silent (event.Start n) ∷ [])) (subst (λ j. Stand c (starts service c n j moment (idles c n (skipped net n incarnation) net)) ((es ++ idle_events n (skipped net n incarnation)) ++ silent (event.Start n) ∷ []) (goes_on r.world (silent (event.Start n)))) now s);
       }
 
   opening : (n : ℕ) (o : Opening) (d : Option Daemon) → net.daemons n ≡ d → OfUp (λ d. Unit {0}) d → ActGoes c net es (Does n (Opens o))
@@ -164,7 +164,7 @@ module _ (c : Config) (free : is_fixed c.mode ≡ false) (net : Net) (es : List 
       record { events = silent (event.Stop n) ∷ []; are = refl; world = goes_on w (silent (event.Stop n)); stand = end_stands c net es w k n d at }
 
   act_goes : (a : Act) → MayAct IsSpelledSend net a → ActGoes c net es a
-  act_goes (Begins n incarnation moment remote) may = begin_goes n incarnation moment remote may
+  act_goes (Begins n incarnation moment service) may = begin_goes n incarnation moment service may
   act_goes (Does n (Opens o)) may = opening n o (net.daemons n) refl may
   act_goes (Does n (Ticks moment f)) may = ticking n moment f (net.daemons n) refl may
   act_goes (Does n (EndsKey key f)) may = ending n key f (net.daemons n) refl may
@@ -224,7 +224,7 @@ module _ (c : Config) (P Q : Exchange → Type 0) (weaker : (x : Exchange) → P
   up_as wire x (Some d) h = may_do_as wire x h
 
   act_as : (net : Net) (a : Act) → MayAct P net a → MayAct Q net a
-  act_as net (Begins n incarnation moment remote) h = h
+  act_as net (Begins n incarnation moment service) h = h
   act_as net (Does n x) h = up_as net.wire x (net.daemons n) h
   act_as net (Ends n) h = h
 

@@ -15,9 +15,8 @@ use Rattle.step_refinement.proofs.Changed.{set_here, set_there, each_set}
 use Rattle.world_safety.specs.Mirrors.{inc_at}
 use Rattle.piece_link.specs.Pieces.{Message}
 use Rattle.piece_link.specs.Answers.{Among}
-use Rattle.daemon_model.specs.declared.options.RemoteService.{RemoteService}
-use Rattle.daemon_model.specs.declared.options.RemoteService.TheVariants as service
-use Rattle.daemon_model.specs.Daemon.{Daemon, left_for, begun_for}
+use Rattle.daemon_model.specs.declared.options.Service.{Service}
+use Rattle.daemon_model.specs.Daemon.{Daemon, left_for, begun_for, serves_nobody}
 use Rattle.network_model.specs.Network.{Net, starts, ends, idles}
 use Rattle.network_laws.proofs.Going.{begun_records, begun_calls}
 use Rattle.network_safety.specs.Safe.{silent, idle_events}
@@ -29,44 +28,44 @@ use Rattle.network_safety.proofs.Standing.{IsCore, Facts, facts, NodeOf, node_of
 -- ---- a start
 
 -- a daemon that starts has its node, at work
-begun_core : (remote : RemoteService) (c : Config) (n inc moment : ℕ) → (begun_for remote c n inc moment).core ≡ at_work (started c n inc)
+begun_core : (service : Service) (c : Config) (n inc moment : ℕ) → (begun_for service c n inc moment).core ≡ at_work (started c n inc)
 unfolding begun_for left_for
-begun_core remote c n inc moment = refl
+begun_core service c n inc moment = refl
 
-begun_up : (remote : RemoteService) (ms : List Message) (c : Config) (n inc moment : ℕ) → n ≤ 32 → inc < 2 ^ 32 → IsUp ms n inc (begun_for remote c n inc moment)
+begun_up : (service : Service) (ms : List Message) (c : Config) (n inc moment : ℕ) → n ≤ 32 → inc < 2 ^ 32 → IsUp ms n inc (begun_for service c n inc moment)
 unfolding begun_for left_for
-begun_up remote ms c n inc moment most fits = record { most = most; fits = fits; me = refl; incarnation = refl; rests = start_rests c n inc; joined = none_joined ms }
+begun_up service ms c n inc moment most fits = record { most = most; fits = fits; me = refl; incarnation = refl; rests = start_rests c n inc; joined = none_joined ms }
 
-begun_inc : (remote : RemoteService) (c : Config) (n inc moment : ℕ) → (begun_for remote c n inc moment).incarnation ≡ inc
+begun_inc : (service : Service) (c : Config) (n inc moment : ℕ) → (begun_for service c n inc moment).incarnation ≡ inc
 unfolding begun_for left_for
-begun_inc remote c n inc moment = refl
+begun_inc service c n inc moment = refl
 
-module _ (c : Config) (net : Net) (es : List Answered) (w : World) (k : Stand c net es w) (remote : RemoteService) (n moment : ℕ) (free : is_fixed c.mode ≡ false) (some : 1 ≤ n) (most : n ≤ 32) (down : net.daemons n ≡ None) (less : net.incarnations n < last_u32) where
-  same_core : (v : Config) (i : ℕ) → v ≡ c → i ≡ net.incarnations n → IsCore (Some (begun_for remote c n (net.incarnations n + 1) moment)) (Some (started v n (i + 1)))
-  same_core v i e f = ap (λ (z : Config). at_work (started z n (i + 1))) e ∙ ap (λ j. at_work (started c n (j + 1))) f ∙ sym (begun_core remote c n (net.incarnations n + 1) moment)
+module _ (c : Config) (net : Net) (es : List Answered) (w : World) (k : Stand c net es w) (service : Service) (n moment : ℕ) (free : is_fixed c.mode ≡ false) (some : 1 ≤ n) (most : n ≤ 32) (down : net.daemons n ≡ None) (less : net.incarnations n < last_u32) where
+  same_core : (v : Config) (i : ℕ) → v ≡ c → i ≡ net.incarnations n → IsCore (Some (begun_for service c n (net.incarnations n + 1) moment)) (Some (started v n (i + 1)))
+  same_core v i e f = ap (λ (z : Config). at_work (started z n (i + 1))) e ∙ ap (λ j. at_work (started c n (j + 1))) f ∙ sym (begun_core service c n (net.incarnations n + 1) moment)
 
-  same_records : (v : Config) (i : ℕ) → v ≡ c → i ≡ net.incarnations n → (begun_for remote c n (net.incarnations n + 1) moment).records ≡ (started v n (i + 1)).records
-  same_records v i e f = begun_records remote c n (net.incarnations n + 1) moment ∙ ap (λ j. (started c n (j + 1)).records) (sym f) ∙ ap (λ (z : Config). (started z n (i + 1)).records) (sym e)
+  same_records : (v : Config) (i : ℕ) → v ≡ c → i ≡ net.incarnations n → (begun_for service c n (net.incarnations n + 1) moment).records ≡ (started v n (i + 1)).records
+  same_records v i e f = begun_records service c n (net.incarnations n + 1) moment ∙ ap (λ j. (started c n (j + 1)).records) (sym f) ∙ ap (λ (z : Config). (started z n (i + 1)).records) (sym e)
 
   module _ (m : Message) (p : IsPast net m) where
-    past_start : IsPast (starts remote c n (net.incarnations n + 1) moment net) m
+    past_start : IsPast (starts service c n (net.incarnations n + 1) moment net) m
     unfolding starts
     past_start =
         record {
           incarnation = each_set (λ j i. m.sender ≡ j → m.incarnation ≤ i) net.incarnations n (net.incarnations n + 1) (λ e. risen e) (λ j ne e. subst (λ x. m.incarnation ≤ net.incarnations x) e p.incarnation) m.sender refl;
-          before = each_set (λ j o. m.sender ≡ j → IsBefore m o) net.daemons n (Some (begun_for remote c n (net.incarnations n + 1) moment)) (λ e same. fresh e same) (λ j ne e. subst (λ x. IsBefore m (net.daemons x)) e p.before) m.sender refl;
+          before = each_set (λ j o. m.sender ≡ j → IsBefore m o) net.daemons n (Some (begun_for service c n (net.incarnations n + 1) moment)) (λ e same. fresh e same) (λ j ne e. subst (λ x. IsBefore m (net.daemons x)) e p.before) m.sender refl;
         }
       where
         risen : m.sender ≡ n → m.incarnation ≤ net.incarnations n + 1
         risen e = let le : m.incarnation ≤ net.incarnations n = subst (λ x. m.incarnation ≤ net.incarnations x) e p.incarnation in omega (arith, le)
 
-        fresh : m.sender ≡ n → m.incarnation ≡ (begun_for remote c n (net.incarnations n + 1) moment).incarnation → m.number < (begun_for remote c n (net.incarnations n + 1) moment).number
+        fresh : m.sender ≡ n → m.incarnation ≡ (begun_for service c n (net.incarnations n + 1) moment).incarnation → m.number < (begun_for service c n (net.incarnations n + 1) moment).number
         fresh e same =
             let le : m.incarnation ≤ net.incarnations n = subst (λ x. m.incarnation ≤ net.incarnations x) e p.incarnation in
-            let eq : m.incarnation ≡ net.incarnations n + 1 = same ∙ begun_inc remote c n (net.incarnations n + 1) moment in
+            let eq : m.incarnation ≡ net.incarnations n + 1 = same ∙ begun_inc service c n (net.incarnations n + 1) moment in
             absurd (omega (arith, le, eq))
 
-  pub start_stands : Stand c (starts remote c n (net.incarnations n + 1) moment net) (es ++ silent (event.Start n) ∷ []) (goes_on w (silent (event.Start n)))
+  pub start_stands : Stand c (starts service c n (net.incarnations n + 1) moment net) (es ++ silent (event.Start n) ∷ []) (goes_on w (silent (event.Start n)))
   unfolding starts happens_by
   start_stands =
       let f : Facts c net es w k.world = facts c net es w k.world in
@@ -74,7 +73,7 @@ module _ (c : Config) (net : Net) (es : List Answered) (w : World) (k : Stand c 
       let at : find (is_node n) w.nodes ≡ None = no_node c net es w k.world n down in
       let l = starts_leave w n at (subst (λ i. i < last_u32) (k.world.incs n) less) in
       record {
-        world = stands_on c net es w k.world (silent (event.Start n)) (free, free_n) n (Some (begun_for remote c n (net.incarnations n + 1) moment)) (Some (started w.config n (inc_at w.starts n + 1))) (inc_at w.starts n + 1) (started w.config n (inc_at w.starts n + 1)).records [] l (same_core w.config (inc_at w.starts n) f.config (sym (k.world.incs n))) (starts remote c n (net.incarnations n + 1) moment net) refl (set_here net.incarnations n (net.incarnations n + 1) ∙ ap (λ i. i + 1) (k.world.incs n)) (λ m ne. set_there net.incarnations n (net.incarnations n + 1) m ne) (ap (λ xs. net.records ++ xs) (same_records w.config (inc_at w.starts n) f.config (sym (k.world.incs n))));
+        world = stands_on c net es w k.world (silent (event.Start n)) (free, free_n) n (Some (begun_for service c n (net.incarnations n + 1) moment)) (Some (started w.config n (inc_at w.starts n + 1))) (inc_at w.starts n + 1) (started w.config n (inc_at w.starts n + 1)).records [] l (same_core w.config (inc_at w.starts n) f.config (sym (k.world.incs n))) (starts service c n (net.incarnations n + 1) moment net) refl (set_here net.incarnations n (net.incarnations n + 1) ∙ ap (λ i. i + 1) (k.world.incs n)) (λ m ne. set_there net.incarnations n (net.incarnations n + 1) m ne) (ap (λ xs. net.records ++ xs) (same_records w.config (inc_at w.starts n) f.config (sym (k.world.incs n))));
         wires = record {
           all = k.wires.all;
           past = λ m h. past_start m (k.wires.past m h);
@@ -85,18 +84,18 @@ module _ (c : Config) (net : Net) (es : List Answered) (w : World) (k : Stand c 
           fits = k.wires.fits;
           known = λ m h. known_later w (goes_on w (silent (event.Start n))) l.old m.bytes (k.wires.known m h);
           up = λ m. elim (cases_eq m n) [
-            | inl e ↦ subst (λ j. IsUpIf k.wires.messages j (at_node net.incarnations n (net.incarnations n + 1) j) (at_node net.daemons n (Some (begun_for remote c n (net.incarnations n + 1) moment)) j)) (sym e) here
-            | inr ne ↦ subst (λ i. IsUpIf k.wires.messages m i (at_node net.daemons n (Some (begun_for remote c n (net.incarnations n + 1) moment)) m)) (sym (set_there net.incarnations n (net.incarnations n + 1) m ne)) (subst (IsUpIf k.wires.messages m (net.incarnations m)) (sym (set_there net.daemons n (Some (begun_for remote c n (net.incarnations n + 1) moment)) m ne)) (k.wires.up m))
+            | inl e ↦ subst (λ j. IsUpIf k.wires.messages j (at_node net.incarnations n (net.incarnations n + 1) j) (at_node net.daemons n (Some (begun_for service c n (net.incarnations n + 1) moment)) j)) (sym e) here
+            | inr ne ↦ subst (λ i. IsUpIf k.wires.messages m i (at_node net.daemons n (Some (begun_for service c n (net.incarnations n + 1) moment)) m)) (sym (set_there net.incarnations n (net.incarnations n + 1) m ne)) (subst (IsUpIf k.wires.messages m (net.incarnations m)) (sym (set_there net.daemons n (Some (begun_for service c n (net.incarnations n + 1) moment)) m ne)) (k.wires.up m))
           ];
         };
       }
     where
-      no_more : net.wire ++ (begun_for remote c n (net.incarnations n + 1) moment).calls ≡ net.wire
-      no_more = ap (λ xs. net.wire ++ xs) (begun_calls remote c n (net.incarnations n + 1) moment) ∙ append-nil net.wire
+      no_more : net.wire ++ (begun_for service c n (net.incarnations n + 1) moment).calls ≡ net.wire
+      no_more = ap (λ xs. net.wire ++ xs) (begun_calls service c n (net.incarnations n + 1) moment) ∙ append-nil net.wire
 
-      here : IsUpIf k.wires.messages n (at_node net.incarnations n (net.incarnations n + 1) n) (at_node net.daemons n (Some (begun_for remote c n (net.incarnations n + 1) moment)) n)
+      here : IsUpIf k.wires.messages n (at_node net.incarnations n (net.incarnations n + 1) n) (at_node net.daemons n (Some (begun_for service c n (net.incarnations n + 1) moment)) n)
       here =
-          subst (λ i. IsUpIf k.wires.messages n i (at_node net.daemons n (Some (begun_for remote c n (net.incarnations n + 1) moment)) n)) (sym (set_here net.incarnations n (net.incarnations n + 1))) (subst (IsUpIf k.wires.messages n (net.incarnations n + 1)) (sym (set_here net.daemons n (Some (begun_for remote c n (net.incarnations n + 1) moment)))) (begun_up remote k.wires.messages c n (net.incarnations n + 1) moment most (omega (arith, less))))
+          subst (λ i. IsUpIf k.wires.messages n i (at_node net.daemons n (Some (begun_for service c n (net.incarnations n + 1) moment)) n)) (sym (set_here net.incarnations n (net.incarnations n + 1))) (subst (IsUpIf k.wires.messages n (net.incarnations n + 1)) (sym (set_here net.daemons n (Some (begun_for service c n (net.incarnations n + 1) moment)))) (begun_up service k.wires.messages c n (net.incarnations n + 1) moment most (omega (arith, less))))
 
 -- ---- an end
 
@@ -136,13 +135,13 @@ ended_inc : (n : ℕ) (net : Net) (m : ℕ) → (ends n net).incarnations m ≡ 
 unfolding ends
 ended_inc n net m = refl
 
-started_up : (remote : RemoteService) (c : Config) (n inc moment : ℕ) (net : Net) → (starts remote c n inc moment net).daemons n ≡ Some (begun_for remote c n inc moment)
+started_up : (service : Service) (c : Config) (n inc moment : ℕ) (net : Net) → (starts service c n inc moment net).daemons n ≡ Some (begun_for service c n inc moment)
 unfolding starts
-started_up remote c n inc moment net = set_here net.daemons n (Some (begun_for remote c n inc moment))
+started_up service c n inc moment net = set_here net.daemons n (Some (begun_for service c n inc moment))
 
-started_inc : (remote : RemoteService) (c : Config) (n inc moment : ℕ) (net : Net) → (starts remote c n inc moment net).incarnations n ≡ inc
+started_inc : (service : Service) (c : Config) (n inc moment : ℕ) (net : Net) → (starts service c n inc moment net).incarnations n ≡ inc
 unfolding starts
-started_inc remote c n inc moment net = set_here net.incarnations n inc
+started_inc service c n inc moment net = set_here net.incarnations n inc
 
 pub record Idled (c : Config) (net : Net) (es : List Answered) (n k : ℕ) : Type 0 where
   pub world : World
@@ -155,10 +154,10 @@ unfolding idles
 idles_stand c n free some most zero net es w k down less =
     record { world = w; stand = subst (λ zs. Stand c net zs w) (sym (append-nil es)) k; down = down; risen = omega arith }
 idles_stand c n free some most (suc i) net es w k down less =
-    let up : Net = starts service.Off c n (net.incarnations n + 1) 0 net in
-    let s1 : Stand c up (es ++ silent (event.Start n) ∷ []) (goes_on w (silent (event.Start n))) = start_stands c net es w k service.Off n 0 free some most down (omega (arith, less)) in
-    let s2 = end_stands c up (es ++ silent (event.Start n) ∷ []) (goes_on w (silent (event.Start n))) s1 n (begun_for service.Off c n (net.incarnations n + 1) 0) (started_up service.Off c n (net.incarnations n + 1) 0 net) in
-    let now : (ends n up).incarnations n ≡ net.incarnations n + 1 = ended_inc n up n ∙ started_inc service.Off c n (net.incarnations n + 1) 0 net in
+    let up : Net = starts serves_nobody c n (net.incarnations n + 1) 0 net in
+    let s1 : Stand c up (es ++ silent (event.Start n) ∷ []) (goes_on w (silent (event.Start n))) = start_stands c net es w k serves_nobody n 0 free some most down (omega (arith, less)) in
+    let s2 = end_stands c up (es ++ silent (event.Start n) ∷ []) (goes_on w (silent (event.Start n))) s1 n (begun_for serves_nobody c n (net.incarnations n + 1) 0) (started_up serves_nobody c n (net.incarnations n + 1) 0 net) in
+    let now : (ends n up).incarnations n ≡ net.incarnations n + 1 = ended_inc n up n ∙ started_inc serves_nobody c n (net.incarnations n + 1) 0 net in
     let r : Idled c (ends n up) ((es ++ silent (event.Start n) ∷ []) ++ silent (event.Stop n) ∷ []) n i = idles_stand c n free some most i (ends n up) ((es ++ silent (event.Start n) ∷ []) ++ silent (event.Stop n) ∷ []) (goes_on (goes_on w (silent (event.Start n))) (silent (event.Stop n))) s2 (ended_down n up) (omega (arith, now, less)) in
     let risen : (idles c n i (ends n up)).incarnations n ≡ (ends n up).incarnations n + i = r.risen in
     record {

@@ -30,8 +30,7 @@ use Rattle.world_safety.proofs.Traces.{run_has_the_records}
 use Rattle.log_laws.specs.Logs.{LivesAreLogged, Logs, Nothing, LeavesOut}
 use Rattle.log_laws.proofs.Runs.{every_run_is_seen_in_logs}
 use Rattle.log_laws.proofs.Writing.{IsRing, writes_all, goes_down, life_left_out, no_later}
-use Rattle.daemon_model.specs.declared.options.RemoteService.TheVariants as service
-use Rattle.daemon_model.specs.Daemon.{Daemon, begun_for}
+use Rattle.daemon_model.specs.Daemon.{Daemon, begun_for, serves_nobody}
 use Rattle.daemon_model.specs.Actions.{did}
 use Rattle.daemon_model.specs.Sent.{Exchange}
 use Rattle.network_model.specs.Network.{Act, Begins, Does, Ends, Net, no_net, skipped, noted_since, went_on, starts, ends, idles, begins, does_if, acted}
@@ -114,9 +113,9 @@ module _ (c : Config) (free : is_fixed c.mode ≡ false) where
   unfolding idles starts ends
   idles_logged n zero net ls le l = l
   idles_logged n (suc k) net ls le l =
-      let next : Net = ends n (starts service.Off c n (net.incarnations n + 1) 0 net) in
+      let next : Net = ends n (starts serves_nobody c n (net.incarnations n + 1) 0 net) in
       let risen : next.incarnations n ≡ net.incarnations n + 1 = set_here net.incarnations n (net.incarnations n + 1) in
-      let records : next.records ≡ (net.records ++ (started c n (net.incarnations n + 1)).records) ++ happened.Down n ∷ [] = ap (λ xs. (net.records ++ xs) ++ happened.Down n ∷ []) (begun_records service.Off c n (net.incarnations n + 1) 0) in
+      let records : next.records ≡ (net.records ++ (started c n (net.incarnations n + 1)).records) ++ happened.Down n ∷ [] = ap (λ xs. (net.records ++ xs) ++ happened.Down n ∷ []) (begun_records serves_nobody c n (net.incarnations n + 1) 0) in
       idles_logged n k next ls (omega (arith, le, risen)) (idle n (net.incarnations n + 1) net next ls records (omega (arith, le)) l)
 
   does_logged : (f : Daemon → Daemon) (n : ℕ) (net : Net) (o : Option Daemon) (ls : List Happened) → Logged net ls → Logged (does_if f n o net) (reverse (written_if f o) ++ ls)
@@ -126,11 +125,11 @@ module _ (c : Config) (free : is_fixed c.mode ≡ false) where
 
   act_logged : (net : Net) → Told c net → (a : Act) (ls : List Happened) → Logged net ls → Logged (acted c net a) (reverse (written c net a) ++ ls)
   unfolding acted begins starts ends written
-  act_logged net t (Begins n incarnation moment remote) ls l =
+  act_logged net t (Begins n incarnation moment service) ls l =
       let idled : Net = idles c n (skipped net n incarnation) net in
       let least : inc_now n ls ≤ inc_now n (reverse net.records) = no_later n (reverse net.records) ls l.logs in
       let is : inc_now n (reverse net.records) ≡ net.incarnations n = t.incs n in
-      writes idled (starts remote c n incarnation moment idled) (begun_for remote c n incarnation moment).records ls refl (idles_logged n (skipped net n incarnation) net ls (omega (arith, least, is)) l)
+      writes idled (starts service c n incarnation moment idled) (begun_for service c n incarnation moment).records ls refl (idles_logged n (skipped net n incarnation) net ls (omega (arith, least, is)) l)
   act_logged net t (Does n x) ls l = does_logged (λ d. did d x) n net (net.daemons n) ls l
   act_logged net t (Ends n) ls l = downs n net (ends n net) ls refl l
 

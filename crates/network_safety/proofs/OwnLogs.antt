@@ -15,13 +15,13 @@ use Rattle.network_safety.specs.Logs.{written_if, written, kept_if, logged_at, l
 -- ---- an act, at its node
 
 written_at : Config → ℕ → At → Act → List Happened
-written_at c n s (Begins node incarnation moment remote) = (begun_for remote c n incarnation moment).records
+written_at c n s (Begins node incarnation moment service) = (begun_for service c n incarnation moment).records
 written_at c n s (Does node action) = written_if (λ d. did d action) s.daemon
 written_at c n s (Ends node) = []
 
 its_written : (c : Config) (n : ℕ) (net : Net) (a : Act) → is_at n a ≡ true → written c net a ≡ written_at c n (at_of n net) a
 unfolding written written_at at_of
-its_written c n net (Begins m incarnation moment remote) e = ap (λ j. (begun_for remote c j incarnation moment).records) (eqb-true m n e)
+its_written c n net (Begins m incarnation moment service) e = ap (λ j. (begun_for service c j incarnation moment).records) (eqb-true m n e)
 its_written c n net (Does m x) e = ap (λ j. written_if (λ d. did d x) (net.daemons j)) (eqb-true m n e)
 its_written c n net (Ends m) e = refl
 
@@ -66,7 +66,7 @@ ends_at c n last d false rest = refl
 life_at : (c : Config) (n : ℕ) (s : At) (l : LifeIn) (rest : List Act) → all_written c n s (acts_of n l ++ rest) ≡ (daemon_of c n l).records ++ all_written c n (rest_at l.incarnation (daemon_of c n l) l.ended) rest
 unfolding acts_of all_written written_at acted_at daemon_of
 life_at c n s l rest =
-    let b : Daemon = begun_for l.remote c n l.incarnation l.start in
+    let b : Daemon = begun_for l.service c n l.incarnation l.start in
     let up : Daemon → At = λ d. record { daemon = Some d; last = l.incarnation } in
     ap (λ zs. b.records ++ all_written c n (up b) zs) (append_assoc (map (Does n) l.actions) (end_of n l.ended) rest) ∙ does_at c n l.incarnation l.actions b (end_of n l.ended ++ rest)
     ∙ ap (λ zs. (did_all b l.actions).records ++ zs) (ends_at c n l.incarnation (did_all b l.actions) l.ended rest)

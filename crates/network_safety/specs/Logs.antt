@@ -23,7 +23,7 @@ written_if f (Some d) = noted_since d (f d)
 
 -- what a daemon writes of an act: what its node records there; nothing of its end
 unfoldable pub written : Config → Net → Act → List Happened
-written c net (Begins n incarnation moment remote) = (begun_for remote c n incarnation moment).records
+written c net (Begins n incarnation moment service) = (begun_for service c n incarnation moment).records
 written c net (Does n action) = written_if (λ d. did d action) (net.daemons n)
 written c net (Ends n) = []
 

@@ -8,6 +8,8 @@ use Rattle.world_model.specs.declared.event.Event.{Event}
 use Rattle.world_model.specs.declared.event.Event.TheVariants as event
 use Rattle.world_laws.specs.world_answers.Answers.{Answered, events_in}
 use Rattle.remote_session.specs.Daemon.{SeenUp, NotUp, EndedKey, KeysFull, KnownKey, CallMade}
+use Rattle.self_questions.specs.declared.messages.SelfQuestion.{SelfQuestion}
+use Rattle.self_questions.specs.Messages.{question_of}
 use Rattle.world_safety.specs.Events.{AllMayHappen}
 use Rattle.world_safety.specs.Scripts.{IsSafe}
 use Rattle.daemon_model.specs.Daemon.{Daemon, is_due, joined_by, received, up_in, with_up, call_in, goodbye_in}
@@ -59,10 +61,15 @@ BroughtEvents n d (KeysFull key limit) message f es = es ≡ []
 BroughtEvents n d (KnownKey key) message f es = es ≡ []
 BroughtEvents n d (CallMade key line) message f es = es ≡ call_events n (call_in (with_up message d).sessions d.me key line) f
 
+-- a question about the daemon itself is no event
+abbrev pub AskedEvents : ℕ → Daemon → Option SelfQuestion → List ℕ → Answering → List Answered → Type 0
+AskedEvents n d None message f es = BroughtEvents n d (up_in d.sessions message) message f es
+AskedEvents n d (Some q) message f es = es ≡ []
+
 -- a message that is whole, if one is
 abbrev pub GivenEvents : ℕ → Daemon → Option (List ℕ) → Answering → List Answered → Type 0
 GivenEvents n d None f es = es ≡ []
-GivenEvents n d (Some message) f es = BroughtEvents n d (up_in d.sessions message) message f es
+GivenEvents n d (Some message) f es = AskedEvents n d (question_of message) message f es
 
 -- an act of a daemon: a call; a tick, where one is due; the goodbye that a key owes as it ends; an order to ask for a view of the
 -- nodes that it reaches; or the message that is whole by what it receives
@@ -74,7 +81,7 @@ ActionEvents n d (Mends answers) es = es ≡ answered_by answers (event.Ask n (r
 ActionEvents n d (Hears got answers) es = GivenEvents n (received got d) (joined_by got d.joining).message answers es
 
 abbrev pub ActEvents : Net → Act → List Answered → Type 0
-ActEvents net (Begins n incarnation moment remote) es = es ≡ idle_events n (skipped net n incarnation) ++ silent (event.Start n) ∷ []
+ActEvents net (Begins n incarnation moment service) es = es ≡ idle_events n (skipped net n incarnation) ++ silent (event.Start n) ∷ []
 ActEvents net (Does n action) es = OfUp (λ d. ActionEvents n d action es) (net.daemons n)
 ActEvents net (Ends n) es = es ≡ silent (event.Stop n) ∷ []
 
