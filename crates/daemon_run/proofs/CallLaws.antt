@@ -11,7 +11,7 @@ use Rattle.node_state.specs.Step.{Calls, at_work}
 use Rattle.node_core.specs.Node.{NodeView}
 use Rattle.world_model.specs.declared.script.Line.{Line}
 use Rattle.world_model.specs.declared.script.Script.{Script}
-use Rattle.daemon_model.specs.declared.options.RemoteService.{RemoteService}
+use Rattle.daemon_model.specs.declared.options.Service.{Service}
 use Rattle.daemon_model.specs.Daemon.{Daemon, Opening, left_for, fresh, begun_for, stepped_by, opened, own_call, own_calls}
 use Rattle.daemon_model.specs.Actions.{Opens, did, did_all}
 use Rattle.daemon_model.specs.Doings.{since, step_doings, doings, doings_of, Made, MadeFront}
@@ -62,9 +62,9 @@ unfolding unanswered
 unanswered_are [] = refl
 unanswered_are (c ∷ cs) = ap (λ t. c ∷ t) (unanswered_are cs)
 
-begun_since : (C : Type 0) (remote : RemoteService) (c : Config) (me inc moment : ℕ) → since (fresh remote c me inc moment) (begun_for remote c me inc moment) ≡ left_doings (fresh_running {C = C} remote c me inc moment)
+begun_since : (C : Type 0) (service : Service) (c : Config) (me inc moment : ℕ) → since (fresh service c me inc moment) (begun_for service c me inc moment) ≡ left_doings (fresh_running {C = C} service c me inc moment)
 unfolding begun_for left_for
-begun_since C remote c me inc moment = since_is (fresh remote c me inc moment) (begun_for remote c me inc moment) _ _ refl refl
+begun_since C service c me inc moment = since_is (fresh service c me inc moment) (begun_for service c me inc moment) _ _ refl refl
 
 module _ {C : Type 0} where
   -- ---- one call
@@ -160,94 +160,94 @@ module _ {C : Type 0} where
   -- ---- from the start on
 
   -- the daemon that begins is the one whose node has just started, as it is once that is settled
-  begun_is : (remote : RemoteService) (c : Config) (me inc moment : ℕ) (s : Running C) (t u : Telling) → Settles None (fresh_running remote c me inc moment) s t u
-      → begun_for remote c me inc moment ≡ daemon_of s (begun_for remote c me inc moment).calls (begun_for remote c me inc moment).records
+  begun_is : (service : Service) (c : Config) (me inc moment : ℕ) (s : Running C) (t u : Telling) → Settles None (fresh_running service c me inc moment) s t u
+      → begun_for service c me inc moment ≡ daemon_of s (begun_for service c me inc moment).calls (begun_for service c me inc moment).records
   unfolding begun_for left_for
-  begun_is remote c me inc moment s t u h = settled_is None (fresh_running remote c me inc moment) s t u h [] []
+  begun_is service c me inc moment s t u h = settled_is None (fresh_running service c me inc moment) s t u h [] []
 
   -- what the calls hand, from no clients on
-  begins_with : (A B : Known → List (Hosted C) → Audience → Type 0) (remote : RemoteService) (c : Config) (me inc moment : ℕ) (s q : Running C) (t u : Telling) → Settles None (fresh_running remote c me inc moment) s t u → (os : List Opening)
-      → Attends A B s q (λ d. ActionsHand d (map Opens os)) → BeginsWith A B remote c me inc moment q os
-  begins_with A B remote c me inc moment s q t u h os k z =
-      let d : Daemon = begun_for remote c me inc moment in
+  begins_with : (A B : Known → List (Hosted C) → Audience → Type 0) (service : Service) (c : Config) (me inc moment : ℕ) (s q : Running C) (t u : Telling) → Settles None (fresh_running service c me inc moment) s t u → (os : List Opening)
+      → Attends A B s q (λ d. ActionsHand d (map Opens os)) → BeginsWith A B service c me inc moment q os
+  begins_with A B service c me inc moment s q t u h os k z =
+      let d : Daemon = begun_for service c me inc moment in
       let a : (y : Audience) × ActionsHand (daemon_of s d.calls d.records) (map Opens os) z y × Passes A B s.node.clients q.node.clients z y = k d.calls d.records z in (
         a.0,
-        subst (λ (e : Daemon). ActionsHand e (map Opens os) z a.0) (sym (begun_is remote c me inc moment s t u h)) a.1,
+        subst (λ (e : Daemon). ActionsHand e (map Opens os) z a.0) (sym (begun_is service c me inc moment s t u h)) a.1,
         λ known held. a.2 known (subst (λ (r : Running C). A known r.node.clients z) (sym h.is) held),
       )
 
   -- ---- it begins
 
-  pub begins_done : {A B : Known → List (Hosted C) → Audience → Type 0} (remote : RemoteService) (script : Script) (me inc moment : ℕ) (s q : Running C) (t u v : Telling) → Settles None (fresh_running remote script.config me inc moment) s t u → CallsAs A B s q (own_calls me script.lines) u v
-      → BeginsAs A B remote script me inc moment q t v
-  begins_done {A = A} {B = B} remote script me inc moment s q t u v h n =
-      let d : Daemon = begun_for remote script.config me inc moment in
-      let is : d ≡ daemon_of s d.calls d.records = begun_is remote script.config me inc moment s t u h in
+  pub begins_done : {A B : Known → List (Hosted C) → Audience → Type 0} (service : Service) (script : Script) (me inc moment : ℕ) (s q : Running C) (t u v : Telling) → Settles None (fresh_running service script.config me inc moment) s t u → CallsAs A B s q (own_calls me script.lines) u v
+      → BeginsAs A B service script me inc moment q t v
+  begins_done {A = A} {B = B} service script me inc moment s q t u v h n =
+      let d : Daemon = begun_for service script.config me inc moment in
+      let is : d ≡ daemon_of s d.calls d.records = begun_is service script.config me inc moment s t u h in
       let after : did_all d (map Opens n.opening) ≡ daemon_of q (d.calls ++ n.acts.calls) (d.records ++ n.acts.records) = ap (λ (e : Daemon). did_all e (map Opens n.opening)) is ∙ n.acts.is d.calls d.records in
       record {
         opening = n.opening;
         are = n.are;
         is = after ∙ ap₂ (daemon_of q) (sym (ap (λ (e : Daemon). e.calls) after)) (sym (ap (λ (e : Daemon). e.records) after));
         made = subst (Made t v)
-            (ap₂ (λ x y. x ++ y) (sym (begun_since C remote script.config me inc moment)) (sym (ap (λ (e : Daemon). doings_of e (map Opens n.opening)) is ∙ n.acts.are d.calls d.records)))
-            (made_on t u v (left_doings (fresh_running {C = C} remote script.config me inc moment)) n.acts.done h.made n.acts.made);
-        attends = begins_with A B remote script.config me inc moment s q t u h n.opening n.acts.attends;
+            (ap₂ (λ x y. x ++ y) (sym (begun_since C service script.config me inc moment)) (sym (ap (λ (e : Daemon). doings_of e (map Opens n.opening)) is ∙ n.acts.are d.calls d.records)))
+            (made_on t u v (left_doings (fresh_running {C = C} service script.config me inc moment)) n.acts.done h.made n.acts.made);
+        attends = begins_with A B service script.config me inc moment s q t u h n.opening n.acts.attends;
       }
 
-  pub begins_broke : (remote : RemoteService) (script : Script) (me inc moment : ℕ) (s : Running C) (t u v : Telling) → Settles None (fresh_running remote script.config me inc moment) s t u → CallsBreak s (own_calls me script.lines) u v
-      → BeginBreaks remote script me inc moment t v
-  begins_broke remote script me inc moment s t u v h n =
-      let d : Daemon = begun_for remote script.config me inc moment in
-      let is : d ≡ daemon_of s d.calls d.records = begun_is remote script.config me inc moment s t u h in
+  pub begins_broke : (service : Service) (script : Script) (me inc moment : ℕ) (s : Running C) (t u v : Telling) → Settles None (fresh_running service script.config me inc moment) s t u → CallsBreak s (own_calls me script.lines) u v
+      → BeginBreaks service script me inc moment t v
+  begins_broke service script me inc moment s t u v h n =
+      let d : Daemon = begun_for service script.config me inc moment in
+      let is : d ≡ daemon_of s d.calls d.records = begun_is service script.config me inc moment s t u h in
       record {
         opening = n.opening;
         are = n.are;
-        made = subst (MadeFront t v) (ap₂ (λ x y. x ++ y) (sym (begun_since C remote script.config me inc moment)) (sym (ap (λ (e : Daemon). doings_of e (map Opens n.opening)) is)))
-            (made_front_on t u v (left_doings (fresh_running {C = C} remote script.config me inc moment)) (doings_of (daemon_of s d.calls d.records) (map Opens n.opening)) h.made (n.breaks d.calls d.records));
+        made = subst (MadeFront t v) (ap₂ (λ x y. x ++ y) (sym (begun_since C service script.config me inc moment)) (sym (ap (λ (e : Daemon). doings_of e (map Opens n.opening)) is)))
+            (made_front_on t u v (left_doings (fresh_running {C = C} service script.config me inc moment)) (doings_of (daemon_of s d.calls d.records) (map Opens n.opening)) h.made (n.breaks d.calls d.records));
       }
 
   -- a write of the calls failed
-  pub begins_fail : {A B : Known → List (Hosted C) → Audience → Type 0} (remote : RemoteService) (script : Script) (me inc moment : ℕ) (s q : Running C) (t u v : Telling) → Settles None (fresh_running remote script.config me inc moment) s t u → CallsFail A B s q (own_calls me script.lines) u v
-      → BeginFails A B remote script me inc moment q t v
-  begins_fail {A = A} {B = B} remote script me inc moment s q t u v h n =
-      let d : Daemon = begun_for remote script.config me inc moment in
-      let is : d ≡ daemon_of s d.calls d.records = begun_is remote script.config me inc moment s t u h in
+  pub begins_fail : {A B : Known → List (Hosted C) → Audience → Type 0} (service : Service) (script : Script) (me inc moment : ℕ) (s q : Running C) (t u v : Telling) → Settles None (fresh_running service script.config me inc moment) s t u → CallsFail A B s q (own_calls me script.lines) u v
+      → BeginFails A B service script me inc moment q t v
+  begins_fail {A = A} {B = B} service script me inc moment s q t u v h n =
+      let d : Daemon = begun_for service script.config me inc moment in
+      let is : d ≡ daemon_of s d.calls d.records = begun_is service script.config me inc moment s t u h in
       record {
         opening = n.opening;
         later = n.later;
         are = n.are;
         core = ap (λ (e : Daemon). (did_all e (map Opens n.opening)).core) is ∙ n.fails.core d.calls d.records;
-        made = subst (WriteFails t v) (ap₂ (λ x y. x ++ y) (sym (begun_since C remote script.config me inc moment)) (sym (ap (λ (e : Daemon). doings_of e (map Opens n.opening)) is)))
-            (fails_on t u v (left_doings (fresh_running {C = C} remote script.config me inc moment)) (doings_of (daemon_of s d.calls d.records) (map Opens n.opening)) h.made (n.fails.made d.calls d.records));
-        attends = begins_with A B remote script.config me inc moment s q t u h n.opening n.fails.attends;
+        made = subst (WriteFails t v) (ap₂ (λ x y. x ++ y) (sym (begun_since C service script.config me inc moment)) (sym (ap (λ (e : Daemon). doings_of e (map Opens n.opening)) is)))
+            (fails_on t u v (left_doings (fresh_running {C = C} service script.config me inc moment)) (doings_of (daemon_of s d.calls d.records) (map Opens n.opening)) h.made (n.fails.made d.calls d.records));
+        attends = begins_with A B service script.config me inc moment s q t u h n.opening n.fails.attends;
       }
 
   -- that of what the start records failed
-  pub begins_fail_at_start : {A : Known → List (Hosted C) → Audience → Type 0} (remote : RemoteService) (script : Script) (me inc moment : ℕ) (s : Running C) (t u : Telling) → SettleFails (fresh_running remote script.config me inc moment) s t u → BeginFails A A remote script me inc moment s t u
+  pub begins_fail_at_start : {A : Known → List (Hosted C) → Audience → Type 0} (service : Service) (script : Script) (me inc moment : ℕ) (s : Running C) (t u : Telling) → SettleFails (fresh_running service script.config me inc moment) s t u → BeginFails A A service script me inc moment s t u
   unfolding did_all doings_of begun_for left_for
-  begins_fail_at_start {A = A} remote script me inc moment s t u h = record {
+  begins_fail_at_start {A = A} service script me inc moment s t u h = record {
     opening = [];
     later = own_calls me script.lines;
     are = refl;
     core = sym (ap (λ (n : NodeView (Hosted C)). at_work n.core) h.node);
-    made = subst (WriteFails t u) (sym (append-nil _ ∙ begun_since C remote script.config me inc moment)) h.made;
+    made = subst (WriteFails t u) (sym (append-nil _ ∙ begun_since C service script.config me inc moment)) h.made;
     attends = λ z. (z, refl, λ known held. subst (λ (n : NodeView (Hosted C)). A known n.clients z) (sym h.node) held);
   }
 
 -- ---- it breaks off at once
 
-pub begins_none : (remote : RemoteService) (script : Script) (me inc moment : ℕ) (t : Telling) → BeginBreaks remote script me inc moment t t
-begins_none remote script me inc moment t =
+pub begins_none : (service : Service) (script : Script) (me inc moment : ℕ) (t : Telling) → BeginBreaks service script me inc moment t t
+begins_none service script me inc moment t =
     let os : List Opening = unanswered (own_calls me script.lines) in
-    record { opening = os; are = unanswered_are (own_calls me script.lines); made = none_made t (opening_doings remote script.config me inc moment os) }
+    record { opening = os; are = unanswered_are (own_calls me script.lines); made = none_made t (opening_doings service script.config me inc moment os) }
 
 -- what the start records broke off
-pub begins_stopped : (C : Type 0) (remote : RemoteService) (script : Script) (me inc moment : ℕ) (t u : Telling) → MadeFront t u (left_doings (fresh_running {C = C} remote script.config me inc moment)) → BeginBreaks remote script me inc moment t u
-begins_stopped C remote script me inc moment t u h =
+pub begins_stopped : (C : Type 0) (service : Service) (script : Script) (me inc moment : ℕ) (t u : Telling) → MadeFront t u (left_doings (fresh_running {C = C} service script.config me inc moment)) → BeginBreaks service script me inc moment t u
+begins_stopped C service script me inc moment t u h =
     let os : List Opening = unanswered (own_calls me script.lines) in
-    let d : Daemon = begun_for remote script.config me inc moment in
+    let d : Daemon = begun_for service script.config me inc moment in
     record {
       opening = os;
       are = unanswered_are (own_calls me script.lines);
-      made = made_front_more t u (since (fresh remote script.config me inc moment) d) (doings_of d (map Opens os)) (subst (MadeFront t u) (sym (begun_since C remote script.config me inc moment)) h);
+      made = made_front_more t u (since (fresh service script.config me inc moment) d) (doings_of d (map Opens os)) (subst (MadeFront t u) (sym (begun_since C service script.config me inc moment)) h);
     }

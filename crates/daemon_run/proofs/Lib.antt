@@ -2,6 +2,7 @@ pub mod FailLaws
 pub mod WriteLaws
 pub mod GoesLaws
 pub mod HostLaws
+pub mod AskLaws
 pub mod AudienceLaws
 pub mod NodeLaws
 pub mod StepLaws

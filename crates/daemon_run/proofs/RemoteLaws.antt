@@ -1,6 +1,8 @@
 -- What comes from clients on other machines.
-use Rattle.std.proofs.Common.{◌≡◌, if◌then◌else◌, ℕ, ◌<◌, ◌^◌, Bool, true, false, List, [], ◌++◌, Option, Some, None, refl, sym, ◌∙◌, ap, ap₂, subst, append-nil}
+use Rattle.std.proofs.Common.{◌≡◌, if◌then◌else◌, ℕ, ◌+◌, ◌<◌, ◌^◌, min, length, arith, Bool, true, false, List, [], ◌++◌, Option, Some, None, refl, sym, ◌∙◌, ap, ap₂, subst, append-nil}
 use Rattle.std.specs.Prelude.{not, map, option_map}
+use Rattle.std.proofs.lemmas.List.{length-map}
+use Rattle.hags_io.specs.declared.link.LinkCall.{LinkCall}
 use Rattle.hags_io.specs.Deeds.{Exchanged}
 use Rattle.hags_io.specs.Telling.{Telling}
 use Rattle.hags_io.specs.Fronts.{Went, WentFront}
@@ -16,14 +18,15 @@ use Rattle.remote_session.specs.Messages.{UpIn, up_of}
 use Rattle.remote_session.specs.Daemon.{RemoteState, SeenUp, NotUp, EndedKey, KeysFull, KnownKey, CallMade, max_keys, is_full_for, call_made, kept, ended_up, up_seen_as, up_seen_by, up_seen, up_taken_as, up_taken_by, up_taken}
 use Rattle.remote_clients.specs.declared.sessions.Sessions.{Sessions}
 use Rattle.remote_clients.specs.Sessions.{is_refused, finished, turned_down}
+use Rattle.daemon_model.specs.Counts.{last_u64, sent_more}
 use Rattle.daemon_model.specs.Sent.{Exchange, said, number_if, message_calls}
-use Rattle.daemon_model.specs.Daemon.{Daemon, left_for, stepped_for, stepped_by, given, up_in, with_up, call_in, key_called, line_carried, called_by, down_in, down_sent, brought, given_on}
+use Rattle.daemon_model.specs.Daemon.{Daemon, left_for, stepped_for, stepped_by, given, up_in, with_up, call_in, key_called, line_carried, called_by, down_in, said_back, sent_back, down_sent, brought}
 use Rattle.daemon_model.proofs.AddLaws.{Adds, adds_on, adds_step, adds_sessions, adds_called}
 use Rattle.daemon_run.specs.Hosting.{Known}
 use Rattle.daemon_run.specs.declared.hosted.Hosted.{Hosted}
 use Rattle.daemon_run.specs.declared.running.Running.{Running}
-use Rattle.daemon_run.specs.Audience.{Audience, StepHands, LineHands, BroughtHands, GivenHands}
-use Rattle.daemon_run.specs.Doing.{daemon_of, Comes, Goes, Breaks, Passes, Attends, StepsAs, StepBreaks, StepFails, CallSteps, is_up_taken, down_exchanges, Sends, SendsFront, CallsKey, CallKeyBreaks, CallKeyFails, GivesAs, GiveBreaks, GiveFails}
+use Rattle.daemon_run.specs.Audience.{Audience, StepHands, LineHands, BroughtHands}
+use Rattle.daemon_run.specs.Doing.{daemon_of, Comes, Goes, Breaks, Passes, Attends, StepsAs, StepBreaks, StepFails, CallSteps, is_up_taken, down_exchanges, Sends, SendsFront, CallsKey, CallKeyBreaks, CallKeyFails, brought_on, BroughtOnHands, BringsAs, BringBreaks, BringFails}
 use Rattle.daemon_run.proofs.GoesLaws.{AddsCalls, goes_none, goes_as, goes_still, goes_more, breaks_none, breaks_as, breaks_late, breaks_on, breaks_more, fails_as, fails_late}
 use Rattle.daemon_run.proofs.StepLaws.{silent}
 
@@ -36,7 +39,7 @@ finished_adds key c refused d = record { calls = []; called = sym (append-nil d.
 
 down_adds : (key network : ℕ) (d : Daemon) → AddsCalls d (down_sent key network d)
 unfolding down_sent
-down_adds key network d = record { calls = map (said d.number) (message_calls d.me d.incarnation d.number 0 network (down_in d.sessions key)); called = refl; recorded = refl }
+down_adds key network d = record { calls = said_back network (down_in d.sessions key) d; called = refl; recorded = refl }
 
 down_core : (key network : ℕ) (d : Daemon) → (down_sent key network d).core ≡ d.core
 unfolding down_sent
@@ -167,21 +170,30 @@ module _ {C : Type 0} where
   pub line_none : (r : Running C) (key : ℕ) (line : List ℕ) (t : Telling) → CallKeyBreaks r t t key line
   line_none r key line t = record { answers = silent; breaks = breaks_none r t (called_by key line silent) }
 
-  -- ---- the Down
+  -- ---- a message that is no packet
 
-  pub down_done : (r s : Running C) (o : Outbox) (network : ℕ) (message bytes : List ℕ) (t u : Telling) → bytes ≡ message → r.outbox.number < 2 ^ 64 → o ≡ record (r.outbox) { number = number_if (can_cut bytes) r.outbox.number } → s ≡ record r { outbox = o }
-      → Went t u (map Exchanged (message_calls r.outbox.me r.outbox.incarnation r.outbox.number 0 network bytes)) → Sends r s t u network message
-  down_done r s o network message bytes t u same fits number is w =
-      let went : Went t u (map Exchanged (message_calls r.outbox.me r.outbox.incarnation r.outbox.number 0 network message)) = subst (λ (b : List ℕ). Went t u (map Exchanged (message_calls r.outbox.me r.outbox.incarnation r.outbox.number 0 network b))) same w in
+  pub back_done : (r s : Running C) (o : Outbox) (n k network : ℕ) (message : List ℕ) (t u : Telling) → r.outbox.number < 2 ^ 64 → o ≡ record (r.outbox) { number = number_if (can_cut message) r.outbox.number } → n ≡ length (message_calls r.outbox.me r.outbox.incarnation r.outbox.number 0 network message)
+      → k ≡ min (r.sent + n) last_u64 → s ≡ record r { outbox = o; sent = k } → Went t u (map Exchanged (message_calls r.outbox.me r.outbox.incarnation r.outbox.number 0 network message)) → Sends r s t u network message
+  back_done r s o n k network message t u fits number so_many more is w =
+      let calls : List LinkCall = message_calls r.outbox.me r.outbox.incarnation r.outbox.number 0 network message in
+      let all : length (down_exchanges r network message) ≡ length calls = length-map calls (said r.outbox.number) in
+      let counted : k ≡ sent_more r.sent (down_exchanges r network message) = omega (arith, more, so_many, all) in
       record {
-        is = is ∙ ap (λ (x : Outbox). record r { outbox = x }) (number ∙ ap (λ b. record (r.outbox) { number = number_if (can_cut b) r.outbox.number }) same);
-        made = said_made r.outbox.number fits t u (message_calls r.outbox.me r.outbox.incarnation r.outbox.number 0 network message) went;
+        is = is ∙ (ap (λ (x : Outbox). record r { outbox = x; sent = k }) number ∙ ap (λ (c : ℕ). record r { outbox = record (r.outbox) { number = number_if (can_cut message) r.outbox.number }; sent = c }) counted);
+        made = said_made r.outbox.number fits t u calls w;
       }
 
-  pub down_front : (r : Running C) (network : ℕ) (message bytes : List ℕ) (t u : Telling) → bytes ≡ message → r.outbox.number < 2 ^ 64
-      → WentFront t u (map Exchanged (message_calls r.outbox.me r.outbox.incarnation r.outbox.number 0 network bytes)) → SendsFront r t u network message
-  down_front r network message bytes t u same fits w =
-      said_front r.outbox.number fits t u (message_calls r.outbox.me r.outbox.incarnation r.outbox.number 0 network message) (subst (λ (b : List ℕ). WentFront t u (map Exchanged (message_calls r.outbox.me r.outbox.incarnation r.outbox.number 0 network b))) same w)
+  pub back_front : (r : Running C) (network : ℕ) (message : List ℕ) (t u : Telling) → r.outbox.number < 2 ^ 64 → WentFront t u (map Exchanged (message_calls r.outbox.me r.outbox.incarnation r.outbox.number 0 network message)) → SendsFront r t u network message
+  back_front r network message t u fits w = said_front r.outbox.number fits t u (message_calls r.outbox.me r.outbox.incarnation r.outbox.number 0 network message) w
+
+  -- the same bytes
+  pub same_done : (r s : Running C) (network : ℕ) (message bytes : List ℕ) (t u : Telling) → bytes ≡ message → Sends r s t u network bytes → Sends r s t u network message
+  same_done r s network message bytes t u same h = subst (Sends r s t u network) same h
+
+  pub same_front : (r : Running C) (network : ℕ) (message bytes : List ℕ) (t u : Telling) → bytes ≡ message → SendsFront r t u network bytes → SendsFront r t u network message
+  same_front r network message bytes t u same h = subst (SendsFront r t u network) same h
+
+  -- ---- the Down
 
   -- by a daemon that stands alike
   pub front_at : (q p : Running C) (key k network : ℕ) (t s u : Telling) → p ≡ q → k ≡ key → s ≡ t → SendsFront p s u network (down_in p.sessions k) → SendsFront q t u network (down_in q.sessions key)
@@ -215,62 +227,61 @@ module _ {C : Type 0} where
 
   -- by what it is to the sessions
   brought_is : (r : Running C) (u : SeenUp) (network : ℕ) (message : List ℕ) (f : Answering) → u ≡ up_in r.sessions message → (before : List Exchange) (noted : List Happened)
-      → given_on network (Some message) f (daemon_of r before noted) ≡ brought u network message f (daemon_of r before noted)
-  unfolding given_on
+      → brought_on network message f (daemon_of r before noted) ≡ brought u network message f (daemon_of r before noted)
   brought_is r u network message f is before noted = ap (λ (v : SeenUp). brought v network message f (daemon_of r before noted)) (sym is)
 
-  hands_as : (A : Known → List (Hosted C) → Audience → Type 0) (r s : Running C) (u : SeenUp) (message : List ℕ) (f : Answering) → u ≡ up_in r.sessions message → Attends A A r s (BroughtHands u message f) → Attends A A r s (GivenHands (Some message) f)
+  hands_as : (A : Known → List (Hosted C) → Audience → Type 0) (r s : Running C) (u : SeenUp) (message : List ℕ) (f : Answering) → u ≡ up_in r.sessions message → Attends A A r s (BroughtHands u message f) → Attends A A r s (BroughtOnHands message f)
   hands_as A r s u message f is h before noted z =
       let a : (v : Audience) × BroughtHands u message f (daemon_of r before noted) z v × Passes A A r.node.clients s.node.clients z v = h before noted z in
       (a.0, subst (λ (w : SeenUp). BroughtHands w message f (daemon_of r before noted) z a.0) is a.1, a.2)
 
   -- one for the node
-  pub give_done : {A : Known → List (Hosted C) → Audience → Type 0} (r q s : Running C) (network : ℕ) (message : List ℕ) (t u : Telling) → NotUp ≡ up_in r.sessions message → q ≡ is_up_taken r message → StepsAs A A None q s t u (event_of message) → GivesAs A r s t u network message
+  pub give_done : {A : Known → List (Hosted C) → Audience → Type 0} (r q s : Running C) (network : ℕ) (message : List ℕ) (t u : Telling) → NotUp ≡ up_in r.sessions message → q ≡ is_up_taken r message → StepsAs A A None q s t u (event_of message) → BringsAs A r s t u network message
   unfolding brought given
   give_done {A = A} r q s network message t u is taken g =
       let h : StepsAs A A None r s t u (event_of message) = subst (λ (x : Running C). StepsAs A A None x s t u (event_of message)) (taken ∙ not_taken r message is) g in record {
         answers = h.answers;
-        goes = goes_as r r s t u (given_on network (Some message) h.answers) (stepped_by h.answers (event_of message)) (brought_is r NotUp network message h.answers is) h.goes;
+        goes = goes_as r r s t u (brought_on network message h.answers) (stepped_by h.answers (event_of message)) (brought_is r NotUp network message h.answers is) h.goes;
         attends = hands_as A r s NotUp message h.answers is h.attends;
       }
 
-  pub give_broke : (r q : Running C) (network : ℕ) (message : List ℕ) (t u : Telling) → NotUp ≡ up_in r.sessions message → q ≡ is_up_taken r message → StepBreaks None q t u (event_of message) → GiveBreaks r t u network message
+  pub give_broke : (r q : Running C) (network : ℕ) (message : List ℕ) (t u : Telling) → NotUp ≡ up_in r.sessions message → q ≡ is_up_taken r message → StepBreaks None q t u (event_of message) → BringBreaks r t u network message
   unfolding brought given
   give_broke r q network message t u is taken g =
       let h : StepBreaks None r t u (event_of message) = subst (λ (x : Running C). StepBreaks None x t u (event_of message)) (taken ∙ not_taken r message is) g in record {
         answers = h.answers;
-        breaks = breaks_as r r t u (given_on network (Some message) h.answers) (stepped_by h.answers (event_of message)) (brought_is r NotUp network message h.answers is) h.breaks;
+        breaks = breaks_as r r t u (brought_on network message h.answers) (stepped_by h.answers (event_of message)) (brought_is r NotUp network message h.answers is) h.breaks;
       }
 
-  pub give_fails : {A : Known → List (Hosted C) → Audience → Type 0} (r q s : Running C) (network : ℕ) (message : List ℕ) (t u : Telling) → NotUp ≡ up_in r.sessions message → q ≡ is_up_taken r message → StepFails A A None q s t u (event_of message) → GiveFails A r s t u network message
+  pub give_fails : {A : Known → List (Hosted C) → Audience → Type 0} (r q s : Running C) (network : ℕ) (message : List ℕ) (t u : Telling) → NotUp ≡ up_in r.sessions message → q ≡ is_up_taken r message → StepFails A A None q s t u (event_of message) → BringFails A r s t u network message
   unfolding brought given
   give_fails {A = A} r q s network message t u is taken g =
       let h : StepFails A A None r s t u (event_of message) = subst (λ (x : Running C). StepFails A A None x s t u (event_of message)) (taken ∙ not_taken r message is) g in record {
         answers = h.answers;
-        fails = fails_as r r s t u (given_on network (Some message) h.answers) (stepped_by h.answers (event_of message)) (brought_is r NotUp network message h.answers is) h.fails;
+        fails = fails_as r r s t u (brought_on network message h.answers) (stepped_by h.answers (event_of message)) (brought_is r NotUp network message h.answers is) h.fails;
         attends = hands_as A r s NotUp message h.answers is h.attends;
       }
 
   only_is : (r : Running C) (u : SeenUp) (key network : ℕ) (message : List ℕ) → up_only u key → u ≡ up_in r.sessions message → (before : List Exchange) (noted : List Happened)
-      → given_on network (Some message) silent (daemon_of r before noted) ≡ down_sent key network (with_up message (daemon_of r before noted))
+      → brought_on network message silent (daemon_of r before noted) ≡ down_sent key network (with_up message (daemon_of r before noted))
   only_is r u key network message only is before noted = brought_is r u network message silent is before noted ∙ only network message silent (daemon_of r before noted)
 
   only_goes : (r s : Running C) (w : SeenUp) (key network : ℕ) (message : List ℕ) (t u : Telling) → up_only w key → w ≡ up_in r.sessions message → Sends (is_up_taken r message) s t u network (down_in (is_up_taken r message).sessions key)
-      → Goes r s t u (given_on network (Some message) silent)
+      → Goes r s t u (brought_on network message silent)
   only_goes r s w key network message t u only is h =
-      goes_as r r s t u (given_on network (Some message) silent) (λ d. down_sent key network (with_up message d)) (only_is r w key network message only is)
+      goes_as r r s t u (brought_on network message silent) (λ d. down_sent key network (with_up message d)) (only_is r w key network message only is)
       (then_down r (is_up_taken r message) s (with_up message) key network t t u (up_goes r message t) h)
 
   only_breaks : (r : Running C) (w : SeenUp) (key network : ℕ) (message : List ℕ) (t u : Telling) → up_only w key → w ≡ up_in r.sessions message → SendsFront (is_up_taken r message) t u network (down_in (is_up_taken r message).sessions key)
-      → GiveBreaks r t u network message
+      → BringBreaks r t u network message
   only_breaks r w key network message t u only is h = record {
     answers = silent;
-    breaks = breaks_as r r t u (given_on network (Some message) silent) (λ d. down_sent key network (with_up message d)) (only_is r w key network message only is)
+    breaks = breaks_as r r t u (brought_on network message silent) (λ d. down_sent key network (with_up message d)) (only_is r w key network message only is)
         (then_breaks r (is_up_taken r message) (with_up message) key network t t u (up_goes r message t) h);
   }
 
   pub known_done : {A : Known → List (Hosted C) → Audience → Type 0} (r q s : Running C) (key network : ℕ) (message : List ℕ) (t u : Telling) → KnownKey key ≡ up_in r.sessions message → q ≡ is_up_taken r message → Sends q s t u network (down_in q.sessions key)
-      → GivesAs A r s t u network message
+      → BringsAs A r s t u network message
   known_done {A = A} r q s key network message t u is taken g =
       let h : Sends (is_up_taken r message) s t u network (down_in (is_up_taken r message).sessions key) = subst (λ (x : Running C). Sends x s t u network (down_in x.sessions key)) taken g in
       record {
@@ -280,7 +291,7 @@ module _ {C : Type 0} where
       }
 
   pub ended_done : {A : Known → List (Hosted C) → Audience → Type 0} (r q s : Running C) (key network : ℕ) (message : List ℕ) (t u : Telling) → EndedKey key ≡ up_in r.sessions message → q ≡ is_up_taken r message → Sends q s t u network (down_in q.sessions key)
-      → GivesAs A r s t u network message
+      → BringsAs A r s t u network message
   ended_done {A = A} r q s key network message t u is taken g =
       let h : Sends (is_up_taken r message) s t u network (down_in (is_up_taken r message).sessions key) = subst (λ (x : Running C). Sends x s t u network (down_in x.sessions key)) taken g in
       record {
@@ -290,7 +301,7 @@ module _ {C : Type 0} where
       }
 
   pub full_done : {A : Known → List (Hosted C) → Audience → Type 0} (r q s : Running C) (key limit network : ℕ) (message : List ℕ) (t u : Telling) → KeysFull key limit ≡ up_in r.sessions message → q ≡ is_up_taken r message → Sends q s t u network (down_in q.sessions key)
-      → GivesAs A r s t u network message
+      → BringsAs A r s t u network message
   full_done {A = A} r q s key limit network message t u is taken g =
       let h : Sends (is_up_taken r message) s t u network (down_in (is_up_taken r message).sessions key) = subst (λ (x : Running C). Sends x s t u network (down_in x.sessions key)) taken g in
       record {
@@ -299,21 +310,21 @@ module _ {C : Type 0} where
         attends = hands_as A r s (KeysFull key limit) message silent is (λ before noted z. (z, refl, λ known held. subst (λ (x : Running C). A known x.node.clients z) (sym h.is) held));
       }
 
-  pub known_broke : (r q : Running C) (key network : ℕ) (message : List ℕ) (t u : Telling) → KnownKey key ≡ up_in r.sessions message → q ≡ is_up_taken r message → SendsFront q t u network (down_in q.sessions key) → GiveBreaks r t u network message
+  pub known_broke : (r q : Running C) (key network : ℕ) (message : List ℕ) (t u : Telling) → KnownKey key ≡ up_in r.sessions message → q ≡ is_up_taken r message → SendsFront q t u network (down_in q.sessions key) → BringBreaks r t u network message
   known_broke r q key network message t u is taken g =
       only_breaks r (KnownKey key) key network message t u (known_only key) is (subst (λ (x : Running C). SendsFront x t u network (down_in x.sessions key)) taken g)
 
-  pub ended_broke : (r q : Running C) (key network : ℕ) (message : List ℕ) (t u : Telling) → EndedKey key ≡ up_in r.sessions message → q ≡ is_up_taken r message → SendsFront q t u network (down_in q.sessions key) → GiveBreaks r t u network message
+  pub ended_broke : (r q : Running C) (key network : ℕ) (message : List ℕ) (t u : Telling) → EndedKey key ≡ up_in r.sessions message → q ≡ is_up_taken r message → SendsFront q t u network (down_in q.sessions key) → BringBreaks r t u network message
   ended_broke r q key network message t u is taken g =
       only_breaks r (EndedKey key) key network message t u (ended_only key) is (subst (λ (x : Running C). SendsFront x t u network (down_in x.sessions key)) taken g)
 
-  pub full_broke : (r q : Running C) (key limit network : ℕ) (message : List ℕ) (t u : Telling) → KeysFull key limit ≡ up_in r.sessions message → q ≡ is_up_taken r message → SendsFront q t u network (down_in q.sessions key) → GiveBreaks r t u network message
+  pub full_broke : (r q : Running C) (key limit network : ℕ) (message : List ℕ) (t u : Telling) → KeysFull key limit ≡ up_in r.sessions message → q ≡ is_up_taken r message → SendsFront q t u network (down_in q.sessions key) → BringBreaks r t u network message
   full_broke r q key limit network message t u is taken g =
       only_breaks r (KeysFull key limit) key network message t u (full_only key limit) is (subst (λ (x : Running C). SendsFront x t u network (down_in x.sessions key)) taken g)
 
   -- an Up with a call
   call_is : (r : Running C) (key network : ℕ) (line message : List ℕ) (f : Answering) → CallMade key line ≡ up_in r.sessions message → (before : List Exchange) (noted : List Happened)
-      → given_on network (Some message) f (daemon_of r before noted) ≡ down_sent key network (called_by key line f (with_up message (daemon_of r before noted)))
+      → brought_on network message f (daemon_of r before noted) ≡ down_sent key network (called_by key line f (with_up message (daemon_of r before noted)))
   unfolding brought
   call_is r key network line message f is before noted = brought_is r (CallMade key line) network message f is before noted
 
@@ -322,12 +333,12 @@ module _ {C : Type 0} where
   called_goes r q key line message f t u h = goes_as r (is_up_taken r message) q t u (λ d. called_by key line f (with_up message d)) (called_by key line f) (λ before noted. refl) h
 
   pub call_done : {A : Known → List (Hosted C) → Audience → Type 0} (r p q s : Running C) (key network : ℕ) (line message : List ℕ) (t u v : Telling) → CallMade key line ≡ up_in r.sessions message → p ≡ is_up_taken r message → CallsKey A p q t u key line
-      → Sends q s u v network (down_in q.sessions key) → GivesAs A r s t v network message
+      → Sends q s u v network (down_in q.sessions key) → BringsAs A r s t v network message
   call_done {A = A} r p q s key network line message t u v is taken c g =
       let h : CallsKey A (is_up_taken r message) q t u key line = subst (λ (x : Running C). CallsKey A x q t u key line) taken c in
       record {
         answers = h.answers;
-        goes = goes_as r r s t v (given_on network (Some message) h.answers) (λ d. down_sent key network (called_by key line h.answers (with_up message d))) (call_is r key network line message h.answers is)
+        goes = goes_as r r s t v (brought_on network message h.answers) (λ d. down_sent key network (called_by key line h.answers (with_up message d))) (call_is r key network line message h.answers is)
             (then_down r q s (λ d. called_by key line h.answers (with_up message d)) key network t u v (called_goes r q key line message h.answers t u h.goes) g);
         attends = hands_as A r s (CallMade key line) message h.answers is
             (λ before noted z.
@@ -335,23 +346,23 @@ module _ {C : Type 0} where
             (a.0, a.1, λ known held. subst (λ (x : Running C). A known x.node.clients a.0) (sym g.is) (a.2 known held)));
       }
 
-  pub call_broke_off : (r p : Running C) (key network : ℕ) (line message : List ℕ) (t u : Telling) → CallMade key line ≡ up_in r.sessions message → p ≡ is_up_taken r message → CallKeyBreaks p t u key line → GiveBreaks r t u network message
+  pub call_broke_off : (r p : Running C) (key network : ℕ) (line message : List ℕ) (t u : Telling) → CallMade key line ≡ up_in r.sessions message → p ≡ is_up_taken r message → CallKeyBreaks p t u key line → BringBreaks r t u network message
   call_broke_off r p key network line message t u is taken c =
       let h : CallKeyBreaks (is_up_taken r message) t u key line = subst (λ (x : Running C). CallKeyBreaks x t u key line) taken c in
       record {
         answers = h.answers;
-        breaks = breaks_as r r t u (given_on network (Some message) h.answers) (λ d. down_sent key network (called_by key line h.answers (with_up message d))) (call_is r key network line message h.answers is)
+        breaks = breaks_as r r t u (brought_on network message h.answers) (λ d. down_sent key network (called_by key line h.answers (with_up message d))) (call_is r key network line message h.answers is)
             (breaks_more r t u (λ d. called_by key line h.answers (with_up message d)) (down_sent key network)
             (breaks_as r (is_up_taken r message) t u (λ d. called_by key line h.answers (with_up message d)) (called_by key line h.answers) (λ before noted. refl) h.breaks)
             (with_called key line message h.answers) (down_adds key network));
       }
 
-  pub call_fails_in : {A : Known → List (Hosted C) → Audience → Type 0} (r p q : Running C) (key network : ℕ) (line message : List ℕ) (t u : Telling) → CallMade key line ≡ up_in r.sessions message → p ≡ is_up_taken r message → CallKeyFails A p q t u key line → GiveFails A r q t u network message
+  pub call_fails_in : {A : Known → List (Hosted C) → Audience → Type 0} (r p q : Running C) (key network : ℕ) (line message : List ℕ) (t u : Telling) → CallMade key line ≡ up_in r.sessions message → p ≡ is_up_taken r message → CallKeyFails A p q t u key line → BringFails A r q t u network message
   call_fails_in {A = A} r p q key network line message t u is taken c =
       let h : CallKeyFails A (is_up_taken r message) q t u key line = subst (λ (x : Running C). CallKeyFails A x q t u key line) taken c in
       record {
         answers = h.answers;
-        fails = fails_as r r q t u (given_on network (Some message) h.answers) (λ d. down_sent key network (called_by key line h.answers (with_up message d))) (call_is r key network line message h.answers is)
+        fails = fails_as r r q t u (brought_on network message h.answers) (λ d. down_sent key network (called_by key line h.answers (with_up message d))) (call_is r key network line message h.answers is)
             (fails_late r q t u (λ d. called_by key line h.answers (with_up message d)) (down_sent key network)
             (fails_as r (is_up_taken r message) q t u (λ d. called_by key line h.answers (with_up message d)) (called_by key line h.answers) (λ before noted. refl) h.fails)
             (with_called key line message h.answers) (down_adds key network) (down_core key network));
@@ -359,15 +370,15 @@ module _ {C : Type 0} where
       }
 
   pub down_broke : {A : Known → List (Hosted C) → Audience → Type 0} (r p q : Running C) (key network : ℕ) (line message : List ℕ) (t u v : Telling) → CallMade key line ≡ up_in r.sessions message → p ≡ is_up_taken r message → CallsKey A p q t u key line
-      → SendsFront q u v network (down_in q.sessions key) → GiveBreaks r t v network message
+      → SendsFront q u v network (down_in q.sessions key) → BringBreaks r t v network message
   down_broke {A = A} r p q key network line message t u v is taken c g =
       let h : CallsKey A (is_up_taken r message) q t u key line = subst (λ (x : Running C). CallsKey A x q t u key line) taken c in
       record {
         answers = h.answers;
-        breaks = breaks_as r r t v (given_on network (Some message) h.answers) (λ d. down_sent key network (called_by key line h.answers (with_up message d))) (call_is r key network line message h.answers is)
+        breaks = breaks_as r r t v (brought_on network message h.answers) (λ d. down_sent key network (called_by key line h.answers (with_up message d))) (call_is r key network line message h.answers is)
             (then_breaks r q (λ d. called_by key line h.answers (with_up message d)) key network t u v (called_goes r q key line message h.answers t u h.goes) g);
       }
 
   -- the sessions had no memory for it
-  pub give_none : (r : Running C) (network : ℕ) (message : List ℕ) (t : Telling) → GiveBreaks r t t network message
-  give_none r network message t = record { answers = silent; breaks = breaks_none r t (given_on network (Some message) silent) }
+  pub give_none : (r : Running C) (network : ℕ) (message : List ℕ) (t : Telling) → BringBreaks r t t network message
+  give_none r network message t = record { answers = silent; breaks = breaks_none r t (brought_on network message silent) }

@@ -1,5 +1,5 @@
 -- Steps of a daemon's node, with what they record and send.
-use Rattle.std.proofs.Common.{◌≡◌, ℕ, Bool, List, [], ◌++◌, Option, None, refl, sym, ◌∙◌, ap, ap₂, subst}
+use Rattle.std.proofs.Common.{◌≡◌, ℕ, ◌+◌, min, length, arith, Bool, List, [], ◌++◌, Option, None, refl, sym, ◌∙◌, ap, ap₂, subst}
 use Rattle.std.specs.Prelude.{option_map}
 use Rattle.hags_io.specs.Telling.{Telling}
 use Rattle.link_use.specs.declared.sending.Outbox.{Outbox}
@@ -12,6 +12,7 @@ use Rattle.node_state.specs.Step.{NodeEvent, Calls, at_work, stepped}
 use Rattle.remote_clients.specs.Sessions.{is_refused}
 use Rattle.remote_clients.specs.Entries.{noted_with}
 use Rattle.node_core.specs.Node.{NodeView}
+use Rattle.daemon_model.specs.Counts.{last_u64, sent_more}
 use Rattle.daemon_model.specs.Sent.{Exchange, sent_calls, number_after}
 use Rattle.daemon_model.specs.Daemon.{Daemon, left_for, stepped_for}
 use Rattle.daemon_model.specs.Doings.{step_doings, since, Made, MadeFront}
@@ -55,16 +56,23 @@ module _ {C : Type 0} where
   }
 
 module _ {C : Type 0} (calling : Option ℕ) where
+  -- what was sent is counted
+  counted_up : (r : Running C) (count k : ℕ) (sends : List Packet) → sends ≡ r.node.core.sends → count ≡ sent_more 0 (sent_calls r.outbox.me r.outbox.incarnation r.outbox.number sends) → k ≡ min (r.sent + count) last_u64 → k ≡ sent_more r.sent (sent_calls r.outbox.me r.outbox.incarnation r.outbox.number r.node.core.sends)
+  counted_up r count k sends sent so_many more =
+      let all : k ≡ min (r.sent + length (sent_calls r.outbox.me r.outbox.incarnation r.outbox.number sends)) last_u64 = omega (arith, so_many, more) in
+      all ∙ ap (λ (ps : List Packet). sent_more r.sent (sent_calls r.outbox.me r.outbox.incarnation r.outbox.number ps)) sent
+
   -- and the lines came to who is to hear them
-  pub settles : (r s : Running C) (n m : NodeView (Hosted C)) (o : Outbox) (sends : List Packet) (records : List Happened) (t u : Telling) → n ≡ record (r.node) { core = record (r.node.core) { sends = [] } } → m ≡ record n { core = record (n.core) { records = [] } }
-      → sends ≡ r.node.core.sends → records ≡ r.node.core.records → o ≡ record (r.outbox) { number = number_after r.outbox.number sends } → s ≡ record r { node = m; outbox = o; sessions = option_map (noted_with r.entries calling records) r.sessions } → Made t u (left_doings r)
+  pub settles : (r s : Running C) (n m : NodeView (Hosted C)) (o : Outbox) (count k : ℕ) (sends : List Packet) (records : List Happened) (t u : Telling) → n ≡ record (r.node) { core = record (r.node.core) { sends = [] } } → m ≡ record n { core = record (n.core) { records = [] } }
+      → sends ≡ r.node.core.sends → records ≡ r.node.core.records → o ≡ record (r.outbox) { number = number_after r.outbox.number sends } → count ≡ sent_more 0 (sent_calls r.outbox.me r.outbox.incarnation r.outbox.number sends) → k ≡ min (r.sent + count) last_u64 → s ≡ record r { node = m; outbox = o; sent = k; sessions = option_map (noted_with r.entries calling records) r.sessions } → Made t u (left_doings r)
       → Settles calling r s t u
-  settles r s n m o sends records t u taken left sent recorded number is made = record {
+  settles r s n m o count k sends records t u taken left sent recorded number so_many more is made = record {
     is =
         is
-        ∙ (ap (λ (x : NodeView (Hosted C)). record r { node = x; outbox = o; sessions = option_map (noted_with r.entries calling records) r.sessions }) (left ∙ ap (λ (x : NodeView (Hosted C)). record x { core = record (x.core) { records = [] } }) taken)
-        ∙ (ap (λ (x : Outbox). record r { node = record (r.node) { core = at_work r.node.core }; outbox = x; sessions = option_map (noted_with r.entries calling records) r.sessions }) (number ∙ ap (λ (ps : List Packet). record (r.outbox) { number = number_after r.outbox.number ps }) sent)
-        ∙ ap (λ (rs : List Happened). record r { node = record (r.node) { core = at_work r.node.core }; outbox = record (r.outbox) { number = number_after r.outbox.number r.node.core.sends }; sessions = option_map (noted_with r.entries calling rs) r.sessions }) recorded));
+        ∙ (ap (λ (x : NodeView (Hosted C)). record r { node = x; outbox = o; sent = k; sessions = option_map (noted_with r.entries calling records) r.sessions }) (left ∙ ap (λ (x : NodeView (Hosted C)). record x { core = record (x.core) { records = [] } }) taken)
+        ∙ (ap (λ (x : Outbox). record r { node = record (r.node) { core = at_work r.node.core }; outbox = x; sent = k; sessions = option_map (noted_with r.entries calling records) r.sessions }) (number ∙ ap (λ (ps : List Packet). record (r.outbox) { number = number_after r.outbox.number ps }) sent)
+        ∙ (ap (λ (c : ℕ). record r { node = record (r.node) { core = at_work r.node.core }; outbox = record (r.outbox) { number = number_after r.outbox.number r.node.core.sends }; sent = c; sessions = option_map (noted_with r.entries calling records) r.sessions }) (counted_up r count k sends sent so_many more)
+        ∙ ap (λ (rs : List Happened). record r { node = record (r.node) { core = at_work r.node.core }; outbox = record (r.outbox) { number = number_after r.outbox.number r.node.core.sends }; sent = sent_more r.sent (sent_calls r.outbox.me r.outbox.incarnation r.outbox.number r.node.core.sends); sessions = option_map (noted_with r.entries calling rs) r.sessions }) recorded)));
     made = made;
   }
 

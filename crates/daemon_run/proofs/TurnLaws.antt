@@ -30,8 +30,12 @@ use Rattle.daemon_model.proofs.MadeLaws.{made_nothing, made_on, made_front_on, m
 use Rattle.daemon_run.specs.Hosting.{Known}
 use Rattle.daemon_run.specs.declared.hosted.Hosted.{Hosted}
 use Rattle.daemon_run.specs.declared.running.Running.{Running}
+use Rattle.self_questions.specs.declared.messages.SelfQuestion.{SelfQuestion}
+use Rattle.self_questions.specs.Messages.{question_of}
+use Rattle.daemon_model.specs.declared.counts.ReceiveCounts.{ReceiveCounts}
+use Rattle.daemon_model.specs.Counts.{one_more}
 use Rattle.remote_session.specs.Daemon.{SeenUp, NotUp, EndedKey, KeysFull, KnownKey, CallMade}
-use Rattle.daemon_run.specs.Audience.{Audience, StepHands, TickHands, BroughtHands, GivenHands, HeardHands}
+use Rattle.daemon_run.specs.Audience.{Audience, StepHands, TickHands, BroughtHands, AskedHands, GivenHands, HeardHands}
 use Rattle.daemon_run.specs.Doing.{daemon_of, Comes, Breaks, Fails, Acts, ActsBreak, Passes, Attends, WriteFails, ActsFail, StepsAs, StepBreaks, StepFails, TicksAs, TickBreaks, TickFails, GivesAs, GiveBreaks, GiveFails, HearsAs, HearBreaks, HearFails}
 use Rattle.daemon_run.specs.Keeping.{OwnTurn, own_acts, OwnAs, OwnFront, OwnBreaks, OwnRest, OwnFails}
 use Rattle.daemon_run.specs.Turning.{TurnsAs, TurnBreaks, TurnFails, TurnPauses}
@@ -69,17 +73,21 @@ got_front : (t u : Telling) (got : LinkCall) → IsReceive got → WentFront t u
 got_front t u got r w =
     each_front plain (λ c. refl) (λ c. tt) t u (as_sent got ∷ []) (subst (λ (c : LinkCall). WentFront t u (Exchanged c ∷ [])) (sym (got_same got r)) w)
 
--- what an Up or a message hands does not hang on what is joined, or on how many receives failed
-brought_alike : (u : SeenUp) (message : List ℕ) (f : Answering) (d : Daemon) (j : Joining) (n : ℕ) (cs : List Exchange) (old new : Audience) → BroughtHands u message f (record d { joining = j; failed = n; calls = cs }) old new → BroughtHands u message f d old new
-brought_alike NotUp message f d j n cs old new h = h
-brought_alike (EndedKey key) message f d j n cs old new h = h
-brought_alike (KeysFull key limit) message f d j n cs old new h = h
-brought_alike (KnownKey key) message f d j n cs old new h = h
-brought_alike (CallMade key line) message f d j n cs old new h = h
+-- what an Up or a message hands does not hang on what is joined, or on how many receives failed or came
+brought_alike : (u : SeenUp) (message : List ℕ) (f : Answering) (d : Daemon) (j : Joining) (n : ℕ) (m : ReceiveCounts) (cs : List Exchange) (old new : Audience) → BroughtHands u message f (record d { joining = j; failed = n; receives = m; calls = cs }) old new → BroughtHands u message f d old new
+brought_alike NotUp message f d j n m cs old new h = h
+brought_alike (EndedKey key) message f d j n m cs old new h = h
+brought_alike (KeysFull key limit) message f d j n m cs old new h = h
+brought_alike (KnownKey key) message f d j n m cs old new h = h
+brought_alike (CallMade key line) message f d j n m cs old new h = h
 
-hands_alike : (m : Option (List ℕ)) (f : Answering) (d : Daemon) (j : Joining) (n : ℕ) (cs : List Exchange) (old new : Audience) → GivenHands m f (record d { joining = j; failed = n; calls = cs }) old new → GivenHands m f d old new
-hands_alike None f d j n cs old new h = h
-hands_alike (Some message) f d j n cs old new h = brought_alike (up_in d.sessions message) message f d j n cs old new h
+asked_alike : (o : Option SelfQuestion) (message : List ℕ) (f : Answering) (d : Daemon) (j : Joining) (n : ℕ) (m : ReceiveCounts) (cs : List Exchange) (old new : Audience) → AskedHands o message f (record d { joining = j; failed = n; receives = m; calls = cs }) old new → AskedHands o message f d old new
+asked_alike None message f d j n m cs old new h = brought_alike (up_in d.sessions message) message f d j n m cs old new h
+asked_alike (Some q) message f d j n m cs old new h = h
+
+hands_alike : (o : Option (List ℕ)) (f : Answering) (d : Daemon) (j : Joining) (n : ℕ) (m : ReceiveCounts) (cs : List Exchange) (old new : Audience) → GivenHands o f (record d { joining = j; failed = n; receives = m; calls = cs }) old new → GivenHands o f d old new
+hands_alike None f d j n m cs old new h = h
+hands_alike (Some message) f d j n m cs old new h = asked_alike (question_of message) message f d j n m cs old new h
 
 -- the message and its network, where one is whole
 first : Option (ℕ × List ℕ) → ℕ
@@ -174,7 +182,7 @@ module _ {C : Type 0} where
   unfolding since
   counted_fails r s t u f p = record { core = p.core; made = p.made }
 
-  pub tick_done : {A : Known → List (Hosted C) → Audience → Type 0} (r q s : Running C) (moment : ℕ) (t u : Telling) → 100 ≤ moment - r.last → StepsAs A A None (record r { last = moment }) q t u Ticks → s ≡ record q { sessions = counted_in q.sessions }
+  pub tick_done : {A : Known → List (Hosted C) → Audience → Type 0} (r q s : Running C) (moment : ℕ) (t u : Telling) → 100 ≤ moment - r.last → StepsAs A A None (record r { last = moment }) q t u Ticks → s ≡ record q { sessions = counted_in q.sessions; ticks = one_more q.ticks }
       → TicksAs A r s t u moment
   tick_done {A = A} r q s moment t u le h is = record {
     answers = h.answers;
@@ -304,7 +312,7 @@ module _ {C : Type 0} where
       let a : (w : Audience) × GivenHands (Some message) f (daemon_of (after_receive r got) before noted) z w × Passes A A r.node.clients s.node.clients z w = h before noted z in (
         a.0,
         subst (λ (o : Option (List ℕ)). GivenHands o f (daemon_of r before noted) z a.0) (sym is)
-            (hands_alike (Some message) f (daemon_of r before noted) (received_by got r.receiving).joiner (received_by got r.receiving).failed before z a.0 a.1),
+            (hands_alike (Some message) f (daemon_of r before noted) (received_by got r.receiving).joiner (received_by got r.receiving).failed (received_by got r.receiving).counts before z a.0 a.1),
         a.2,
       )
 

@@ -23,6 +23,8 @@ use Rattle.node_core.specs.Event.{called}
 use Rattle.world_model.specs.declared.script.Script.{Script}
 use Rattle.world_model.specs.Reading.{boxed_word}
 use Rattle.remote_session.specs.Daemon.{SeenUp, NotUp, EndedKey, KeysFull, KnownKey, CallMade}
+use Rattle.self_questions.specs.declared.messages.SelfQuestion.{SelfQuestion}
+use Rattle.self_questions.specs.Messages.{question_of}
 use Rattle.daemon_model.specs.Daemon.{Daemon, Life, is_due, joined_by, up_in, with_up, call_in, goodbye_in, begun_for}
 use Rattle.daemon_model.specs.Actions.{Action, did}
 use Rattle.daemon_model.specs.Actions as actions
@@ -136,9 +138,14 @@ BroughtHands (KeysFull key limit) message f d old new = new ≡ old
 BroughtHands (KnownKey key) message f d old new = new ≡ old
 BroughtHands (CallMade key line) message f d old new = LineHands (call_in (with_up message d).sessions d.me key line) f d.core old new
 
+-- a question about the daemon itself brings nothing
+abbrev pub AskedHands : Option SelfQuestion → List ℕ → Answering → Daemon → Audience → Audience → Type 0
+AskedHands None message f d old new = BroughtHands (up_in d.sessions message) message f d old new
+AskedHands (Some q) message f d old new = new ≡ old
+
 abbrev pub GivenHands : Option (List ℕ) → Answering → Daemon → Audience → Audience → Type 0
 GivenHands None f d old new = new ≡ old
-GivenHands (Some message) f d old new = BroughtHands (up_in d.sessions message) message f d old new
+GivenHands (Some message) f d old new = AskedHands (question_of message) message f d old new
 
 abbrev pub HeardHands : LinkCall → Answering → Daemon → Audience → Audience → Type 0
 HeardHands got f d old new = GivenHands (joined_by got d.joining).message f d old new
@@ -158,7 +165,7 @@ ActionsHand d (a ∷ acts) old new = (mid : Audience) × ActionHands d a old mid
 
 -- the acts with which a life begins, or all of it: what they hand, from its start on
 abbrev pub LifeHands : Script → ℕ → ℕ → Life → List Action → Audience → Audience → Type 0
-LifeHands script me incarnation life acts old new = ActionsHand (begun_for life.remote script.config me incarnation life.start) acts old new
+LifeHands script me incarnation life acts old new = ActionsHand (begun_for life.service script.config me incarnation life.start) acts old new
 
 -- ---- clients
 

@@ -12,14 +12,17 @@ use Rattle.remote_session.specs.Daemon.{up_taken}
 use Rattle.remote_clients.specs.declared.sessions.Sessions.{Sessions}
 use Rattle.remote_clients.specs.Sessions.{is_refused}
 use Rattle.remote_clients.specs.Entries.{noted_with}
+use Rattle.self_questions.specs.declared.messages.SelfQuestion.{SelfQuestion}
+use Rattle.self_questions.specs.Messages.{reply_text}
+use Rattle.daemon_model.specs.Counts.{sent_more}
 use Rattle.daemon_model.specs.Sent.{Exchange, said, number_if, message_calls, sent_calls, number_after}
-use Rattle.daemon_model.specs.Daemon.{Daemon, stepped_for, is_due, ticked, call_in, called_by, given_on, records_text}
+use Rattle.daemon_model.specs.Daemon.{Daemon, stepped_for, is_due, ticked, up_in, call_in, called_by, brought, self_text, given_on, records_text}
 use Rattle.daemon_model.specs.Actions.{Action, Hears, did_all}
 use Rattle.daemon_model.specs.Doings.{Doing, Exchanges, Writes, step_doings, since, doings_of, Made, MadeFront}
 use Rattle.daemon_run.specs.declared.hosted.Hosted.{Hosted}
 use Rattle.daemon_run.specs.declared.running.Running.{Running}
 use Rattle.daemon_run.specs.Hosting.{Known}
-use Rattle.daemon_run.specs.Audience.{Audience, StepHands, TickHands, LineHands, GivenHands, ActionsHand}
+use Rattle.daemon_run.specs.Audience.{Audience, StepHands, TickHands, LineHands, BroughtHands, GivenHands, ActionsHand}
 
 -- the daemon that stands like this, and did this so far
 abbrev pub daemon_of : {C : Type 0} → Running C → List Exchange → List Happened → Daemon
@@ -35,6 +38,10 @@ daemon_of r calls records = record {
   records = records;
   sessions = r.sessions;
   entries = r.entries;
+  about = r.about;
+  ticks = r.ticks;
+  receives = r.receiving.counts;
+  sent = r.sent;
 }
 
 -- the one that runs came from r to s as f says, with these calls and records more
@@ -110,7 +117,7 @@ left_doings r = step_doings r.node.core.records (sent_calls r.outbox.me r.outbox
 
 -- what the node left is written and sent, and comes to who is to hear it; the step was a call of this key, or of none
 pub record Settles {C : Type 0} (calling : Option ℕ) (r s : Running C) (old new : Telling) : Type 0 where
-  pub is : s ≡ record r { node = record (r.node) { core = at_work r.node.core }; outbox = record (r.outbox) { number = number_after r.outbox.number r.node.core.sends }; sessions = option_map (noted_with r.entries calling r.node.core.records) r.sessions }
+  pub is : s ≡ record r { node = record (r.node) { core = at_work r.node.core }; outbox = record (r.outbox) { number = number_after r.outbox.number r.node.core.sends }; sent = sent_more r.sent (sent_calls r.outbox.me r.outbox.incarnation r.outbox.number r.node.core.sends); sessions = option_map (noted_with r.entries calling r.node.core.records) r.sessions }
   pub made : Made old new (left_doings r)
 
 -- The write failed: the node did what it left, and has nothing left.
@@ -175,7 +182,7 @@ down_exchanges r network message = map (said r.outbox.number) (message_calls r.o
 
 -- it went, or a front of it did
 pub record Sends {C : Type 0} (r s : Running C) (old new : Telling) (network : ℕ) (message : List ℕ) : Type 0 where
-  pub is : s ≡ record r { outbox = record (r.outbox) { number = number_if (can_cut message) r.outbox.number } }
+  pub is : s ≡ record r { outbox = record (r.outbox) { number = number_if (can_cut message) r.outbox.number }; sent = sent_more r.sent (down_exchanges r network message) }
   pub made : Made old new (map Exchanges (down_exchanges r network message))
 
 abbrev pub SendsFront : {C : Type 0} → Running C → Telling → Telling → ℕ → List ℕ → Type 0
@@ -195,6 +202,34 @@ pub record CallKeyFails {C : Type 0} (A : Known → List (Hosted C) → Audience
   pub answers : Answering
   pub fails : Fails r s old new (called_by key line answers)
   pub attends : Attends A A r s (λ d. LineHands (call_in d.sessions d.me key line) answers d.core)
+
+-- ---- a message that asks the daemon nothing about itself
+
+abbrev pub brought_on : ℕ → List ℕ → Answering → Daemon → Daemon
+brought_on network message f d = brought (up_in d.sessions message) network message f d
+
+abbrev pub BroughtOnHands : List ℕ → Answering → Daemon → Audience → Audience → Type 0
+BroughtOnHands message f d old new = BroughtHands (up_in d.sessions message) message f d old new
+
+pub record BringsAs {C : Type 0} (A : Known → List (Hosted C) → Audience → Type 0) (r s : Running C) (old new : Telling) (network : ℕ) (message : List ℕ) : Type 0 where
+  pub answers : Answering
+  pub goes : Goes r s old new (brought_on network message answers)
+  pub attends : Attends A A r s (BroughtOnHands message answers)
+
+pub record BringBreaks {C : Type 0} (r : Running C) (old new : Telling) (network : ℕ) (message : List ℕ) : Type 0 where
+  pub answers : Answering
+  pub breaks : Breaks r old new (brought_on network message answers)
+
+pub record BringFails {C : Type 0} (A : Known → List (Hosted C) → Audience → Type 0) (r s : Running C) (old new : Telling) (network : ℕ) (message : List ℕ) : Type 0 where
+  pub answers : Answering
+  pub fails : Fails r s old new (brought_on network message answers)
+  pub attends : Attends A A r s (BroughtOnHands message answers)
+
+-- ---- a question about the daemon itself
+
+-- the reply, as it is now
+abbrev pub reply_in : {C : Type 0} → Running C → SelfQuestion → List ℕ
+reply_in r q = reply_text q (self_text q.what (daemon_of r [] []))
 
 -- ---- a whole message, which came on this network
 

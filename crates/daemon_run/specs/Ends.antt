@@ -33,20 +33,20 @@ pub record HandsOver {C : Type 0} (P : Known → Type 0) (R : C → List Handed 
 
 -- The daemon after these acts, with which its life begins.
 abbrev pub daemon_after : Script → ℕ → ℕ → Life → List Action → Daemon
-daemon_after script me incarnation life acts = did_all (begun_for life.remote script.config me incarnation life.start) acts
+daemon_after script me incarnation life acts = did_all (begun_for life.service script.config me incarnation life.start) acts
 
 -- At most so many turns, and a write failed in the last of these acts, or as the node started where there are none. Each
 -- record of theirs was written, the last of them in that write; and the node has come to where they come.
 pub record ServesToWrite (script : Script) (me incarnation : ℕ) (options : Options) (turns : ℕ) (core : Core) (old new : Telling) : Type 0 where
   pub life : Life
-  pub serves : life.remote ≡ options.remote
+  pub serves : life.service ≡ options.service
   pub opening : opening_calls life ≡ own_calls me script.lines
   pub follows : Follows options (first_pace life.start) (first_of script me incarnation life) life.turns
   pub at_most : length life.turns ≤ turns
   pub acts : List Action
   pub later : List Action
   pub are : acts ++ later ≡ life_actions life
-  pub made : WriteFails old new (started_doings script.config me incarnation life ++ doings_of (begun_for life.remote script.config me incarnation life.start) acts)
+  pub made : WriteFails old new (started_doings script.config me incarnation life ++ doings_of (begun_for life.service script.config me incarnation life.start) acts)
   pub core_is : core ≡ (daemon_after script me incarnation life acts).core
 
 -- ---- the node that is left

@@ -1,22 +1,25 @@
-//! What comes from clients on other machines.
-ghost use Rattle.std.specs.Prelude.{◌≡◌, ◌≤◌, OnOk, OnErr, IfOk, IfErr, IfSome, Some, option_map};
+//! What comes from clients on other machines, and from who asks a daemon about itself.
+ghost use Rattle.std.specs.Prelude.{◌≡◌, ◌≤◌, OnOk, OnErr, IfOk, IfErr, IfSome, Some, [], option_map};
 ghost use Rattle.link_use.specs.Stops.{StopsBy};
 ghost use Rattle.remote_session.specs.Daemon.{seen_up};
 ghost use Rattle.remote_clients.specs.Clients.{IsPlain};
 ghost use Rattle.remote_clients.specs.Sessions.{finished, turned_down};
-ghost use Rattle.daemon_model.specs.Daemon.{up_in, call_in, down_in};
+ghost use Rattle.daemon_model.specs.Daemon.{up_in, call_in, down_in, counts_of};
 ghost use Rattle.daemon_run.specs.Audience.{Attend};
-ghost use Rattle.daemon_run.specs.Doing.{IsSame, is_up_taken, Sends, SendsFront, CallsKey, CallKeyBreaks, CallKeyFails, GivesAs, GiveBreaks, GiveFails};
+ghost use Rattle.daemon_run.specs.Doing.{IsSame, is_up_taken, Sends, SendsFront, CallsKey, CallKeyBreaks, CallKeyFails, BringsAs, BringBreaks, BringFails, daemon_of, reply_in, GivesAs, GiveBreaks, GiveFails};
 
 use crate::calls::Hosts;
 use crate::running::Running;
 use client_callbacks::Callbacks;
+use daemon_model::Counts;
 use hags_io::Outside;
 use link_use::{Receiver, Stop};
 use node_core::NodeEvent;
 use node_state::CallLine;
 use remote_session::UpSeen;
-use rsct_packet::NoMemory;
+use rsct_packet::{Member, NoMemory};
+use self_lines::{put_clients, put_daemon};
+use self_questions::{SelfQuestion, SelfWhat, put_reply_head, read_question};
 use std::alloc::Global;
 
 impl<C: Callbacks> Running<C> {
@@ -115,8 +118,31 @@ impl<C: Callbacks> Running<C> {
         Ok(down)
     }
 
+    /// A message that is no packet goes to the sender of the datagram that came last, on this network.
+    #[tactic(auto, using(crate::proofs::RemoteLaws::back_done, crate::proofs::RemoteLaws::back_front))]
+    fn send_back<O: Outside>(
+        &mut self,
+        alloc: Global,
+        message: &[u8],
+        network: u8,
+        outside: &mut O,
+    ) -> Result<(), NoMemory>
+        requires { self.old.outbox.me ≤ 32 }
+        ensures done { OnOk result (Sends self.old self.new (O.told outside.old)
+            (O.told outside.new) network message.now) }
+        ensures broke { OnErr result (SendsFront self.old (O.told outside.old)
+            (O.told outside.new) network message.now) }
+        ensures same { IsSame self.old self.new }
+    {
+        let to = Receiver { node: 0, network };
+        let sent = self.outbox.send_message(alloc, to, message, outside)?;
+        let total = self.sent.saturating_add(sent);
+        self.sent = total;
+        Ok(())
+    }
+
     /// The Down of a key goes to the sender of the datagram that came last, on this network.
-    #[tactic(auto, using(crate::proofs::RemoteLaws::down_done, crate::proofs::RemoteLaws::down_front, daemon_model::proofs::MadeLaws::none_made))]
+    #[tactic(auto, using(crate::proofs::RemoteLaws::same_done, crate::proofs::RemoteLaws::same_front, daemon_model::proofs::MadeLaws::none_made))]
     fn send_down<O: Outside>(
         &mut self,
         alloc: Global,
@@ -132,14 +158,116 @@ impl<C: Callbacks> Running<C> {
         ensures same { IsSame self.old self.new }
     {
         let down = self.down_in(alloc, key)?;
-        let to = Receiver { node: 0, network };
-        self.outbox
-            .send_message(alloc, to, down.as_slice(), outside)
+        self.send_back(alloc, down.as_slice(), network, outside)?;
+        Ok(())
     }
 
-    /// A whole message that came on this network: an Up of a client on another machine, where those are served, after
+    /// What it counted up to now.
+    fn counts(&self) -> Counts
+        ensures { result ≡ counts_of (daemon_of self.now [] []) }
+    {
+        let (keys, ended) = match &self.sessions {
+            None => (0, 0),
+            Some(sessions) => (sessions.remote.kept_count(), sessions.remote.ended_count()),
+        };
+        Counts {
+            ticks: self.ticks,
+            receives: self.receiving.counts,
+            sent: self.sent,
+            keys,
+            ended,
+        }
+    }
+
+    /// What it replies to a question about itself, as it is now.
+    #[tactic(auto, unfolding(self_questions::specs::Messages::reply_text, daemon_model::specs::Daemon::self_text))]
+    fn reply_in(&self, alloc: Global, question: SelfQuestion) -> Result<Vec<u8>, NoMemory>
+        ensures { IfOk result (λ reply. reply.items ≡ reply_in self.now question) }
+    {
+        let mut reply = Vec::new(alloc);
+        put_reply_head(&mut reply, question)?;
+        match question.what {
+            SelfWhat::Hagscl => {
+                put_clients(
+                    &self.sessions,
+                    alloc,
+                    &mut reply,
+                    &self.node.core().sessions,
+                )?;
+            }
+            SelfWhat::Hagsd => {
+                let me = Member {
+                    node: self.outbox.me,
+                    inc: self.outbox.incarnation,
+                };
+                put_daemon(&mut reply, me, self.about, self.counts())?;
+            }
+        }
+        Ok(reply)
+    }
+
+    /// It replies to a question about itself, on the network on which that came. Its node makes no step.
+    #[tactic(auto, using(crate::proofs::RemoteLaws::same_done, crate::proofs::RemoteLaws::same_front, daemon_model::proofs::MadeLaws::none_made))]
+    fn tell_of_itself<O: Outside>(
+        &mut self,
+        alloc: Global,
+        question: SelfQuestion,
+        network: u8,
+        outside: &mut O,
+    ) -> Result<(), NoMemory>
+        requires { self.old.outbox.me ≤ 32 }
+        ensures done { OnOk result (Sends self.old self.new (O.told outside.old)
+            (O.told outside.new) network (reply_in self.old question)) }
+        ensures broke { OnErr result (SendsFront self.old (O.told outside.old)
+            (O.told outside.new) network (reply_in self.old question)) }
+        ensures same { IsSame self.old self.new }
+    {
+        let reply = self.reply_in(alloc, question)?;
+        self.send_back(alloc, reply.as_slice(), network, outside)?;
+        Ok(())
+    }
+
+    /// A message that asks it nothing about itself: an Up of a client on another machine, where those are served, after
     /// which its Down is sent; or one for the node.
     #[tactic(auto, using(crate::proofs::RemoteLaws::give_done, crate::proofs::RemoteLaws::give_broke, crate::proofs::RemoteLaws::known_done, crate::proofs::RemoteLaws::ended_done, crate::proofs::RemoteLaws::full_done, crate::proofs::RemoteLaws::call_done, crate::proofs::RemoteLaws::call_broke_off, crate::proofs::RemoteLaws::give_fails, crate::proofs::RemoteLaws::call_fails_in, crate::proofs::RemoteLaws::give_none))]
+    fn bring<H: Hosts<C>, O: Outside>(
+        &mut self,
+        alloc: Global,
+        message: &[u8],
+        network: u8,
+        hosts: &mut H,
+        outside: &mut O,
+    ) -> Result<(), Stop>
+        requires { self.old.outbox.me ≤ 32 }
+        ensures done { OnOk result (BringsAs (Attend C.stands_for C.script) self.old self.new
+            (O.told outside.old) (O.told outside.new) network message.now) }
+        ensures broke { OnErr result (BringBreaks self.old (O.told outside.old)
+            (O.told outside.new) network message.now) }
+        ensures unwritten { IfErr result (λ stop. stop ≡ Stop.WriteFault → BringFails
+            (Attend C.stands_for C.script) self.old self.new (O.told outside.old)
+            (O.told outside.new) network message.now) }
+        ensures same { IsSame self.old self.new }
+        ensures fault { IfErr result (StopsBy (O.told outside.new)) }
+    {
+        let key = match self.take_up(alloc, message)? {
+            UpSeen::NoMessage => {
+                return self.step(alloc, NodeEvent::Datagram(message), outside);
+            }
+            UpSeen::Ended(key) => key,
+            UpSeen::Full(key, _) => key,
+            UpSeen::Known(key) => key,
+            UpSeen::Call { key, line } => {
+                self.carry_key_line(alloc, key, line, hosts, outside)?;
+                key
+            }
+        };
+        self.send_down(alloc, key, network, outside)?;
+        Ok(())
+    }
+
+    /// A whole message that came on this network: a question about itself, whomever it serves; an Up of a client on another
+    /// machine, where those are served, after which its Down is sent; or one for the node.
+    #[tactic(auto, using(crate::proofs::AskLaws::asked_done, crate::proofs::AskLaws::asked_broke, crate::proofs::AskLaws::other_done, crate::proofs::AskLaws::other_broke, crate::proofs::AskLaws::other_fails))]
     pub(crate) fn give<H: Hosts<C>, O: Outside>(
         &mut self,
         alloc: Global,
@@ -159,19 +287,11 @@ impl<C: Callbacks> Running<C> {
         ensures same { IsSame self.old self.new }
         ensures fault { IfErr result (StopsBy (O.told outside.new)) }
     {
-        let key = match self.take_up(alloc, message)? {
-            UpSeen::NoMessage => {
-                return self.step(alloc, NodeEvent::Datagram(message), outside);
-            }
-            UpSeen::Ended(key) => key,
-            UpSeen::Full(key, _) => key,
-            UpSeen::Known(key) => key,
-            UpSeen::Call { key, line } => {
-                self.carry_key_line(alloc, key, line, hosts, outside)?;
-                key
-            }
-        };
-        self.send_down(alloc, key, network, outside)?;
+        if let Some(question) = read_question(message) {
+            self.tell_of_itself(alloc, question, network, outside)?;
+            return Ok(());
+        }
+        self.bring(alloc, message, network, hosts, outside)?;
         Ok(())
     }
 }

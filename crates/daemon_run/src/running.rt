@@ -4,6 +4,7 @@ ghost use Rattle.link_use.specs.Stops.{StopsBy};
 ghost use Rattle.node_core.specs.Event.{event_in, is_taken};
 ghost use Rattle.remote_clients.specs.Sessions.{is_refused};
 ghost use Rattle.remote_clients.specs.Entries.{noted_with};
+ghost use Rattle.daemon_model.specs.Counts.{one_more};
 ghost use Rattle.daemon_model.specs.Daemon.{counted_in};
 ghost use Rattle.daemon_model.specs.Doings.{MadeFront};
 ghost use Rattle.daemon_run.specs.Audience.{Attend};
@@ -12,6 +13,7 @@ ghost use Rattle.daemon_run.specs.Doing.{IsSame, left_doings, Settles, SettleFai
 use crate::hosted::Hosted;
 use crate::writing::write_and_send;
 use client_callbacks::Callbacks;
+use daemon_model::About;
 use hags_io::Outside;
 use link_use::{Outbox, Receiving, Stop};
 use node_core::{Node, NodeEvent};
@@ -22,7 +24,9 @@ use std::alloc::Global;
 
 /// A daemon that runs: what it sends by, with the number of its node, which is at most 32, and its incarnation; the node
 /// with its clients; what it receives; the moment of its last tick, or of its start; the sessions of clients on other
-/// machines, where it serves them; and whether it tells those the lines of entries.
+/// machines, where it serves them, and whether it tells those the lines of entries; and what it tells who asks it about
+/// itself, beside what came: what it was told at its start, the ticks of its node, and the datagrams that it sent, as if
+/// each went out. Each count stays at 18,446,744,073,709,551,615 once it is there.
 #[derive(Drop)]
 pub struct Running<C: Callbacks> {
     pub outbox: Outbox,
@@ -31,6 +35,9 @@ pub struct Running<C: Callbacks> {
     pub last: u64,
     pub sessions: Option<Sessions>,
     pub entries: bool,
+    pub about: About,
+    pub ticks: u64,
+    pub sent: u64,
 }
 
 impl<C: Callbacks> Running<C> {
@@ -58,9 +65,10 @@ impl<C: Callbacks> Running<C> {
     /// The daemon ticked: each key was silent for one tick more.
     pub(crate) fn count(&mut self)
         ensures counted { self.new ≡ record self.old
-            { sessions = counted_in self.old.sessions } }
+            { sessions = counted_in self.old.sessions; ticks = one_more self.old.ticks } }
         ensures same { IsSame self.old self.new }
     {
+        self.ticks = self.ticks.saturating_add(1);
         if let Some(sessions) = &mut self.sessions {
             sessions.remote.tick();
         }
@@ -90,13 +98,15 @@ impl<C: Callbacks> Running<C> {
     {
         let sends = self.node.take_sends(alloc);
         let records = self.node.take_records(alloc);
-        write_and_send(
+        let sent = write_and_send(
             &mut self.outbox,
             alloc,
             records.as_slice(),
             sends.as_slice(),
             outside,
         )?;
+        let total = self.sent.saturating_add(sent);
+        self.sent = total;
         self.note(alloc, calling, records.as_slice())?;
         Ok(is_refused(records.as_slice()))
     }

@@ -27,7 +27,7 @@ use std::alloc::Global;
 use world_model::Script;
 
 /// Which daemon it is, and how long it runs: the number of its node (1 to 32), its incarnation and how many turns it
-/// does (each at least 1); and its options.
+/// does (each at least 1); and its options, with what it tells of itself.
 #[derive(Clone, Copy, Debug, PartialEq, Eq)]
 pub struct Serving {
     pub me: u8,
@@ -46,9 +46,9 @@ pub struct Outcome<C: Callbacks> {
 
 /// The sessions of clients on other machines, where they are served.
 fn sessions_if(alloc: Global, serving: Serving) -> Option<Sessions>
-    ensures { result ≡ sessions_if serving.options.remote serving.incarnation }
+    ensures { result ≡ sessions_if serving.options.service.remote serving.incarnation }
 {
-    match serving.options.remote {
+    match serving.options.service.remote {
         RemoteService::Off => None,
         RemoteService::On { .. } => Some(Sessions::new(alloc, serving.incarnation)),
     }
@@ -71,7 +71,7 @@ fn started<C: Callbacks>(
     serving: Serving,
     moment: u64,
 ) -> Result<Running<C>, NoMemory>
-    ensures { IfOk result (λ r. r ≡ fresh_running serving.options.remote script.now.config
+    ensures { IfOk result (λ r. r ≡ fresh_running serving.options.service script.now.config
         serving.me serving.incarnation moment) }
 {
     Ok(Running {
@@ -84,7 +84,10 @@ fn started<C: Callbacks>(
         receiving: Receiving::new(),
         last: moment,
         sessions: sessions_if(alloc, serving),
-        entries: tells_entries(serving.options.remote),
+        entries: tells_entries(serving.options.service.remote),
+        about: serving.options.service.about,
+        ticks: 0,
+        sent: 0,
     })
 }
 
@@ -99,20 +102,20 @@ impl<C: Callbacks> Running<C> {
         outside: &mut O,
     ) -> Result<(), Stop>
         requires within { self.old.outbox.me ≤ 32 }
-        requires fresh { self.old ≡ fresh_running serving.options.remote script.now.config
+        requires fresh { self.old ≡ fresh_running serving.options.service script.now.config
             serving.me serving.incarnation self.old.last }
         ensures done { OnOk result (BeginsAs
             (AttendWith (H.stand hosts.old) C.stands_for C.script)
-            (AttendWith (H.stand hosts.new) C.stands_for C.script) serving.options.remote script.now
-            serving.me serving.incarnation self.old.last self.new (O.told outside.old)
-            (O.told outside.new)) }
-        ensures broke { OnErr result (BeginBreaks serving.options.remote script.now serving.me
+            (AttendWith (H.stand hosts.new) C.stands_for C.script) serving.options.service
+            script.now serving.me serving.incarnation self.old.last self.new
+            (O.told outside.old) (O.told outside.new)) }
+        ensures broke { OnErr result (BeginBreaks serving.options.service script.now serving.me
             serving.incarnation self.old.last (O.told outside.old) (O.told outside.new)) }
         ensures unwritten { IfErr result (λ stop. stop ≡ Stop.WriteFault → BeginFails
             (AttendWith (H.stand hosts.old) C.stands_for C.script)
-            (AttendWith (H.stand hosts.new) C.stands_for C.script) serving.options.remote script.now
-            serving.me serving.incarnation self.old.last self.new (O.told outside.old)
-            (O.told outside.new)) }
+            (AttendWith (H.stand hosts.new) C.stands_for C.script) serving.options.service
+            script.now serving.me serving.incarnation self.old.last self.new
+            (O.told outside.old) (O.told outside.new)) }
         ensures same { IsSame self.old self.new }
         ensures fault { IfErr result (StopsBy (O.told outside.new)) }
     {

@@ -2,6 +2,7 @@
 ghost use Rattle.std.specs.Prelude.{◌≡◌, ◌≤◌, OnOk, OnErr, IfOk, IfErr};
 ghost use Rattle.link_use.specs.Stops.{StopsBy};
 ghost use Rattle.daemon_model.specs.Daemon.{records_text};
+ghost use Rattle.daemon_model.specs.Counts.{sent_more};
 ghost use Rattle.daemon_model.specs.Sent.{sent_calls, number_after};
 ghost use Rattle.daemon_model.specs.Doings.{writes, step_doings, Made, MadeFront};
 ghost use Rattle.daemon_run.specs.Doing.{WriteFails};
@@ -52,7 +53,8 @@ fn write_records<O: Outside>(
     }
 }
 
-/// What a step recorded is written, and then what it sends goes out.
+/// What a step recorded is written, and then what it sends goes out. Answers how many datagrams it sent, as if each went
+/// out, up to 18,446,744,073,709,551,615.
 #[tactic(auto, using(daemon_model::proofs::MadeLaws::made_on, daemon_model::proofs::MadeLaws::made_front_on, daemon_model::proofs::MadeLaws::made_front_more, crate::proofs::FailLaws::fails_more))]
 pub(crate) fn write_and_send<O: Outside>(
     outbox: &mut Outbox,
@@ -60,8 +62,10 @@ pub(crate) fn write_and_send<O: Outside>(
     records: &[Happened],
     sends: &[Packet],
     outside: &mut O,
-) -> Result<(), Stop>
+) -> Result<u64, Stop>
     requires { outbox.old.me ≤ 32 }
+    ensures count { IfOk result (λ n. n ≡ sent_more 0 (sent_calls outbox.old.me
+        outbox.old.incarnation outbox.old.number sends.now)) }
     ensures done { OnOk result (Made (O.told outside.old) (O.told outside.new)
         (step_doings records.now (sent_calls outbox.old.me outbox.old.incarnation
         outbox.old.number sends.now))) }
@@ -77,6 +81,6 @@ pub(crate) fn write_and_send<O: Outside>(
     ensures fault { IfErr result (StopsBy (O.told outside.new)) }
 {
     write_records(alloc, records, outside)?;
-    outbox.send_packets(alloc, sends, outside)?;
-    Ok(())
+    let sent = outbox.send_packets(alloc, sends, outside)?;
+    Ok(sent)
 }

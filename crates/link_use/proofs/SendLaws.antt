@@ -1,5 +1,5 @@
 -- What goes out, piece by piece and packet by packet, each of which is spelled.
-use Rattle.std.proofs.Common.{◌≡◌, ℕ, zero, suc, ◌+◌, ◌<◌, ◌≤◌, ◌^◌, ◌==◌, ◌&&◌, not, Bool, true, false, List, [], ◌∷◌, ◌++◌, length, drop, map, get_or, Some, refl, sym, ◌∙◌, ap, ap₂, subst, inl, inr, arith, append_assoc, append-nil, add-one}
+use Rattle.std.proofs.Common.{◌≡◌, ℕ, zero, suc, ◌+◌, ◌<◌, ◌≤◌, ◌^◌, ◌==◌, ◌&&◌, not, Bool, true, false, List, [], ◌∷◌, ◌++◌, length, length-append, min, drop, map, get_or, Some, refl, sym, ◌∙◌, ap, ap₂, subst, inl, inr, arith, append_assoc, append-nil, add-one}
 use Rattle.std.specs.Prelude.{◌⊎◌, Result, Ok, Err, OnErr}
 use Rattle.std.proofs.lemmas.Bool.{eqb-true, eq-eqb}
 use Rattle.std.proofs.lemmas.List.{map-append, length-map}
@@ -12,6 +12,7 @@ use Rattle.hags_io.proofs.FrontLaws.{went_nothing, went_on, still_went, went_fro
 use Rattle.piece_link.specs.Pieces.{can_cut, message_by, pieces_of}
 use Rattle.node_state.specs.declared.packet.Packet.{Packet}
 use Rattle.node_state.specs.Bytes.{packet_of, bytes_of}
+use Rattle.daemon_model.specs.Counts.{last_u64, sent_more}
 use Rattle.daemon_model.specs.Sent.{piece_to, piece_call, packet_pieces, message_calls, packet_calls, calls_if, number_if, number_past, carried_calls, number_over, Exchange, said, piece_of, call_of, numbered, carried, sent_calls, number_after, IsSpelled, IsSpelledIf}
 use Rattle.daemon_model.specs.Doings.{Doing, Exchanges, deed_of, AreSpelled, Made, MadeFront}
 use Rattle.daemon_model.proofs.MadeLaws.{made_nothing, made_on, still_made, made_front_on, made_front_more}
@@ -102,7 +103,21 @@ message_front me inc number node network message pieces t u e is w = subst (λ c
 pub number_sent : (o : Outbox) (next : ℕ) (message : List ℕ) → can_cut message ≡ true → next ≡ o.number + 1 → ◌≡◌ {A = Outbox} (record o { number = next }) (record o { number = number_if (can_cut message) o.number })
 number_sent o next message e n = ap (λ (k : ℕ). record o { number = k }) (n ∙ ap (λ x. number_if x o.number) (sym e))
 
+-- how many pieces
+pub message_unsent : (me inc number node network : ℕ) (message : List ℕ) → can_cut message ≡ false → 0 ≡ length (message_calls me inc number node network message)
+message_unsent me inc number node network message e =
+    ap (λ x. length (calls_if x (map (piece_to node network) (pieces_of (message_by me inc number message))))) (sym e)
+
+pub message_count : {V : Type 0} (items : V → List ℕ) (me inc number node network n : ℕ) (message : List ℕ) (vs : List V) → can_cut message ≡ true → map items vs ≡ pieces_of (message_by me inc number message) → n ≡ length vs
+    → n ≡ length (message_calls me inc number node network message)
+message_count items me inc number node network n message vs e is so_many =
+    so_many ∙ (sym (length-map vs items) ∙ (sym (length-map (map items vs) (piece_to node network)) ∙ ap length (pieces_are me inc number node network message (map items vs) e is)))
+
 -- ---- a packet
+
+pub packet_count : (me inc number n : ℕ) (p : Packet) (bytes : List ℕ) → bytes ≡ bytes_of p → n ≡ length (message_calls me inc number p.to p.network bytes) → n ≡ length (packet_calls me inc number p)
+unfolding packet_calls
+packet_count me inc number n p bytes is so_many = so_many ∙ ap (λ x. length (message_calls me inc number p.to p.network x)) is
 
 pub packet_went : (me inc number : ℕ) (p : Packet) (bytes : List ℕ) (t u : Telling) → bytes ≡ bytes_of p → Went t u (map Exchanged (message_calls me inc number p.to p.network bytes)) → Went t u (map Exchanged (packet_calls me inc number p))
 unfolding packet_calls
@@ -217,6 +232,15 @@ packet_made_front me inc number p t u e (inl still) w = still_made t u (map Exch
 packet_made_front me inc number p t u e (inr s) w =
     each_front (piece_of (numbered me inc number p)) (λ c. refl) (λ c. s) t u (carried_calls me inc number p) (subst (λ cs. WentFront t u (map Exchanged cs)) (carried_sent me inc number p e) w)
 
+pub nowhere_count : (me inc number : ℕ) (p : Packet) → (p.network == 0) ≡ true → 0 ≡ length (carried me inc number p)
+unfolding carried
+nowhere_count me inc number p e = ap (λ cs. length (map (piece_of (numbered me inc number p)) cs)) (sym (nowhere_sent me inc number p e))
+
+pub carried_count : (me inc number n : ℕ) (p : Packet) → (p.network == 0) ≡ false → n ≡ length (packet_calls me inc number p) → n ≡ length (carried me inc number p)
+unfolding carried
+carried_count me inc number n p e so_many =
+    so_many ∙ (ap length (carried_sent me inc number p e) ∙ sym (length-map (carried_calls me inc number p) (piece_of (numbered me inc number p))))
+
 -- ---- packets
 
 -- what is left is that of the packets that are left, from where the outbox stands
@@ -276,3 +300,33 @@ unfolding number_after
 packets_number o first i ps t u le w =
     let at : PacketsTo o first [] ps t u = packets_left o first i ps t u le w in
     at.is ∙ ap (λ (k : ℕ). record first { number = k }) at.number_is
+
+-- ---- how many datagrams
+
+-- What is counted up to here, and what is left, is all that is to be counted.
+pub record CountTo (n : ℕ) (o first : Outbox) (left all : List Packet) : Type 0 where
+  pub within : n ≤ last_u64
+  pub so_many : sent_more n (sent_calls first.me first.incarnation o.number left) ≡ sent_more 0 (sent_calls first.me first.incarnation first.number all)
+
+pub count_begins : (o : Outbox) (ps : List Packet) → CountTo 0 o o ps ps
+count_begins o ps = record { within = omega arith; so_many = refl }
+
+pub count_next : (n k : ℕ) (o s first : Outbox) (i : ℕ) (p : Packet) (ps : List Packet) (t u : Telling) (m : ℕ) → i < length ps → p ≡ get_or ps i p → s ≡ record o { number = number_over o.number p } → PacketsTo o first (drop i ps) ps t u
+    → k ≡ length (carried o.me o.incarnation o.number p) → m ≡ min (n + k) last_u64 → CountTo n o first (drop i ps) ps → CountTo m s first (drop (i + 1) ps) ps
+unfolding sent_calls
+count_next n k o s first i p ps t u m h is past to so_many more w =
+    let rest : List Exchange = sent_calls first.me first.incarnation (number_over o.number p) (drop (i + 1) ps) in
+    let own : k ≡ length (carried first.me first.incarnation o.number p) = so_many ∙ ap (λ (x : Outbox). length (carried x.me x.incarnation o.number p)) to.is in
+    let at : sent_more n (carried first.me first.incarnation o.number p ++ rest) ≡ sent_more 0 (sent_calls first.me first.incarnation first.number ps)
+    = subst (λ x. sent_more n (sent_calls first.me first.incarnation o.number x) ≡ sent_more 0 (sent_calls first.me first.incarnation first.number ps)) (next_item i p ps h is) w.so_many in
+    let both : length (carried first.me first.incarnation o.number p ++ rest) ≡ length (carried first.me first.incarnation o.number p) + length rest = length-append (carried first.me first.incarnation o.number p) rest in
+    let sum : min (m + length rest) last_u64 ≡ min (n + length (carried first.me first.incarnation o.number p ++ rest)) last_u64 = omega (arith, own, more, both) in
+    rw past (record { within = omega (arith, more); so_many = sum ∙ at })
+
+pub count_done : (n : ℕ) (o first : Outbox) (i : ℕ) (ps : List Packet) → length ps ≤ i → CountTo n o first (drop i ps) ps → n ≡ sent_more 0 (sent_calls first.me first.incarnation first.number ps)
+unfolding sent_calls
+count_done n o first i ps le w =
+    let at : sent_more n [] ≡ sent_more 0 (sent_calls first.me first.incarnation first.number ps)
+    = subst (λ x. sent_more n (sent_calls first.me first.incarnation o.number x) ≡ sent_more 0 (sent_calls first.me first.incarnation first.number ps)) (no_item i ps le) w.so_many in
+    let all : n ≡ min (n + 0) last_u64 = omega (arith, w.within) in
+    all ∙ at

@@ -3,6 +3,7 @@ ghost use Rattle.std.specs.Prelude.{◌≡◌, ◌≤◌, ◌<◌, vec_len, leng
 ghost use Rattle.hags_io.specs.Fronts.{EndsByReceive};
 ghost use Rattle.link_use.specs.Receiving.{Receives, ReceivesFront, whole_in, nothing_received};
 
+use daemon_model::ReceiveCounts;
 use hags_io::{DATAGRAM_ROOM, Got, Outside};
 use piece_link::Joiner;
 use rsct_packet::NoMemory;
@@ -18,11 +19,12 @@ pub fn buffer(alloc: Global) -> Result<Vec<u8>, NoMemory>
     Ok(vec![in alloc; 0u8; DATAGRAM_ROOM]?)
 }
 
-/// What is received: the pieces that are joined, and how many receives failed in a row, up to 16.
+/// What is received: the pieces that are joined; how many receives failed in a row, up to 16; and what came so far.
 #[derive(Drop)]
 pub struct Receiving {
     pub joiner: Joiner,
     pub failed: u8,
+    pub counts: ReceiveCounts,
 }
 
 /// A message that is whole, and the network on which its last piece came.
@@ -40,6 +42,7 @@ impl Receiving {
         Receiving {
             joiner: Joiner::new(),
             failed: 0,
+            counts: ReceiveCounts::new(),
         }
     }
 
@@ -62,17 +65,21 @@ impl Receiving {
         match outside.recv(buf) {
             Got::Datagram(len, network) => {
                 self.failed = 0;
-                match self.joiner.take(alloc, &buf[..len])? {
+                let datagram = &buf[..len];
+                self.counts.note_datagram(datagram);
+                match self.joiner.take(alloc, datagram)? {
                     None => Ok(None),
                     Some(message) => Ok(Some(Whole { network, message })),
                 }
             }
             Got::Quiet => {
                 self.failed = 0;
+                self.counts.note_quiet();
                 Ok(None)
             }
             Got::Failed => {
                 self.failed = self.failed.saturating_add(1).min(MOST_FAILED);
+                self.counts.note_failure();
                 Ok(None)
             }
             Got::NoMemory => Err(NoMemory),

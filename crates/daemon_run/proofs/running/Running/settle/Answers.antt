@@ -31,5 +31,5 @@ returns-clause-done g c =
     let recorded : c.as_slice.result.now ≡ c.args.self.now.node.core.records = c.as_slice.ensures ∙ records_left c.args.self.now c.take_sends-sends.new.self c.take_records-records.result c.take_sends-sends.ensures.left c.take_records-records.ensures.taken in
     let noted : c.as_slice-3.result.now ≡ c.args.self.now.node.core.records = c.as_slice-3.ensures ∙ records_left c.args.self.now c.take_sends-sends.new.self c.take_records-records.result c.take_sends-sends.ensures.left c.take_records-records.ensures.taken in
     let sent : c.as_slice-2.result.now ≡ c.args.self.now.node.core.sends = c.as_slice-2.ensures ∙ c.take_sends-sends.ensures.taken in
-    settles c.args.calling c.args.self.now c.note.new.self c.take_sends-sends.new.self c.take_records-records.new.self c.write_and_send.new.outbox c.as_slice-2.result.now c.as_slice-3.result.now _ _ c.take_sends-sends.ensures.left c.take_records-records.ensures.left sent noted
-    c.in_ok-write_and_send.ensures.number c.in_ok-note.ensures.noted (left_made c.args.self.now c.as_slice-2.result.now c.as_slice.result.now _ _ sent recorded c.in_ok-write_and_send.ensures.done)
+    settles c.args.calling c.args.self.now c.note.new.self c.take_sends-sends.new.self c.take_records-records.new.self c.write_and_send.new.outbox _ c.saturating_add-total.result c.as_slice-2.result.now c.as_slice-3.result.now _ _ c.take_sends-sends.ensures.left c.take_records-records.ensures.left sent noted
+    c.in_ok-write_and_send.ensures.number c.in_ok-write_and_send.ensures.count c.saturating_add-total.ensures c.in_ok-note.ensures.noted (left_made c.args.self.now c.as_slice-2.result.now c.as_slice.result.now _ _ sent recorded c.in_ok-write_and_send.ensures.done)

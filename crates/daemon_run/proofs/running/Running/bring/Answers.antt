@@ -2,14 +2,14 @@
 use Rattle.std.proofs.Common.{ap, ◌∙◌, sym}
 use Rattle.link_use.proofs.SendLaws.{on_err}
 use Rattle.remote_session.specs.Daemon.{seen_up}
-use Rattle.daemon_run.specs.Doing.{GiveBreaks}
+use Rattle.daemon_run.specs.Doing.{BringBreaks}
 use Rattle.daemon_run.proofs.RemoteLaws.{front_at, ended_broke, full_broke, known_broke, down_broke}
-use Rattle.daemon_run.proofs.running.Running.give.Goals as goal
-use Rattle.daemon_run.proofs.running.Running.give.Goals.{in-Ended, in-Full, in-Known, in-Call+in_ok-carry_key_line-in-Call}
+use Rattle.daemon_run.proofs.running.Running.bring.Goals as goal
+use Rattle.daemon_run.proofs.running.Running.bring.Goals.{in-Ended, in-Full, in-Known, in-Call+in_ok-carry_key_line-in-Call}
 
 pub returns-in_err-send_down-clause-broke : goal.returns-in_err-send_down-clause-broke
 returns-in_err-send_down-clause-broke g c =
-    let broke : GiveBreaks c.args.self.now (g.O.Outside.told c.args.outside.now) (g.O.Outside.told c.send_down.new.outside) c.args.network c.args.message.now = elim c.match-branch-2.branch [
+    let broke : BringBreaks c.args.self.now (g.O.Outside.told c.args.outside.now) (g.O.Outside.told c.send_down.new.outside) c.args.network c.args.message.now = elim c.match-branch-2.branch [
       | in-Ended w ↦
           ended_broke c.args.self.now c.take_up.new.self w.in-Ended.key c.args.network c.args.message.now _ _ (sym (ap seen_up w.in-Ended.is) ∙ c.in_ok-take_up.ensures.seen) c.in_ok-take_up.ensures.taken
           (front_at c.take_up.new.self c.match-branch-2.self w.in-Ended.key c.match-branch-2.key c.args.network _ _ _ w.self-is w.key-is (ap g.O.Outside.told w.outside-is) c.in_err-send_down.ensures.broke)
