@@ -10,6 +10,7 @@ use Rattle.daemon_model.specs.Daemon.{joined_by, network_of}
 use Rattle.daemon_model.specs.Lives.{most_failed}
 use Rattle.link_use.specs.declared.receiving.Receiving.{Receiving}
 use Rattle.link_use.specs.Receiving.{IsReceive, Receives}
+use Rattle.status_client.specs.declared.question.Question.{Question}
 use Rattle.status_client.specs.declared.waiting.Waiting.{Waiting}
 use Rattle.status_client.specs.Question.{answer_of, reply_to}
 use Rattle.status_client.specs.Waiting.{heard, heard_all, answer_by, GoesOn}
@@ -62,7 +63,7 @@ unfolding heard_all
 heard_last w [] got = refl
 heard_last w (x ∷ gots) got = heard_last (heard w x) gots got
 
-goes_on_last : (question : ℕ) (w : Receiving) (gots : List LinkCall) (got : LinkCall) → GoesOn question w gots → IsReceive got → answer_by question (heard_all w gots) got ≡ None → (heard (heard_all w gots) got).failed < most_failed
+goes_on_last : (question : Question) (w : Receiving) (gots : List LinkCall) (got : LinkCall) → GoesOn question w gots → IsReceive got → answer_by question (heard_all w gots) got ≡ None → (heard (heard_all w gots) got).failed < most_failed
     → GoesOn question w (gots ++ got ∷ [])
 unfolding heard_all
 goes_on_last question w [] got h receive none below = (receive, none, below, tt)
@@ -74,7 +75,7 @@ told_last t u v gots got p q = subst (Did t v) (sym (map-append Exchanged gots (
 -- what a receive is, seen from the first one
 answer_then : (r s q : Waiting) (count : ℕ) (text : Option (List ℕ)) (t u v : Telling) (p : WaitsOn r s count t u) (n : Hears s q text u v) → text ≡ answer_by r.question (heard_all r.receiving p.gots) n.got
 answer_then r s q count text t u v p n =
-    n.answer ∙ (ap (λ (k : ℕ). answer_by k s.receiving n.got) p.same ∙ ap (λ (w : Receiving). answer_by r.question w n.got) p.is)
+    n.answer ∙ (ap (λ (k : Question). answer_by k s.receiving n.got) p.same ∙ ap (λ (w : Receiving). answer_by r.question w n.got) p.is)
 
 heard_then : (r s q : Waiting) (count : ℕ) (text : Option (List ℕ)) (t u v : Telling) (p : WaitsOn r s count t u) (n : Hears s q text u v) → q.receiving ≡ heard (heard_all r.receiving p.gots) n.got
 heard_then r s q count text t u v p n = n.is ∙ ap (λ (w : Receiving). heard w n.got) p.is

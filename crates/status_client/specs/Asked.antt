@@ -10,8 +10,9 @@ use Rattle.daemon_model.specs.Lives.{most_failed}
 use Rattle.link_use.specs.declared.receiving.Receiving.{Receiving}
 use Rattle.link_use.specs.Receiving.{IsReceive}
 use Rattle.status_client.specs.declared.question.Asking.{Asking}
+use Rattle.status_client.specs.declared.question.Question.{Question}
 use Rattle.status_client.specs.declared.waiting.Waiting.{Waiting}
-use Rattle.status_client.specs.Question.{question_at, question_call}
+use Rattle.status_client.specs.Question.{number_at, question_at, question_call}
 use Rattle.status_client.specs.Waiting.{heard, heard_all, answer_by, GoesOn}
 
 -- nothing was written
@@ -39,7 +40,7 @@ pub record WaitsOn (r s : Waiting) (count : ℕ) (old new : Telling) : Type 0 wh
   pub same : s.question ≡ r.question
 
 -- the last of at most so many receives completed the answer, which is this text
-pub record Answered (question turns : ℕ) (r : Receiving) (text : List ℕ) (old new : Telling) : Type 0 where
+pub record Answered (question : Question) (turns : ℕ) (r : Receiving) (text : List ℕ) (old new : Telling) : Type 0 where
   pub before : List LinkCall
   pub last : LinkCall
   pub told : Did old new (map Exchanged (before ++ last ∷ []))
@@ -49,14 +50,14 @@ pub record Answered (question turns : ℕ) (r : Receiving) (text : List ℕ) (ol
   pub answer : Some text ≡ answer_by question (heard_all r before) last
 
 -- so many receives, and no answer
-pub record Unanswered (question turns : ℕ) (r : Receiving) (old new : Telling) : Type 0 where
+pub record Unanswered (question : Question) (turns : ℕ) (r : Receiving) (old new : Telling) : Type 0 where
   pub gots : List LinkCall
   pub told : Did old new (map Exchanged gots)
   pub so_many : length gots ≡ turns
   pub waits : GoesOn question r gots
 
 -- the last of at most so many receives was the sixteenth in a row that failed, and no answer came
-pub record Failing (question turns : ℕ) (r : Receiving) (old new : Telling) : Type 0 where
+pub record Failing (question : Question) (turns : ℕ) (r : Receiving) (old new : Telling) : Type 0 where
   pub before : List LinkCall
   pub last : LinkCall
   pub told : Did old new (map Exchanged (before ++ last ∷ []))
@@ -69,8 +70,8 @@ pub record Failing (question turns : ℕ) (r : Receiving) (old new : Telling) : 
 -- ---- the whole
 
 -- the clock was read once, and the question of that moment went out; then this
-pub record Asked (c : Config) (asking : Asking) (old : Telling) (P : ℕ → Telling → Type 0) : Type 0 where
+pub record Asked (c : Config) (asking : Asking) (old : Telling) (P : Question → Telling → Type 0) : Type 0 where
   pub moment : ℕ
   pub sent : Telling
-  pub went : Went old sent (Read moment ∷ Exchanged (question_call c asking (question_at moment)) ∷ [])
-  pub then : P (question_at moment) sent
+  pub went : Went old sent (Read moment ∷ Exchanged (question_call c asking (number_at moment)) ∷ [])
+  pub then : P (question_at asking moment) sent

@@ -1,4 +1,4 @@
-//! A status client: one question to a daemon, and the receives until its answer.
+//! A status client: one question to a daemon, about what its node knows or about itself, and the receives until its answer.
 #![tactic(auto)]
 
 mod asking;
@@ -6,4 +6,4 @@ mod question;
 mod waiting;
 
 pub use asking::ask;
-pub use question::Asking;
+pub use question::{Asking, Subject};

@@ -5,7 +5,7 @@ ghost use Rattle.hags_io.specs.Fronts.{EndsByReceive};
 ghost use Rattle.link_use.specs.Stops.{StopsQuestion};
 ghost use Rattle.status_client.specs.Asked.{IsUnwritten, Hears, Answered, Unanswered, Failing};
 
-use crate::question::reply_to;
+use crate::question::{Question, reply_to};
 use hags_io::Outside;
 use link_use::{MOST_FAILED, Receiving, Stop};
 use rsct_packet::NoMemory;
@@ -14,7 +14,7 @@ use std::alloc::Global;
 /// A status client that waits: for the answer to which question, and what it receives.
 #[derive(Drop)]
 pub struct Waiting {
-    pub question: u32,
+    pub question: Question,
     pub receiving: Receiving,
 }
 
