@@ -2,7 +2,6 @@
 use Rattle.std.specs.Prelude.{ℕ, Bool, true, false, not, ◌≤◌, IfSome, List, [], ◌∷◌, codes, Option, Some, None, is_some, ◌||◌, if◌then◌else◌, unwrap_or}
 use Rattle.std.specs.Str.{bytes_eq}
 use Rattle.rsct_packet.specs.Text.{is_name_of}
-use Rattle.packet_bodies.specs.declared.body.What.{What}
 use Rattle.packet_bodies.specs.declared.body.What.TheVariants as what
 use Rattle.hags_words.specs.Options.{◌>>=◌, given_of}
 use Rattle.hags_words.specs.Flags.{Split, no_flags, flag_of}
@@ -12,6 +11,8 @@ use Rattle.hags_words.specs.Numbers.{number_of, number_if_any}
 use Rattle.hags_words.specs.declared.command.Command.{Command}
 use Rattle.hags_words.specs.declared.command.DaemonOptions.{DaemonOptions}
 use Rattle.hags_words.specs.declared.command.Command.TheVariants as command
+use Rattle.hags_words.specs.declared.command.Subject.{Subject}
+use Rattle.hags_words.specs.declared.command.Subject.TheVariants as subject
 use Rattle.hags_words.specs.declared.command.CommandName.{CommandName}
 use Rattle.hags_words.specs.declared.command.CommandName.TheVariants as name
 
@@ -30,12 +31,14 @@ name_of word = if bytes_eq word (codes "run") then Some name.Run
     else (if bytes_eq word (codes "client") then Some name.Client
     else (if bytes_eq word (codes "table") then Some name.Table else None)))))
 
--- what a status asks for
-unfoldable pub what_of : List ℕ → Option What
-what_of word = if bytes_eq word (codes "hats") then Some what.Hats
-    else (if bytes_eq word (codes "hagsns") then Some what.Hagsns
-    else (if bytes_eq word (codes "hagsgr") then Some what.Hagsgr
-    else (if bytes_eq word (codes "hagsvote") then Some what.Hagsvote else None)))
+-- what a status asks about
+unfoldable pub subject_of : List ℕ → Option Subject
+subject_of word = if bytes_eq word (codes "hats") then Some (subject.Node what.Hats)
+    else (if bytes_eq word (codes "hagsns") then Some (subject.Node what.Hagsns)
+    else (if bytes_eq word (codes "hagsgr") then Some (subject.Node what.Hagsgr)
+    else (if bytes_eq word (codes "hagsvote") then Some (subject.Node what.Hagsvote)
+    else (if bytes_eq word (codes "hagscl") then Some subject.Clients
+    else (if bytes_eq word (codes "hagsd") then Some subject.Daemon else None)))))
 
 -- an option of a daemon alone is given
 abbrev pub has_own : Texts → Bool
@@ -85,11 +88,11 @@ unfoldable pub status_of : Texts → Option Command
 status_of t = if has_own t || (is_some t.of_kinds || (is_some t.of_inc || is_some t.of_key)) then None
     else (do
       word ← t.of_operand
-      what ← what_of word
+      about ← subject_of word
       text ← t.of_node
       node ← number_of 1 32 text
       turns ← number_if_any 1 last_u32 t.of_turns
-      Some (command.Status what node (unwrap_or turns 1000)))
+      Some (command.Status about node (unwrap_or turns 1000)))
 
 -- `client --node N [--turns T] [--key K]`
 unfoldable pub client_of : Texts → Option Command
@@ -161,6 +164,6 @@ AreWithin o = IfSome o.silence (λ n. 10 ≤ n) × IfSome o.mend (λ n. 10 ≤ n
 abbrev pub IsWithin : Command → Type 0
 IsWithin (command.Load views) = (1 ≤ views) × (views ≤ 2000)
 IsWithin (command.Daemon node incarnation turns options) = (1 ≤ node) × (node ≤ 32) × IfSome incarnation (λ i. 1 ≤ i) × (1 ≤ turns) × AreWithin options
-IsWithin (command.Status what node turns) = (1 ≤ node) × (node ≤ 32) × (1 ≤ turns)
+IsWithin (command.Status about node turns) = (1 ≤ node) × (node ≤ 32) × (1 ≤ turns)
 IsWithin (command.Client node turns key) = (1 ≤ node) × (node ≤ 32) × (1 ≤ turns) × IfSome key (λ k. 1 ≤ k)
 IsWithin _ = Unit {0}

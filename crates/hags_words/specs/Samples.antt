@@ -16,6 +16,10 @@ daemon_with words = command_of (codes "daemon" ∷ codes "--node=3" ∷ words)
 abbrev pub table_with : List (List ℕ) → Option Command
 table_with words = command_of (codes "table" ∷ words)
 
+-- a status of the daemon of node 3, with these words more
+abbrev pub status_with : List (List ℕ) → Option Command
+status_with words = command_of (codes "status" ∷ codes "--node=3" ∷ words)
+
 -- a daemon that serves clients on other machines or not, and has no other option; and one that has all
 abbrev pub asked_of : Bool → DaemonOptions
 asked_of remote = record { remote = remote; entries = false; silence = None; mend = None; gap = None }

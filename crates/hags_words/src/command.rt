@@ -1,7 +1,7 @@
 //! The command that the words of a command line spell.
 ghost use Rattle.std.specs.Prelude.{◌≡◌, ◌≤◌, IfOk, IfSome, map, string_bytes};
 ghost use Rattle.hags_words.specs.Texts.{seen, text_of};
-ghost use Rattle.hags_words.specs.Commands.{name_of, what_of, run_of, load_of, turns_for, has_own, asked_with, AreWithin, daemon_of, status_of, client_of, table_of, command_with, daemon_after, help_or_version, command_after, command_of, IsWithin};
+ghost use Rattle.hags_words.specs.Commands.{name_of, subject_of, run_of, load_of, turns_for, has_own, asked_with, AreWithin, daemon_of, status_of, client_of, table_of, command_with, daemon_after, help_or_version, command_after, command_of, IsWithin};
 
 use crate::flags::{Flags, take_flags};
 use crate::numbers::{node_number, number, number_if_any};
@@ -28,6 +28,14 @@ pub enum CommandName {
     Status,
     Client,
     Table,
+}
+
+/// What `status` asks about: a part of what the node knows; or, of its daemon, the clients that it has or its counts.
+#[derive(Clone, Copy, Debug, PartialEq, Eq)]
+pub enum Subject {
+    Node(What),
+    Clients,
+    Daemon,
 }
 
 /// What a daemon is asked for: whether clients on other machines are served, and are told the lines of entries; after how
@@ -67,7 +75,7 @@ pub enum Command {
     /// `status WHAT --node N [--turns T]`: ask node N, from 1 to 32, and receive T times at most, from 1 on; 1,000 times
     /// where T is not told.
     Status {
-        what: What,
+        subject: Subject,
         node: u8,
         turns: u32,
     },
@@ -112,19 +120,23 @@ fn name_of(word: &[u8]) -> Option<CommandName>
     }
 }
 
-/// What a status of this word asks for.
-#[tactic(auto, unfolding(crate::specs::Commands::what_of))]
-fn what_of(word: &[u8]) -> Option<What>
-    ensures { result ≡ what_of word.now }
+/// What a status of this word asks about.
+#[tactic(auto, unfolding(crate::specs::Commands::subject_of))]
+fn subject_of(word: &[u8]) -> Option<Subject>
+    ensures { result ≡ subject_of word.now }
 {
     if word == b"hats".as_slice() {
-        Some(What::Hats)
+        Some(Subject::Node(What::Hats))
     } else if word == b"hagsns".as_slice() {
-        Some(What::Hagsns)
+        Some(Subject::Node(What::Hagsns))
     } else if word == b"hagsgr".as_slice() {
-        Some(What::Hagsgr)
+        Some(Subject::Node(What::Hagsgr))
     } else if word == b"hagsvote".as_slice() {
-        Some(What::Hagsvote)
+        Some(Subject::Node(What::Hagsvote))
+    } else if word == b"hagscl".as_slice() {
+        Some(Subject::Clients)
+    } else if word == b"hagsd".as_slice() {
+        Some(Subject::Daemon)
     } else {
         None
     }
@@ -263,10 +275,14 @@ fn status_of(options: Options<'_>) -> Option<Command>
     if options.kinds.is_some() || options.inc.is_some() || options.key.is_some() {
         return None;
     }
-    let what = what_of(options.operand?.as_bytes())?;
+    let subject = subject_of(options.operand?.as_bytes())?;
     let node = node_number(options.node?)?;
     let turns = number_if_any(1, u32::MAX, options.turns)?.unwrap_or(STATUS_TURNS);
-    Some(Command::Status { what, node, turns })
+    Some(Command::Status {
+        subject,
+        node,
+        turns,
+    })
 }
 
 /// `client --node N [--turns T] [--key K]`

@@ -1,7 +1,9 @@
 //! Worked examples of command lines. Each function is a law: what the definitions compute.
 ghost use Rattle.std.specs.Prelude.{◌≡◌, ◌∷◌, [], codes, true, false, Some, None};
 ghost use Rattle.hags_words.specs.declared.command.Command.TheVariants as command;
-ghost use Rattle.hags_words.specs.Samples.{asked_of, asked_all, client_with, daemon_with, table_with};
+ghost use Rattle.hags_words.specs.declared.command.Subject.TheVariants as subject;
+ghost use Rattle.packet_bodies.specs.declared.body.What.TheVariants as what;
+ghost use Rattle.hags_words.specs.Samples.{asked_of, asked_all, client_with, daemon_with, status_with, table_with};
 
 /// A client has the key that is named, from 1 to the last number of 32 bits, or none; and only a client has one.
 #[tactic(auto, unfolding(crate::specs::Opens::words_open))]
@@ -61,4 +63,19 @@ pub fn reads_groups()
     ensures silence { table_with (codes "db" ∷ codes "--silence=50" ∷ []) ≡ None }
     ensures mend { table_with (codes "db" ∷ codes "--mend=30" ∷ []) ≡ None }
     ensures gap { table_with (codes "db" ∷ codes "--gap=600" ∷ []) ≡ None }
+{}
+
+/// A status is asked about what the node knows, or about the daemon's clients or the daemon itself, by six words.
+#[tactic(auto, unfolding(crate::specs::Opens::words_open))]
+pub fn reads_subjects()
+    ensures node { status_with (codes "hagsvote" ∷ [])
+        ≡ Some (command.Status (subject.Node what.Hagsvote) 3 1000) }
+    ensures clients { status_with (codes "hagscl" ∷ [])
+        ≡ Some (command.Status subject.Clients 3 1000) }
+    ensures daemon { status_with (codes "hagsd" ∷ codes "--turns=5" ∷ [])
+        ≡ Some (command.Status subject.Daemon 3 5) }
+    ensures longer { status_with (codes "hagsds" ∷ []) ≡ None }
+    ensures shorter { status_with (codes "hags" ∷ []) ≡ None }
+    ensures two { status_with (codes "hagsd" ∷ codes "hagscl" ∷ []) ≡ None }
+    ensures unnamed { status_with [] ≡ None }
 {}

@@ -188,6 +188,10 @@ N over UDP, and writes its answer. WHAT is one of these:
   hagsns      its view: the number, the coordinator, the members
   hagsgr      the groups that it holds: leader, members, value
   hagsvote    the votes that run
+  hagscl      the clients of the daemon: for how many ticks each was silent, how
+              many lines it has not read, whom it joined
+  hagsd       the daemon itself: its version, the digest of its settings, what
+              it did and received
 
   --node N     the node that is asked, from 1 to 32
   --turns T    how many datagrams are received at most, from 1 to 4,294,967,295;

@@ -37,9 +37,11 @@ fn text_of(alloc: Global, command: &Command) -> Result<String, AllocError> {
             };
             format!(in alloc; "daemon {node} {incarnation:?} {turns}{remote}{entries}{own}")
         }
-        Command::Status { what, node, turns } => format!(in alloc;
-            "status {what:?} {node} {turns}"
-        ),
+        Command::Status {
+            subject,
+            node,
+            turns,
+        } => format!(in alloc; "status {subject:?} {node} {turns}"),
         Command::Client { node, turns, key } => format!(in alloc; "client {node} {turns} {key:?}"),
         Command::Table { group } => {
             let group = str::from_utf8(group.bytes()).unwrap_or("no text");
@@ -128,13 +130,18 @@ fn commands_are_read_in_every_form(rt: HostRuntime) -> Result<(), Fail> {
             "daemon --mend 10 --node 1 --gap 100",
             "daemon 1 None 4294967295 None Some(10) Some(100)",
         ),
-        ("status hats --node 1", "status Hats 1 1000"),
-        ("status --node=2 hagsns", "status Hagsns 2 1000"),
-        ("status --turns 1 --node 3 -- hagsgr", "status Hagsgr 3 1"),
+        ("status hats --node 1", "status Node(Hats) 1 1000"),
+        ("status --node=2 hagsns", "status Node(Hagsns) 2 1000"),
+        (
+            "status --turns 1 --node 3 -- hagsgr",
+            "status Node(Hagsgr) 3 1",
+        ),
         (
             "status --node 32 hagsvote --turns=9",
-            "status Hagsvote 32 9",
+            "status Node(Hagsvote) 32 9",
         ),
+        ("status hagscl --node 1", "status Clients 1 1000"),
+        ("status --node=32 hagsd --turns 5", "status Daemon 32 5"),
         ("client --node 1", "client 1 1000 None"),
         ("client --turns=5 --node 32", "client 32 5 None"),
         ("client --node 1 --key 1", "client 1 1000 Some(1)"),
@@ -299,6 +306,8 @@ fn faulty_lines_are_usage(rt: HostRuntime) -> Result<(), Fail> {
         "status --node 1",
         "status hats",
         "status Hats --node 1",
+        "status hagsc --node 1",
+        "status hagsdd --node 1",
         "status hats hats --node 1",
         "status hats --node 1 --inc 1",
     ] {
