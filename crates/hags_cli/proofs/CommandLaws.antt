@@ -12,6 +12,8 @@ use Rattle.node_state.specs.declared.state.Core.{Core}
 use Rattle.world_model.specs.declared.script.Script.{Script}
 use Rattle.world_model.specs.Reading.{IsScript, IsNone}
 use Rattle.world_model.specs.Settings.{daemon_script}
+use Rattle.settings_digest.specs.Digest.{settings_digest}
+use Rattle.daemon_model.specs.declared.options.Options.{Options}
 use Rattle.daemon_model.specs.Settings.{OverLink, OverLinkIf}
 use Rattle.daemon_model.specs.Lives.{ServesAs, ServesTo, ServesToPause, ServesFront}
 use Rattle.status_client.specs.declared.question.Asking.{Asking}
@@ -22,7 +24,7 @@ use Rattle.link_use.specs.Stops.{StopsDaemon, StopsQuestion}
 use Rattle.hags_cli.specs.declared.daemon_command.Service.{Service}
 use Rattle.hags_cli.specs.declared.ending.Ending.{Ending}
 use Rattle.hags_cli.specs.declared.ending.Ending.TheVariants as ending
-use Rattle.hags_cli.specs.Tasks.{serves, asks, Seen, Untouched, counted, SettingsEnd, incarnation_at, ByClock, Incarnates, Running, Runs, ServesAll, ServesPart, ServesNoMore, ServesUpToPause, AsksBy, AsksOver, GivesNone, AsksNoMore, TellEnds, FailsAs, EndsAs}
+use Rattle.hags_cli.specs.Tasks.{serves, asks, Seen, Untouched, counted, SettingsEnd, options_of, incarnation_at, ByClock, Incarnates, Running, Runs, ServesAll, ServesPart, ServesNoMore, ServesUpToPause, AsksBy, AsksOver, GivesNone, AsksNoMore, TellEnds, FailsAs, EndsAs}
 use Rattle.hags_cli.proofs.EndLaws.{ended_by}
 use Rattle.hags_cli.proofs.OutputLaws.{rose_within}
 use Rattle.hags_cli.proofs.TaskLaws.{keeps_same, memory_ends}
@@ -121,28 +123,28 @@ linked_from : (named : Option ℕ) (before start : Telling) (incarnation n : ℕ
 linked_from (Some k) before start incarnation n h rose = subst (λ (t : Telling). Rose t.link_faults n) h.1 rose
 linked_from None before start incarnation n h rose = links_on before start n (Read h.moment ∷ []) h.read rose
 
-module _ (s : Service) (objects n : ℕ) (x : Seen) (script : Script) (incarnation : ℕ) (start : Telling) (count : n ≡ counted objects) (incarnates : Incarnates s.incarnation x.before start incarnation) (spelled : IfSome x.left (λ b. daemon_script s.node (Some n) b ≡ IsScript script)) where
-  runs : (P : Running → Type 0) → P (record { script = script; incarnation = incarnation; start = start }) → Runs x s objects P
+module _ (s : Service) (objects n : ℕ) (x : Seen) (script : Script) (digest : ℕ) (options : Options) (incarnation : ℕ) (start : Telling) (count : n ≡ counted objects) (incarnates : Incarnates s.incarnation x.before start incarnation) (spelled : IfSome x.left (λ b. daemon_script s.node (Some n) b ≡ IsScript script)) (digests : IfSome x.left (λ b. digest ≡ settings_digest b)) (are : options ≡ options_of s.options digest) where
+  runs : (P : Running → Type 0) → P (record { script = script; options = options; incarnation = incarnation; start = start }) → Runs x s objects P
   runs P h = record {
-    running = record { script = script; incarnation = incarnation; start = start };
-    is = record { spelled = subst (λ (k : ℕ). IfSome x.left (λ b. daemon_script s.node (Some k) b ≡ IsScript script)) count spelled; incarnates = incarnates };
+    running = record { script = script; options = options; incarnation = incarnation; start = start };
+    is = record { spelled = subst (λ (k : ℕ). IfSome x.left (λ b. daemon_script s.node (Some k) b ≡ IsScript script)) count spelled; digest = digest; digests = digests; options = are; incarnates = incarnates };
     holds = h;
   }
 
-  pub serves_done : {N : Type 0} (node : Option N) (core : N → Core) → IsAtEnd x.rest → IsSomeAnd node (λ n. OverLink script.config (script.config.port + s.node) start (λ opened. ServesAs script s.node incarnation s.options s.turns (core n) opened x.now)) → EndsAs (Ok tt) (Some (serves s objects)) x
+  pub serves_done : {N : Type 0} (node : Option N) (core : N → Core) → IsAtEnd x.rest → IsSomeAnd node (λ n. OverLink script.config (script.config.port + s.node) start (λ opened. ServesAs script s.node incarnation options s.turns (core n) opened x.now)) → EndsAs (Ok tt) (Some (serves s objects)) x
   serves_done None core end h = absurd h
   serves_done (Some n) core end h = (runs (ServesAll x s) (record { opened = h.opened; did = h.did; holds = record { core = core n; serves = h.holds } }), end)
 
   -- whatever stopped it
-  pub serves_stop : (r : Result (Unit {0}) Ending) (f : Stop) → IsErr r × IsErrAnd r (λ e. e ≡ ending.Stop f) → StopsDaemon f → (f ≡ stop.NoMemory → OverLink script.config (script.config.port + s.node) start (λ opened. ServesFront script s.node incarnation s.options s.turns opened x.now))
-      → (f ≡ stop.WriteFault → OverLink script.config (script.config.port + s.node) start (λ opened. ServesFront script s.node incarnation s.options s.turns opened x.now))
-      → (f ≡ stop.Paused → OverLink script.config (script.config.port + s.node) start (λ opened. ServesToPause script s.node incarnation s.options s.turns opened x.now)) → (f ≡ stop.LinkFault → OverLinkIf script.config (script.config.port + s.node) start x.now (λ opened. ServesTo script s.node incarnation s.options s.turns opened x.now)) → (f ≡ stop.WriteFault → Rose start.write_faults x.now.write_faults)
+  pub serves_stop : (r : Result (Unit {0}) Ending) (f : Stop) → IsErr r × IsErrAnd r (λ e. e ≡ ending.Stop f) → StopsDaemon f → (f ≡ stop.NoMemory → OverLink script.config (script.config.port + s.node) start (λ opened. ServesFront script s.node incarnation options s.turns opened x.now))
+      → (f ≡ stop.WriteFault → OverLink script.config (script.config.port + s.node) start (λ opened. ServesFront script s.node incarnation options s.turns opened x.now))
+      → (f ≡ stop.Paused → OverLink script.config (script.config.port + s.node) start (λ opened. ServesToPause script s.node incarnation options s.turns opened x.now)) → (f ≡ stop.LinkFault → OverLinkIf script.config (script.config.port + s.node) start x.now (λ opened. ServesTo script s.node incarnation options s.turns opened x.now)) → (f ≡ stop.WriteFault → Rose start.write_faults x.now.write_faults)
       → (f ≡ stop.LinkFault → Rose start.link_faults x.now.link_faults) → EndsAs r (Some (serves s objects)) x
   serves_stop r f is stops memory written paused link wrote failed = ended_by r (ending.Stop f) (λ q. EndsAs q (Some (serves s objects)) x) is (by f stops memory written paused link wrote failed)
     where
-      by : (f : Stop) → StopsDaemon f → (f ≡ stop.NoMemory → OverLink script.config (script.config.port + s.node) start (λ opened. ServesFront script s.node incarnation s.options s.turns opened x.now))
-          → (f ≡ stop.WriteFault → OverLink script.config (script.config.port + s.node) start (λ opened. ServesFront script s.node incarnation s.options s.turns opened x.now))
-          → (f ≡ stop.Paused → OverLink script.config (script.config.port + s.node) start (λ opened. ServesToPause script s.node incarnation s.options s.turns opened x.now)) → (f ≡ stop.LinkFault → OverLinkIf script.config (script.config.port + s.node) start x.now (λ opened. ServesTo script s.node incarnation s.options s.turns opened x.now)) → (f ≡ stop.WriteFault → Rose start.write_faults x.now.write_faults)
+      by : (f : Stop) → StopsDaemon f → (f ≡ stop.NoMemory → OverLink script.config (script.config.port + s.node) start (λ opened. ServesFront script s.node incarnation options s.turns opened x.now))
+          → (f ≡ stop.WriteFault → OverLink script.config (script.config.port + s.node) start (λ opened. ServesFront script s.node incarnation options s.turns opened x.now))
+          → (f ≡ stop.Paused → OverLink script.config (script.config.port + s.node) start (λ opened. ServesToPause script s.node incarnation options s.turns opened x.now)) → (f ≡ stop.LinkFault → OverLinkIf script.config (script.config.port + s.node) start x.now (λ opened. ServesTo script s.node incarnation options s.turns opened x.now)) → (f ≡ stop.WriteFault → Rose start.write_faults x.now.write_faults)
           → (f ≡ stop.LinkFault → Rose start.link_faults x.now.link_faults) → FailsAs (ending.Stop f) (Some (serves s objects)) x
       by stop.NoMemory stops memory written paused link wrote failed = inr (runs (ServesPart x s) (memory refl))
       by stop.WriteFault stops memory written paused link wrote failed = (written_from s.incarnation x.before start incarnation x.now.write_faults incarnates (wrote refl), runs (ServesPart x s) (written refl))

@@ -1,10 +1,11 @@
 -- Settings that are read, and that are not.
-use Rattle.std.proofs.Common.{◌≡◌, ℕ, ◌≤◌, ◌+◌, List, length, Option, Some, None, IfSome, sym, ◌∙◌, subst}
+use Rattle.std.proofs.Common.{◌≡◌, ℕ, ◌≤◌, ◌+◌, List, length, Option, Some, None, IfSome, sym, ◌∙◌, ap, subst}
 use Rattle.std.specs.Io.KnownBytes.{IsAtEnd}
 use Rattle.world_model.specs.declared.script.LineWhy.{LineWhy}
 use Rattle.world_model.specs.declared.script.Script.{Script}
 use Rattle.world_model.specs.Reading.{IsScript, IsNone, input_limit}
 use Rattle.world_model.specs.Settings.{aim_of, daemon_script, KeepsFor}
+use Rattle.settings_digest.specs.Digest.{settings_digest}
 use Rattle.script_reader.specs.Reading.{FailsScript}
 use Rattle.script_reader.specs.declared.faults.ScriptFault.{ScriptFault}
 use Rattle.script_reader.specs.declared.faults.ScriptFault.TheVariants as script_fault
@@ -25,6 +26,16 @@ settings_end : (left : Option (List ℕ)) (front : List ℕ) (node : ℕ) (objec
 unfolding daemon_script
 settings_end None front node objects n why h e = tt
 settings_end (Some b) front node objects n why h e = reads_for front b h (aim_of node objects) ∙ e
+
+-- and the digest is that of all
+pub digest_is : (left : Option (List ℕ)) (front digest : List ℕ) (node : ℕ) (objects : Option ℕ) (s : Script) → (length front ≤ input_limit → IfSome left (λ b. b ≡ front)) → daemon_script node objects front ≡ IsScript s → digest ≡ settings_digest front
+    → IfSome left (λ b. digest ≡ settings_digest b)
+unfolding daemon_script
+digest_is left front digest node objects s whole e is = by left (whole (read_within (aim_of node objects) front s e))
+  where
+    by : (left : Option (List ℕ)) → IfSome left (λ b. b ≡ front) → IfSome left (λ b. digest ≡ settings_digest b)
+    by None h = tt
+    by (Some b) h = is ∙ ap settings_digest (sym h)
 
 -- ---- how the command ends where they are not read
 

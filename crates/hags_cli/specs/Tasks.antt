@@ -19,21 +19,30 @@ use Rattle.transcript.specs.Kinds.{kinds_text, kinds_of}
 use Rattle.load_script.specs.Script.{load_script}
 use Rattle.net_script.specs.PlaySafe.{ScriptIsSafe, KeptRunIsSafe}
 use Rattle.daemon_model.specs.declared.options.Options.{Options}
+use Rattle.daemon_model.specs.declared.options.About.{About}
+use Rattle.daemon_model.specs.declared.options.Version.{Version}
 use Rattle.daemon_model.specs.declared.options.RemoteService.{RemoteService}
 use Rattle.daemon_model.specs.declared.options.RemoteService.TheVariants as service
 use Rattle.daemon_model.specs.Settings.{OverLink, OverLinkIf}
 use Rattle.link_use.specs.Receiving.{nothing_received}
 use Rattle.daemon_model.specs.Lives.{ServesAs, ServesTo, ServesToPause, ServesFront}
+use Rattle.self_questions.specs.declared.messages.SelfWhat.TheVariants.{Hagscl, Hagsd}
+use Rattle.status_client.specs.declared.question.Subject.{Subject}
+use Rattle.status_client.specs.declared.question.Subject.TheVariants as subject
 use Rattle.status_client.specs.declared.question.Asking.{Asking}
+use Rattle.status_client.specs.declared.question.Question.{Question}
 use Rattle.status_client.specs.Asked.{Asked, Answered, Unanswered, Failing}
 use Rattle.client_run.specs.declared.client.Client.{Client}
 use Rattle.client_run.specs.declared.serving.Usage.{Usage}
 use Rattle.client_run.specs.Running as used
 use Rattle.client_run.specs.Using.{Keyed}
 use Rattle.script_reader.specs.ClientScript.{client_script}
+use Rattle.settings_digest.specs.Digest.{settings_digest}
 use Rattle.hags_words.specs.declared.command.Command.{Command}
 use Rattle.hags_words.specs.declared.command.Command.TheVariants as command
 use Rattle.hags_words.specs.declared.command.DaemonOptions.{DaemonOptions}
+use Rattle.hags_words.specs.declared.command.Subject as words
+use Rattle.hags_words.specs.declared.command.Subject.TheVariants as about
 use Rattle.hags_words.specs.declared.help.TheConstants.{VERSION}
 use Rattle.hags_words.specs.Commands.{command_of}
 use Rattle.hags_words.specs.Help.{help_of}
@@ -83,8 +92,22 @@ abbrev pub remote_service : Bool → Bool → RemoteService
 remote_service false entries = service.Off
 remote_service true entries = service.On entries
 
-abbrev pub options_of : DaemonOptions → Options
-options_of o = record { remote = remote_service o.remote o.entries; silence = o.silence; mend = o.mend; gap = o.gap }
+-- the version that `--version` says
+abbrev pub program_version : Version
+program_version = record { major = 0; minor = 1; patch = 0 }
+
+-- and what it tells of itself: the version, and the digest of its settings
+abbrev pub about_of : ℕ → About
+about_of digest = record { version = program_version; settings = digest }
+
+abbrev pub options_of : DaemonOptions → ℕ → Options
+options_of o digest = record { service = record { remote = remote_service o.remote o.entries; about = about_of digest }; silence = o.silence; mend = o.mend; gap = o.gap }
+
+-- what a status asks about: what the node knows, or its daemon of itself
+abbrev pub subject_of : words.Subject → Subject
+subject_of (about.Node what) = subject.Node what
+subject_of about.Clients = subject.Daemon Hagscl
+subject_of about.Daemon = subject.Daemon Hagsd
 
 -- of who has so many objects
 abbrev pub task_for : ℕ → Command → Option Task
@@ -92,8 +115,8 @@ task_for objects (command.Run kinds) = played_as kinds
 task_for objects (command.Load steps) = Some (loads steps)
 task_for objects (command.Help about) = Some (tells (help_of about))
 task_for objects command.Version = Some (tells VERSION.now)
-task_for objects (command.Daemon node incarnation turns options) = Some (serves (record { node = node; incarnation = incarnation; turns = turns; options = options_of options }) objects)
-task_for objects (command.Status what node turns) = Some (asks (record { what = what; node = node; turns = turns }))
+task_for objects (command.Daemon node incarnation turns options) = Some (serves (record { node = node; incarnation = incarnation; turns = turns; options = options }) objects)
+task_for objects (command.Status about node turns) = Some (asks (record { subject = subject_of about; node = node; turns = turns }))
 task_for objects (command.Client node turns key) = Some (uses (record { node = node; turns = turns; key = key }))
 task_for objects (command.Table group) = Some (tables group)
 
@@ -212,15 +235,20 @@ abbrev pub Incarnates : Option ℕ → Telling → Telling → ℕ → Type 0
 Incarnates (Some named) before start incarnation = (incarnation ≡ named) × (start ≡ before)
 Incarnates None before start incarnation = ByClock before start incarnation
 
--- which daemon runs: with these settings, in this incarnation, from what was told by then
+-- which daemon runs: with these settings and options, in this incarnation, from what was told by then
 pub record Running : Type 0 where
   pub script : Script
+  pub options : Options
   pub incarnation : ℕ
   pub start : Telling
 
--- the settings are those of the input, and the incarnation that of the words or the clock
+-- the settings are those of the input, the options those of the words with the digest of the settings, and the incarnation
+-- that of the words or the clock
 pub record IsRunning (x : Seen) (s : Service) (objects : ℕ) (r : Running) : Type 0 where
   pub spelled : IfSome x.left (λ b. daemon_script s.node (Some (counted objects)) b ≡ IsScript r.script)
+  pub digest : ℕ
+  pub digests : IfSome x.left (λ b. digest ≡ settings_digest b)
+  pub options : r.options ≡ options_of s.options digest
   pub incarnates : Incarnates s.incarnation x.before r.start r.incarnation
 
 -- it runs, and of it this holds
@@ -239,19 +267,19 @@ pub record IsServed (script : Script) (me incarnation : ℕ) (options : Options)
 
 -- it did all its turns
 abbrev pub ServesAll : Seen → Service → Running → Type 0
-ServesAll x s r = OverLink r.script.config (port_of s r) r.start (λ opened. IsServed r.script s.node r.incarnation s.options s.turns opened x.now)
+ServesAll x s r = OverLink r.script.config (port_of s r) r.start (λ opened. IsServed r.script s.node r.incarnation r.options s.turns opened x.now)
 
 -- it broke off
 abbrev pub ServesPart : Seen → Service → Running → Type 0
-ServesPart x s r = OverLink r.script.config (port_of s r) r.start (λ opened. ServesFront r.script s.node r.incarnation s.options s.turns opened x.now)
+ServesPart x s r = OverLink r.script.config (port_of s r) r.start (λ opened. ServesFront r.script s.node r.incarnation r.options s.turns opened x.now)
 
 -- the link could not be opened, and nothing more was done; or sixteen receives in a row failed
 abbrev pub ServesNoMore : Seen → Service → Running → Type 0
-ServesNoMore x s r = OverLinkIf r.script.config (port_of s r) r.start x.now (λ opened. ServesTo r.script s.node r.incarnation s.options s.turns opened x.now)
+ServesNoMore x s r = OverLinkIf r.script.config (port_of s r) r.start x.now (λ opened. ServesTo r.script s.node r.incarnation r.options s.turns opened x.now)
 
 -- a moment was a pause, and it did all up to there
 abbrev pub ServesUpToPause : Seen → Service → Running → Type 0
-ServesUpToPause x s r = OverLink r.script.config (port_of s r) r.start (λ opened. ServesToPause r.script s.node r.incarnation s.options s.turns opened x.now)
+ServesUpToPause x s r = OverLink r.script.config (port_of s r) r.start (λ opened. ServesToPause r.script s.node r.incarnation r.options s.turns opened x.now)
 
 -- ---- what a question leaves
 
@@ -262,7 +290,7 @@ pub record AsksBy (x : Seen) (a : Asking) (P : Config → Type 0) : Type 0 where
   pub holds : P script.config
 
 -- the link was opened, the question went out, and then this, up to what was told at last
-abbrev pub AsksOver : Seen → Asking → (ℕ → Telling → Type 0) → Config → Type 0
+abbrev pub AsksOver : Seen → Asking → (Question → Telling → Type 0) → Config → Type 0
 AsksOver x a P c = OverLink c 0 x.before (λ opened. Asked c a opened P)
 
 -- it was answered with a text, and of what was told by then this holds
@@ -272,10 +300,10 @@ pub record IsAnswered (x : Seen) (a : Asking) (P : List ℕ → Telling → Type
   pub asked : AsksBy x a (AsksOver x a (λ question sent. Answered question a.turns nothing_received text sent answered))
   pub holds : P text answered
 
-abbrev pub GivesNone : Seen → Asking → ℕ → Telling → Type 0
+abbrev pub GivesNone : Seen → Asking → Question → Telling → Type 0
 GivesNone x a question sent = Unanswered question a.turns nothing_received sent x.now
 
-abbrev pub GivesFaults : Seen → Asking → ℕ → Telling → Type 0
+abbrev pub GivesFaults : Seen → Asking → Question → Telling → Type 0
 GivesFaults x a question sent = Failing question a.turns nothing_received sent x.now
 
 -- the link could not be opened, and nothing more was done; or sixteen receives in a row failed

@@ -25,9 +25,11 @@ impl From<AllocError> for InputFault {
 
 /// Reads an input to its end, or past its limit. What stands behind the bytes that were read changes nothing: the
 /// line that passes the limit is in no script.
-#[tactic(auto, using(crate::proofs::InputLaws::all_taken, crate::proofs::InputLaws::more_taken))]
+#[tactic(auto, using(crate::proofs::InputLaws::all_taken, crate::proofs::InputLaws::whole_taken, crate::proofs::InputLaws::more_taken))]
 pub fn read_input<S: Source>(alloc: Global, input: &mut S) -> Result<Vec<u8>, InputFault>
     ensures front { IfOk result (λ front. IfSome (S.left input.old) (ReadsAs front.items)) }
+    ensures whole { IfOk result (λ front. length front.items ≤ INPUT_LIMIT
+        → IfSome (S.left input.old) (λ b. b ≡ front.items)) }
     ensures end { IfOk result (λ front. length front.items ≤ INPUT_LIMIT
         → IsAtEnd (S.left input.new)) }
     ensures later { S.faults input.old ≤ S.faults input.new }

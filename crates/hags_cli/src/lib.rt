@@ -16,6 +16,7 @@ mod table_command;
 mod tasks;
 mod tell_command;
 
+pub use daemon_command::versions_agree;
 pub use edges::Edges;
 pub use ending::Ending;
 pub use output::Output;

@@ -20,7 +20,8 @@ pub fn ask_node<S: Source, O: Outside>(
     ensures { EndsAs result (Some (asks asking))
         (seen S.left S.faults O.told edges.old edges.new) }
 {
-    let script = read_settings(alloc, asking.node, None, &mut edges.input)?;
-    let text = ask(alloc, &script.config, asking, &mut edges.output.outside)?;
+    let settings = read_settings(alloc, asking.node, None, &mut edges.input)?;
+    let config = &settings.script.config;
+    let text = ask(alloc, config, asking, &mut edges.output.outside)?;
     tell(text.as_slice(), &mut edges.output)
 }

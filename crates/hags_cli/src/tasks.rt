@@ -1,7 +1,7 @@
 //! What the words of a call ask for, and how it is done.
 ghost use Rattle.std.specs.Prelude.{◌≡◌, IfSome, IfNone, map, string_bytes, length};
 ghost use Rattle.hags_words.specs.Commands.{IsWithin};
-ghost use Rattle.hags_cli.specs.Tasks.{Shows, plays, played_as, list_in, task_asked, task_of, options_of, EndsAs, seen};
+ghost use Rattle.hags_cli.specs.Tasks.{Shows, plays, played_as, list_in, task_asked, task_of, subject_of, EndsAs, seen};
 
 use crate::client_command::use_node;
 use crate::daemon_command::{Service, serve_node};
@@ -14,11 +14,11 @@ use crate::table_command::run_tables;
 use crate::tell_command::tell;
 use client_callbacks::Callbacks;
 use client_run::Usage;
-use daemon_model::{Options, RemoteService};
 use hags_io::{Outside, Source};
-use hags_words::{Command, DaemonOptions, VERSION, help_text, read_command};
+use hags_words::{Command, VERSION, help_text, read_command};
 use rsct_packet::List;
-use status_client::Asking;
+use self_questions::SelfWhat;
+use status_client::{Asking, Subject};
 use std::alloc::Global;
 use transcript::Kinds;
 
@@ -35,22 +35,14 @@ fn kinds_in(list: &Option<List<u8>>) -> Option<Kinds>
     }
 }
 
-/// The options of a daemon, as it takes them.
-fn options_of(options: DaemonOptions) -> Options
-    ensures { result ≡ options_of options }
+/// What a status asks about, as its question takes it.
+fn subject_of(subject: hags_words::Subject) -> Subject
+    ensures { result ≡ subject_of subject }
 {
-    let remote = if options.remote {
-        RemoteService::On {
-            entries: options.entries,
-        }
-    } else {
-        RemoteService::Off
-    };
-    Options {
-        remote,
-        silence: options.silence,
-        mend: options.mend,
-        gap: options.gap,
+    match subject {
+        hags_words::Subject::Node(what) => Subject::Node(what),
+        hags_words::Subject::Clients => Subject::Daemon(SelfWhat::Hagscl),
+        hags_words::Subject::Daemon => Subject::Daemon(SelfWhat::Hagsd),
     }
 }
 
@@ -85,12 +77,22 @@ fn perform<S: Source, O: Outside>(
                 node,
                 incarnation,
                 turns,
-                options: options_of(options),
+                options,
             };
             serve_node(alloc, service, edges, clients)
         }
-        Some(Command::Status { what, node, turns }) => {
-            let asking = Asking { what, node, turns };
+        Some(
+            Command::Status {
+                subject,
+                node,
+                turns,
+            },
+        ) => {
+            let asking = Asking {
+                subject: subject_of(subject),
+                node,
+                turns,
+            };
             ask_node(alloc, asking, edges)
         }
         Some(Command::Client { node, turns, key }) => {

@@ -11,7 +11,8 @@ use Rattle.hags_cli.proofs.daemon_command.serve_with.Goals as goal
 pub returns-in_err-outcome : goal.returns-in_err-outcome
 returns-in_err-outcome g c =
     let count : c.count_of-count.result ≡ counted c.args.objects = search rules in
-    serves_stop c.args.service c.args.objects c.count_of-count.result _ c.in_ok-script.script c.incarnation_of.result (g.O.Outside.told c.incarnation_of.new.outside) count c.incarnation_of.ensures c.in_ok-script.ensures.read
+    serves_stop c.args.service c.args.objects c.count_of-count.result _ c.in_ok-settings.settings.script c.in_ok-settings.settings.digest c.options_of.result c.incarnation_of.result (g.O.Outside.told c.incarnation_of.new.outside) count c.incarnation_of.ensures c.in_ok-settings.ensures.read
+    c.in_ok-settings.ensures.digest c.options_of.ensures
     c.from_residual-in_err-outcome.result c.in_err-outcome.field-0.0 c.from_residual-in_err-outcome.ensures (IfErr-at_err StopsDaemon c.in_err-outcome.was c.serve-outcome.ensures.stops)
     (λ e. c.serve-outcome.ensures.memory (c.in_err-outcome.was ∙ ap Err e))
     (λ e. c.serve-outcome.ensures.written (c.in_err-outcome.was ∙ ap Err e))
@@ -23,5 +24,6 @@ returns-in_err-outcome g c =
 pub returns : goal.returns
 returns g c =
     let count : c.count_of-count.result ≡ counted c.args.objects = search rules in
-    serves_done c.args.service c.args.objects c.count_of-count.result _ c.in_ok-script.script c.incarnation_of.result (g.O.Outside.told c.incarnation_of.new.outside) count c.incarnation_of.ensures c.in_ok-script.ensures.read
-    c.serve-outcome.result.node (λ node. at_work node.core) c.in_ok-script.ensures.end (IfOk-at_ok _ c.in_ok-outcome.was c.serve-outcome.ensures.served)
+    serves_done c.args.service c.args.objects c.count_of-count.result _ c.in_ok-settings.settings.script c.in_ok-settings.settings.digest c.options_of.result c.incarnation_of.result (g.O.Outside.told c.incarnation_of.new.outside) count c.incarnation_of.ensures c.in_ok-settings.ensures.read
+    c.in_ok-settings.ensures.digest c.options_of.ensures
+    c.serve-outcome.result.node (λ node. at_work node.core) c.in_ok-settings.ensures.end (IfOk-at_ok _ c.in_ok-outcome.was c.serve-outcome.ensures.served)
