@@ -1,5 +1,5 @@
 //! Tests of daemons: worked rows of what one reads, sends and records over a link, a clock and a sink in memory, byte for
-//! byte; the clients that it is given; what it is asked for; how it ends; and its parts over the sockets of the system.
+//! byte; the clients that it is given; what it is asked for, and what it is asked about itself; how it ends; and its parts over the sockets of the system.
 #![tactic(auto)]
 
 #[cfg(test)]
@@ -8,6 +8,8 @@ mod clients;
 mod endings;
 #[cfg(test)]
 mod failing;
+#[cfg(test)]
+mod itself;
 #[cfg(test)]
 mod machines;
 #[cfg(test)]

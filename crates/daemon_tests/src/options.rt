@@ -3,7 +3,7 @@ ghost use Rattle.std.specs.Prelude.{◌≡◌};
 
 use crate::machines::{CLIENT_ASKED, CLIENT_ASKED_AGAIN, CLIENT_STILL_TAKEN, CLIENT_TAKEN};
 use crate::runs::{ALONE, ALONE_TEXT, Edges, Failing, served_as, serving, settings};
-use daemon_model::{Options, RemoteService};
+use daemon_model::{Options, RemoteService, Service};
 use daemon_run::Serving;
 use link_use::Stop;
 use std::alloc::Global;
@@ -75,7 +75,7 @@ fn a_pause_ends_a_daemon(rt: HostRuntime) -> Result<(), Fail> {
     ] {
         let options = Options {
             gap: Some(gap),
-            ..Options::plain(RemoteService::Off)
+            ..Options::plain(Service::plain(RemoteService::Off))
         };
         let mut edges = Edges::sound(alloc, &[], &[0, 100, 800])?;
         assert!(rt;
@@ -93,7 +93,7 @@ fn a_silent_key_ends_and_stays_so(rt: HostRuntime) -> Result<(), Fail> {
     let alloc = rt.alloc();
     let options = Options {
         silence: Some(2),
-        ..Options::plain(RemoteService::On { entries: false })
+        ..Options::plain(Service::plain(RemoteService::On { entries: false }))
     };
     let failing = Failing {
         recvs: &[2, 3],
@@ -112,7 +112,7 @@ fn a_silent_key_ends_and_stays_so(rt: HostRuntime) -> Result<(), Fail> {
 #[test]
 fn without_the_option_a_silent_key_stays(rt: HostRuntime) -> Result<(), Fail> {
     let alloc = rt.alloc();
-    let options = Options::plain(RemoteService::On { entries: false });
+    let options = Options::plain(Service::plain(RemoteService::On { entries: false }));
     let failing = Failing {
         recvs: &[2, 3],
         ..Failing::nothing()
@@ -131,7 +131,7 @@ fn entries_come_before_they_are_heard(rt: HostRuntime) -> Result<(), Fail> {
     let alloc = rt.alloc();
     let inbox = [CLIENT_ASKED, JOIN_ASKED, LOOKUP, NAME, REQUEST, NEWS_ASKED];
     for (entries, heard) in [(false, HEARD), (true, ENTRY_HEARD)] {
-        let options = Options::plain(RemoteService::On { entries });
+        let options = Options::plain(Service::plain(RemoteService::On { entries }));
         let mut edges = Edges::sound(alloc, &inbox, &[0])?;
         assert!(rt; end_as(alloc, 6, options, &mut edges) == Some(Ok(())));
         assert!(rt; edges.called(b"DSDSSDSDSDDS"));

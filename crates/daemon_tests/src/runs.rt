@@ -3,7 +3,7 @@ ghost use Rattle.std.specs.Prelude.{◌≡◌, ◌≤◌, ◌<◌, ◌+◌, map,
 ghost use Rattle.hags_io.specs.LinkMemory.{AreWithin, Ascend};
 
 use client_callbacks::{Callbacks, DaemonClient};
-use daemon_model::{Options, RemoteService};
+use daemon_model::{Options, RemoteService, Service};
 use daemon_run::{Hosts, Objects, Serving, serve};
 use hags_io::{History, LinkCall, LinkFails, MemClock, MemLink, MemSink, Outside, Parts};
 use link_use::Stop;
@@ -173,7 +173,7 @@ pub(crate) fn settings(alloc: Global, text: &[u8], objects: u32) -> Option<Scrip
 pub(crate) fn serving(turns: u32, remote: bool) -> Serving
     ensures { result.me ≡ 1 }
 {
-    let service = if remote {
+    let remote = if remote {
         RemoteService::On { entries: false }
     } else {
         RemoteService::Off
@@ -182,7 +182,7 @@ pub(crate) fn serving(turns: u32, remote: bool) -> Serving
         me: 1,
         incarnation: 5,
         turns: u64::from(turns),
-        options: Options::plain(service),
+        options: Options::plain(Service::plain(remote)),
     }
 }
 

@@ -1,5 +1,7 @@
 //! The commands `daemon` and `status` over links, clocks, sources and sinks in memory.
-use crate::edges::{clock_at, clock_of, fails, silent_link, sink, sink_of, source, words_of};
+use crate::edges::{
+    MemEdges, clock_at, clock_of, fails, silent_link, sink, sink_of, source, words_of,
+};
 use hags_cli::{Edges, Output, hags};
 use hags_io::{History, MemClock, MemLink, MemSink, Parts};
 use std::alloc::{AllocError, Global};
@@ -22,14 +24,14 @@ fn answering_link(alloc: Global, recvs: &[u32]) -> Result<MemLink, AllocError> {
     Ok(MemLink::new(alloc, inbox, fails))
 }
 
-/// What a call with these words and these settings wrote on out and said on err, with its status, by this clock.
-fn called_by(
+/// What a call with these words and these settings leaves, by this clock: its status, its edges, and what it said on err.
+pub fn left_by(
     alloc: Global,
     line: &str,
     settings: &[u8],
     clock: MemClock,
     link: MemLink,
-) -> Result<(u8, MemSink, MemSink), AllocError> {
+) -> Result<(u8, MemEdges, MemSink), AllocError> {
     let words = words_of(alloc, line)?;
     let mut edges = Edges {
         input: source(alloc, settings, &[])?,
@@ -50,6 +52,18 @@ fn called_by(
         &mut err,
         Vec::new(alloc),
     );
+    Ok((status, edges, err))
+}
+
+/// What such a call wrote on out and said on err, with its status.
+fn called_by(
+    alloc: Global,
+    line: &str,
+    settings: &[u8],
+    clock: MemClock,
+    link: MemLink,
+) -> Result<(u8, MemSink, MemSink), AllocError> {
+    let (status, edges, err) = left_by(alloc, line, settings, clock, link)?;
     Ok((status, sink_of(edges), err))
 }
 

@@ -19,6 +19,8 @@ mod nodes;
 #[cfg(test)]
 mod objects;
 #[cfg(test)]
+mod questions;
+#[cfg(test)]
 mod runs;
 #[cfg(test)]
 mod users;

@@ -49,7 +49,7 @@ fn put_first(
 }
 
 /// A link to which these datagrams come. The opens of these numbers fail.
-fn link_of(alloc: Global, pieces: &[&[u8]], opens: &[u32]) -> Result<MemLink, AllocError> {
+pub fn link_of(alloc: Global, pieces: &[&[u8]], opens: &[u32]) -> Result<MemLink, AllocError> {
     let mut inbox = VecDeque::new(alloc);
     for piece in pieces.iter().rev() {
         put_first(alloc, &mut inbox, piece)?;
