@@ -12,7 +12,7 @@ _hags() {
                 case $command in
                     run) words='--kinds' ;;
                     daemon) words='--node --inc --turns --lasting --remote --entries --silence --mend --gap' ;;
-                    status) words='hats hagsns hagsgr hagsvote --node --turns' ;;
+                    status) words='hats hagsns hagsgr hagsvote hagscl hagsd --node --turns' ;;
                     client) words='--node --turns --key' ;;
                 esac
                 [ "$COMP_CWORD" != 2 ] || words="$words --help --version"

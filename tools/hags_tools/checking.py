@@ -10,7 +10,7 @@ from hags_tools import asking, reading, sockets
 
 COMMANDS = ("run", "load", "daemon", "status", "client", "table")
 KINDS = ("up", "down", "ring", "in", "base", "put", "heard", "cast", "asked", "told", "noted", "refused", "show")
-STATUSES = ("hats", "hagsns", "hagsgr", "hagsvote")
+STATUSES = ("hats", "hagsns", "hagsgr", "hagsvote", "hagscl", "hagsd")
 RANGES = {
     "--node": (1, 32), "--inc": (1, 4_294_967_295), "--turns": (1, 4_294_967_295), "--key": (1, 4_294_967_295),
     "--silence": (10, 1_000_000), "--mend": (10, 10_000), "--gap": (100, 3_600_000),
@@ -129,7 +129,7 @@ class Words:
             self.operand = operands[0] if operands else None
             if self.operand not in STATUSES:
                 said = f"`{self.operand}` is nothing to ask for" if operands else "It is not said what to ask for"
-                return f"{said}. Write one of hats (rings), hagsns (the view), hagsgr (groups), hagsvote (votes) behind `status`."
+                return f"{said}. Write one of hats (rings), hagsns (the view), hagsgr (groups), hagsvote (votes), hagscl (clients), hagsd (the daemon) behind `status`."
         if self.command == "load" and not (operands and reading.NUMBER.fullmatch(operands[0]) and 1 <= int(operands[0]) <= 2000):
             return "Behind `load` comes a number from 1 to 2,000."
         if self.command == "table" and not (operands and GROUP.fullmatch(operands[0])):
