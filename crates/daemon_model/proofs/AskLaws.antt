@@ -1,5 +1,5 @@
 -- Questions that a daemon is asked about itself.
-use Rattle.std.proofs.Common.{◌≡◌, ℕ, List, Option, Some, None, refl, ◌∙◌, ap}
+use Rattle.std.proofs.Common.{◌≡◌, ℕ, List, Some, None, refl, ◌∙◌, ap}
 use Rattle.hags_io.specs.declared.link.LinkCall.{LinkCall}
 use Rattle.node_state.specs.HandOn.{Answering}
 use Rattle.self_questions.specs.declared.messages.SelfQuestion.{SelfQuestion}

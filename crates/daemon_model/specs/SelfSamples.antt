@@ -1,5 +1,5 @@
 -- Small lives of a daemon that is asked about itself, for worked examples: node 1 in incarnation 5, alone.
-use Rattle.std.specs.Prelude.{ℕ, List, [], ◌∷◌, ◌++◌, codes, slice_index_or}
+use Rattle.std.specs.Prelude.{ℕ, List, [], ◌∷◌, codes, slice_index_or}
 use Rattle.hags_io.specs.declared.link.LinkCall.TheVariants as call
 use Rattle.piece_link.specs.Pieces.{message_by, pieces_of}
 use Rattle.node_state.specs.declared.call.CallLine.TheVariants as line
@@ -7,8 +7,8 @@ use Rattle.remote_session.specs.Messages.{up_text}
 use Rattle.self_questions.specs.declared.messages.SelfWhat.{SelfWhat}
 use Rattle.self_questions.specs.declared.messages.SelfWhat.TheVariants.{Hagscl, Hagsd}
 use Rattle.self_questions.specs.Messages.{question_text, reply_text}
-use Rattle.daemon_model.specs.Daemon.{Daemon, Turn, Life, plain_service, serves_nobody, lived}
-use Rattle.daemon_model.specs.Samples.{settings_for, silent, turn_at, daemon_after, server_after, quiet_at, failed_at, given_at}
+use Rattle.daemon_model.specs.Daemon.{Daemon, Turn, Life, serves_nobody, lived}
+use Rattle.daemon_model.specs.Samples.{settings_for, silent, turn_at, quiet_at, failed_at, given_at}
 
 -- question 9 about this, and the reply to it with this text, as the message of this number of the daemon
 unfoldable pub asks_itself : SelfWhat → List ℕ

@@ -4,7 +4,7 @@ ghost use Rattle.hags_io.specs.declared.link.LinkCall.TheVariants as call;
 ghost use Rattle.self_questions.specs.declared.messages.SelfWhat.TheVariants.{Hagscl, Hagsd};
 ghost use Rattle.daemon_model.specs.SelfLines.{client_text, daemon_text};
 ghost use Rattle.daemon_model.specs.Daemon.{records_text, self_text};
-ghost use Rattle.daemon_model.specs.Samples.{daemon_after, server_after, calls_of, given_at, failed_at};
+ghost use Rattle.daemon_model.specs.Samples.{daemon_after, server_after, calls_of, given_at};
 ghost use Rattle.daemon_model.specs.SelfSamples.{asks_itself, tells_itself, asked_unserved, unserved_text, two_served, two_clients, hosted};
 
 /// A daemon without options answers, on the network on which it was asked, and its node does nothing.

@@ -1,5 +1,5 @@
 //! The lines of a daemon's clients.
-ghost use Rattle.std.specs.Prelude.{◌≡◌, ◌++◌, IfOk, OnOk, flat_map, filter, map};
+ghost use Rattle.std.specs.Prelude.{◌≡◌, ◌++◌, IfOk, OnOk};
 ghost use Rattle.value_words.specs.Wording.{word};
 ghost use Rattle.daemon_model.specs.SelfLines.{number_or_none, silent_of, unread_of, key_in, standing_in, is_member_of, members_in, client_text, client_line, clients_text};
 
@@ -130,7 +130,7 @@ fn put_client_line(
 
 /// A line `hagscl` for each client whose session is there, in the order of the sessions, each with its line feed.
 /// `sessions`: those of the clients on other machines, where they are served.
-#[tactic(auto, unfolding(daemon_model::specs::SelfLines::clients_text))]
+#[tactic(auto, using(value_words::proofs::TextLaws::item_on), unfolding(daemon_model::specs::SelfLines::clients_text))]
 pub fn put_clients(
     sessions: &Option<Sessions>,
     alloc: Global,

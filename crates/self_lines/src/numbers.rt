@@ -43,6 +43,7 @@ fn put_byte_digits(out: &mut Vec<u8>, byte: u8) -> Result<(), NoMemory>
     Ok(())
 }
 
+#[tactic(auto, using(value_words::proofs::TextLaws::item_on))]
 fn put_digits(out: &mut Vec<u8>, bytes: &[u8]) -> Result<(), NoMemory>
     ensures { OnOk result (out.new.items ≡ out.old.items ++ flat_map byte_digits bytes.now) }
 {
