@@ -28,7 +28,7 @@ settings_end None front node objects n why h e = tt
 settings_end (Some b) front node objects n why h e = reads_for front b h (aim_of node objects) ∙ e
 
 -- and the digest is that of all
-pub digest_is : (left : Option (List ℕ)) (front digest : List ℕ) (node : ℕ) (objects : Option ℕ) (s : Script) → (length front ≤ input_limit → IfSome left (λ b. b ≡ front)) → daemon_script node objects front ≡ IsScript s → digest ≡ settings_digest front
+pub digest_is : (left : Option (List ℕ)) (front : List ℕ) (digest node : ℕ) (objects : Option ℕ) (s : Script) → (length front ≤ input_limit → IfSome left (λ b. b ≡ front)) → daemon_script node objects front ≡ IsScript s → digest ≡ settings_digest front
     → IfSome left (λ b. digest ≡ settings_digest b)
 unfolding daemon_script
 digest_is left front digest node objects s whole e is = by left (whole (read_within (aim_of node objects) front s e))
