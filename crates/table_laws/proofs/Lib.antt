@@ -1,7 +1,6 @@
 pub mod GroupLists
 pub mod RunMaps
 pub mod Samples
-pub mod Passing
 pub mod Asking
 pub mod Carrying
 pub mod Voting

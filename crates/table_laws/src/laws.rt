@@ -2,7 +2,6 @@
 ghost use Rattle.table_laws.specs.Carrying.{ThePresentAsked, ChunksAreCarried};
 ghost use Rattle.table_laws.specs.Maps.{MapsAreOne, MapsStayWhileRunning, MapsAreEmptyWithoutMembers, MapsExist, ListsSayMaps};
 ghost use Rattle.table_laws.specs.Notices.{NoticesAreOfLists};
-ghost use Rattle.table_laws.specs.Passing.{PassersComeFromTheBase};
 ghost use Rattle.table_laws.specs.Voting.{BallotsSendChunks};
 
 /// In every run whose events may happen, whatever its clients answer, the map of a group in a view after so many entries of
@@ -56,10 +55,4 @@ pub fn chunks_are_carried()
 /// of the phase that runs behind it, of the map directly behind the protocol's Begin.
 pub fn ballots_send_chunks()
     ensures { BallotsSendChunks }
-{}
-
-/// A provider that passes with its group into a view comes from the view that the group's base comes from, with a list as
-/// long as the base says.
-pub fn passers_come_from_the_base()
-    ensures { PassersComeFromTheBase }
 {}

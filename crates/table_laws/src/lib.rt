@@ -7,5 +7,5 @@ mod laws;
 pub use laws::{
     ballots_send_chunks, chunks_are_carried, lists_say_maps, maps_are_empty_without_members,
     maps_are_one, maps_exist, maps_stay_while_running, notices_are_of_lists,
-    passers_come_from_the_base, the_present_asked,
+    the_present_asked,
 };

@@ -19,7 +19,7 @@ use Rattle.run_safety.specs.Bases.{side_state, is_live, Wins}
 use Rattle.run_safety.proofs.Order.{eq_true}
 use Rattle.run_safety.proofs.Tests.{any_has, has_any, same_self}
 use Rattle.run_safety.proofs.Lives.{noted_bases_win}
-use Rattle.table_laws.specs.Passing.{PassersComeFromTheBase}
+use Rattle.hearing_laws.specs.Passing.{PassersComeFromTheBase}
 
 -- a cut is one
 cut_one : (tr : List Record) (ms : List Member) (u v : ViewId) (k l : ℕ) → IsCut tr ms u v k → IsCut tr ms u v l → k ≡ l
