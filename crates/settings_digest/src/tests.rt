@@ -2,7 +2,7 @@
 use crate::settings_digest;
 
 #[test]
-fn the_digest_is_that_of_the_normal_form() {
+fn the_digest_is_that_of_the_normal_form(rt: HostRuntime) {
     let plain = settings_digest(b"mode rings\nnode 1\nnode 2\nhb 2 5\nbegin\n");
     assert_eq!(rt; plain, 0xe9b3_6bae_c7d4_856d);
     let noted = settings_digest(
