@@ -36,7 +36,6 @@ fn program_version() -> Version
 }
 
 /// A daemon tells the version that `--version` says.
-#[tactic(auto, unfolding(daemon_model::specs::SelfLines::version_text))]
 pub fn versions_agree()
     ensures { VERSION.now ≡ codes "hags " ++ version_text program_version ++ codes "\n" }
 {}
