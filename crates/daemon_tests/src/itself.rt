@@ -1,4 +1,6 @@
 //! What a daemon is asked about itself, and what it replies.
+ghost use Rattle.std.specs.Prelude.{◌≡◌};
+
 use crate::machines::CLIENT_ASKED;
 use crate::questions::RINGS_ASKED;
 use crate::runs::{ALONE, ALONE_TEXT, Edges, end_of, served_as, serving, settings};
