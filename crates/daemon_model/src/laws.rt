@@ -17,7 +17,8 @@ ghost use Rattle.daemon_model.specs.Laws.{LivesAreDoings, FrontsOfFronts, Writte
 #[tactic(auto, using(crate::proofs::AloneLaws::lived_alone, crate::proofs::AloneLaws::heard_alone))]
 pub fn alone_without_other_machines()
     ensures lived { (c : Config) (me incarnation : ℕ) (life : Life)
-        → life.service.remote ≡ remotes.Off → (lived c me incarnation life).sessions ≡ None }
+        → life.service.remote ≡ remotes.Off
+        → (lived c me incarnation life).sessions ≡ None }
     ensures heard { (d : Daemon) (got : LinkCall) (f : Answering) → d.sessions ≡ None
         → AsksNothing (joined_by got d.joining).message
         → heard got f d ≡ given (joined_by got d.joining).message f (received got d) }
@@ -29,7 +30,8 @@ pub fn alone_without_other_machines()
 #[tactic(auto, using(crate::proofs::AskLaws::answers, crate::proofs::AskLaws::core_stays, crate::proofs::AskLaws::records_stay, crate::proofs::AskLaws::sessions_stay, crate::proofs::AskLaws::nothing_unasked))]
 pub fn answers_about_itself()
     ensures answers { (d : Daemon) (got : LinkCall) (f : Answering) (m : List ℕ)
-        (q : SelfQuestion) → (joined_by got d.joining).message ≡ Some m → question_of m ≡ Some q
+        (q : SelfQuestion) → (joined_by got d.joining).message ≡ Some m
+        → question_of m ≡ Some q
         → heard got f d ≡ told_itself q (network_of got) (received got d) }
     ensures core { (q : SelfQuestion) (network : ℕ) (d : Daemon)
         → (told_itself q network d).core ≡ d.core }

@@ -47,7 +47,8 @@ pub fn client_text_is_no_packet()
 #[tactic(auto, using(crate::proofs::Marks::question_is_no_packet, crate::proofs::Marks::reply_is_no_packet, crate::proofs::Marks::question_is_no_up))]
 pub fn self_text_is_no_packet()
     ensures question { (q : SelfQuestion) → packet_of (question_text q) ≡ None }
-    ensures reply { (q : SelfQuestion) (text : List ℕ) → packet_of (reply_text q text) ≡ None }
+    ensures reply { (q : SelfQuestion) (text : List ℕ)
+        → packet_of (reply_text q text) ≡ None }
     ensures up { (q : SelfQuestion) → up_of (question_text q) ≡ None }
 {}
 

@@ -15,7 +15,8 @@ pub fn question_bytes()
 /// A byte more or fewer, a reply, and another thing that is asked are no question.
 #[tactic(auto, unfolding(crate::specs::Messages::self_messages_opens))]
 pub fn no_other_question()
-    ensures more { question_of (82 ∷ 73 ∷ 1 ∷ 2 ∷ 0 ∷ 0 ∷ 1 ∷ 0 ∷ 0 ∷ []) ≡ None }
+    ensures more { question_of (82 ∷ 73 ∷ 1 ∷ 2 ∷ 0 ∷ 0 ∷ 1 ∷ 0 ∷ 0 ∷ [])
+        ≡ None }
     ensures fewer { question_of (82 ∷ 73 ∷ 1 ∷ 2 ∷ 0 ∷ 0 ∷ 1 ∷ []) ≡ None }
     ensures reply { question_of (82 ∷ 73 ∷ 2 ∷ 2 ∷ 0 ∷ 0 ∷ 1 ∷ 0 ∷ []) ≡ None }
     ensures other { question_of (82 ∷ 73 ∷ 1 ∷ 3 ∷ 0 ∷ 0 ∷ 1 ∷ 0 ∷ []) ≡ None }
@@ -32,7 +33,8 @@ pub fn reply_bytes()
 #[tactic(auto, unfolding(crate::specs::Messages::self_messages_opens))]
 pub fn reply_to_another()
     ensures own { text_in (record { what = Hagsd; question = 7 })
-        (82 ∷ 73 ∷ 2 ∷ 2 ∷ 0 ∷ 0 ∷ 0 ∷ 7 ∷ 97 ∷ 10 ∷ []) ≡ Some (codes "a\n") }
+        (82 ∷ 73 ∷ 2 ∷ 2 ∷ 0 ∷ 0 ∷ 0 ∷ 7 ∷ 97 ∷ 10 ∷ [])
+        ≡ Some (codes "a\n") }
     ensures number { text_in (record { what = Hagsd; question = 8 })
         (82 ∷ 73 ∷ 2 ∷ 2 ∷ 0 ∷ 0 ∷ 0 ∷ 7 ∷ 97 ∷ 10 ∷ []) ≡ None }
     ensures what { text_in (record { what = Hagscl; question = 7 })

@@ -15,7 +15,8 @@ pub fn questions_have_one_spelling()
 /// A question that was written is read as itself, and a reply to it gives its text.
 #[tactic(auto, using(crate::proofs::MessageLaws::question_again, crate::proofs::MessageLaws::text_again))]
 pub fn read_as_written()
-    ensures question { (q : SelfQuestion) → IsQuestion q → question_of (question_text q) ≡ Some q }
+    ensures question { (q : SelfQuestion) → IsQuestion q
+        → question_of (question_text q) ≡ Some q }
     ensures reply { (q : SelfQuestion) (text : List ℕ) → IsQuestion q
         → text_in q (reply_text q text) ≡ Some text }
 {}
