@@ -1,0 +1,6 @@
+pub mod Adding
+pub mod Sessions
+pub mod Calls
+pub mod Handings
+pub mod Nodes
+pub mod Along
