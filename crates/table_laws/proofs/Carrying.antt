@@ -1,5 +1,5 @@
 -- Where each message that is cast is a chunk, an entry that closes a phase carries one, or nothing.
-use Rattle.std.proofs.Common.{◌≡◌, ⊎_elim, inl, inr, ℕ, ◌+◌, ◌<◌, ◌≤◌, Bool, true, false, List, [], ◌∷◌, ◌++◌, length, take, Option, Some, None, refl, sym, ap, subst, ◌∙◌, arith}
+use Rattle.std.proofs.Common.{◌≡◌, inl, inr, ℕ, ◌+◌, ◌<◌, ◌≤◌, Bool, true, false, List, [], ◌∷◌, ◌++◌, length, take, Option, Some, None, refl, sym, ap, subst, ◌∙◌, arith}
 use Rattle.std.specs.Prelude.{◌==◌, ◌&&◌, not, slice_get, if◌then◌else◌, nat_lt}
 use Rattle.std.specs.Str.{bytes_eq}
 use Rattle.std.proofs.lemmas.Bool.{and_parts, eqb-true, eq-eqb}
@@ -9,7 +9,7 @@ use Rattle.rsct_packet.specs.declared.ids.ProviderId.{ProviderId}
 use Rattle.rsct_packet.specs.Ids.{same_view, same_proto}
 use Rattle.rsct_packet.specs.Providers.{among}
 use Rattle.rsct_packet.specs.Search.{Has}
-use Rattle.rsct_packet.proofs.HasLaws.{has_filter, has_append, append_has_left, append_has_right, map_has}
+use Rattle.rsct_packet.proofs.HasLaws.{has_filter, append_has_left, append_has_right, map_has}
 use Rattle.proposal_core.specs.declared.proposal.Proposal.{Proposal}
 use Rattle.proposal_core.specs.declared.proposal.Proposal.TheVariants.{Join, Leave, Fail, Expel, State, Message, Attributes, Reflect}
 use Rattle.proposal_core.specs.declared.entry.Closed.{Closed}
@@ -31,7 +31,7 @@ use Rattle.agreed_table.specs.Pairs.{Pairs}
 use Rattle.table_client.specs.Rules.{closed_in}
 use Rattle.table_client.specs.Sharing.{CarriesChunk}
 use Rattle.table_client.specs.Maps as maps
-use Rattle.run_safety.specs.Past.{History, records_of, earlier, Within, is_list, puts_of, base_of, fold_from, state_at}
+use Rattle.run_safety.specs.Past.{History, records_of, is_list, puts_of, base_of, fold_from, state_at}
 use Rattle.run_safety.specs.Group.{Line, Noted, kept}
 use Rattle.run_safety.specs.Group as group
 use Rattle.run_safety.specs.Sight.{lines_of}
@@ -39,10 +39,11 @@ use Rattle.run_safety.proofs.HeardLaw.{take_front, get_within}
 use Rattle.run_safety.proofs.Prefix.{prefix_push, at_end}
 use Rattle.run_safety.proofs.SightLaws.{line_recorded, put_seen}
 use Rattle.step_refinement.specs.Tied.{opening_of}
-use Rattle.entry_laws.specs.carried_values.Carried.{the_message, OwnOr, RowGives, RowsGive, Gives, EntryCarries, RecordCarries, FirstBallotsCarry}
+use Rattle.entry_laws.specs.carried_values.Carried.{the_message, OwnOr, RowGives, RowsGive, Gives, EntryCarries, RecordCarries}
 use Rattle.entry_laws.specs.closing_rows.Rows.{AreOfVoters, HasRows}
 use Rattle.run_laws.specs.seen_runs.Seen.{Seen, RowsSeen}
 use Rattle.run_laws.proofs.failed_causes.Bases.{view_self}
+use Rattle.run_laws.proofs.failed_causes.Records.{Every, every_after, every_of}
 use Rattle.world_laws.specs.world_answers.Answers.{Answered, events_in, answered_records}
 use Rattle.world_safety.specs.Events.{AllMayHappen}
 use Rattle.world_safety.specs.Scripts.{IsSafe, history_in}
@@ -134,33 +135,21 @@ voters_present s p h = voted_at s s.running p h
 
 -- ---- what a put carries
 
-record Carries (e : Entry) (all : List Happened) : Type 0 where
-  rs : List Happened
-  within : (y : Happened) → Has y rs → Has y all
-  carries : EntryCarries rs e
+-- of the ballots that were cast before it
+abbrev PutCarries : List Happened → Happened → Type 0
+PutCarries rs (happened.Put n v g i e) = EntryCarries rs e
+PutCarries rs _ = Unit {0}
 
-module _ (n : ℕ) (v : ViewId) (g : List ℕ) (i : ℕ) (e : Entry) where
-  abbrev put : Happened
-  put = happened.Put n v g i e
-
-  carries_now : (now : List Happened) (before : History) → Within RecordCarries now before → Has put now → Carries e (now ++ records_of before)
-  carries_now [] before k h = absurd h
-  carries_now (r ∷ now) before k (inl q) = record { rs = earlier now before; within = λ y z. inr z; carries = subst (RecordCarries now before) (sym q) k.0 }
-  carries_now (r ∷ now) before k (inr h) = let x = carries_now now before k.1 h in record { rs = x.rs; within = λ y z. inr (x.within y z); carries = x.carries }
-
-  carries_in : (h : History) → FirstBallotsCarry h → Has put (records_of h) → Carries e (records_of h)
-  carries_in [] k h = absurd h
-  carries_in (x ∷ before) k h =
-      ⊎_elim (λ (a : Has put x.records). carries_now x.records before k.0 a)
-      (λ (b : Has put (records_of before)). let w = carries_in before k.1 b in record { rs = w.rs; within = λ y z. append_has_right y x.records (records_of before) (w.within y z); carries = w.carries })
-      (has_append put x.records (records_of before) h)
+put_carries : (now : List Happened) (before : History) (r : Happened) → RecordCarries now before r → PutCarries (now ++ records_of before) r
+put_carries now before (happened.Put n v g i e) k = k
+put_carries now before _ k = tt
 
 -- ---- row by row
 
-module _ (all : List Happened) (g : List ℕ) (proto : ProtoId) (phase : ℕ) (m : Pairs) (casts : CastsAreChunks all) (one : (p : ProviderId) (h : List ℕ) → AskedToJoin all g p → AskedToJoin all h p → h ≡ g) (same : (k : Pairs) → MapIs all g proto.view (proto.place + 1) k → k ≡ m) (rs : List Happened) (within : (y : Happened) → Has y rs → Has y all) where
+module _ (all : List Happened) (g : List ℕ) (proto : ProtoId) (phase : ℕ) (m : Pairs) (rs : List Happened) (casts : CastsAreChunks all rs) (one : (p : ProviderId) (h : List ℕ) → AskedToJoin all g p → AskedToJoin all h p → h ≡ g) (same : (k : Pairs) → MapIs all g proto.view (proto.place + 1) k → k ≡ m) where
   is_chunk : (p : ProviderId) → AskedToJoin all g p → (v : Vote) (value : Option (List ℕ)) (bytes : List ℕ) → Has (happened.Cast p proto phase v value (Some bytes)) rs → CarriesChunk m phase (Some bytes)
   is_chunk p asked v value bytes h =
-      let k : IsChunk all p proto phase bytes = casts p proto phase v value bytes (within (happened.Cast p proto phase v value (Some bytes)) h) in
+      let k : IsChunk all p proto phase bytes = casts p proto phase v value bytes h in
       let name : k.group ≡ g = one p k.group asked k.asked in
       let map : k.map ≡ m = same k.map (subst (λ (h : List ℕ). MapIs all h proto.view (proto.place + 1) k.map) name k.is) in
       subst (λ (z : Pairs). CarriesChunk z phase (Some bytes)) map k.chunk
@@ -224,30 +213,36 @@ module _ (c : Config) (es : List Answered) (may : AllMayHappen c (events_in es))
       let same : old ≡ run = cc in
       (λ z. record { view = view z; place = place z }) ∙ ap (λ (x : Running). x.proto) same
 
-  closing : (g : List ℕ) (n : ℕ) (v : ViewId) (i : ℕ) (e : Entry) (cl : Closed) (run : Running) (m : Pairs) → CastsAreChunks (records_of h) → ((k : Pairs) → MapIs (records_of h) g run.proto.view (run.proto.place + 1) k → k ≡ m) → (rs : List Happened) → ((y : Happened) → Has y rs → Has y (records_of h))
+  closing : (g : List ℕ) (n : ℕ) (v : ViewId) (i : ℕ) (e : Entry) (cl : Closed) (run : Running) (m : Pairs) (rs : List Happened) → CastsAreChunks (records_of h) rs → ((k : Pairs) → MapIs (records_of h) g run.proto.view (run.proto.place + 1) k → k ≡ m)
       → Has (happened.Put n v g i e) (records_of h) → (state_at n v g i (records_of h)).running ≡ Some run → AreOfVoters (state_at n v g i (records_of h)) cl.rows → Gives the_message rs cl cl.message → runs cl.proto cl.phase (state_at n v g i (records_of h)).running ≡ true → CarriesChunk m cl.phase cl.message
-  closing g n v i e cl run m casts same rs within put running rows gives its =
+  closing g n v i e cl run m rs casts same put running rows gives its =
       let proto : cl.proto ≡ run.proto = proto_runs cl.proto cl.phase (state_at n v g i (records_of h)).running run its running in
-      rows_carry (records_of h) g cl.proto cl.phase m casts (λ p k a b. one_group g k p a b) (λ k at. same k (subst (λ (z : ProtoId). MapIs (records_of h) g z.view (z.place + 1) k) proto at)) rs within cl.rows
+      rows_carry (records_of h) g cl.proto cl.phase m rs casts (λ p k a b. one_group g k p a b) (λ k at. same k (subst (λ (z : ProtoId). MapIs (records_of h) g z.view (z.place + 1) k) proto at)) cl.rows
       (λ r z. asked_before g n v i e r.provider put (voters_present (state_at n v g i (records_of h)) r.provider (subst (Has r.provider) rows (map_has (λ (q : Row). q.provider) r cl.rows z)))) cl.message gives
 
   some_closed : (a b : Closed) → Some a ≡ Some b → a ≡ b
   some_closed a b e = cc
 
-  carried_there : (g : List ℕ) (n : ℕ) (v : ViewId) (i : ℕ) (e : Entry) (cl : Closed) (run : Running) (m : Pairs) → CastsAreChunks (records_of h) → ((k : Pairs) → MapIs (records_of h) g run.proto.view (run.proto.place + 1) k → k ≡ m) → Has (happened.Put n v g i e) (records_of h) → closed_in e ≡ Some cl → (state_at n v g i (records_of h)).running ≡ Some run → CarriesChunk m cl.phase cl.message
+  carried_there : (g : List ℕ) (n : ℕ) (v : ViewId) (i : ℕ) (e : Entry) (cl : Closed) (run : Running) (m : Pairs) (newer rs : List Happened) → records_of h ≡ newer ++ happened.Put n v g i e ∷ rs → CastsAreChunks (records_of h) rs → ((k : Pairs) → MapIs (records_of h) g run.proto.view (run.proto.place + 1) k → k ≡ m) → closed_in e ≡ Some cl → (state_at n v g i (records_of h)).running ≡ Some run → CarriesChunk m cl.phase cl.message
   unfolding fits
-  carried_there g n v i e cl run m casts same put closes running = by e put closes (rows_there n v g i e (records_of h) steady safe.seen put).0 (carries_in n v g i e h safe.carried put) (fit g n v i e put)
+  carried_there g n v i e cl run m newer rs split casts same closes running = by e there closes (rows_there n v g i e (records_of h) steady safe.seen there).0 carries (fit g n v i e there)
     where
-      of : (e : Entry) (x : Closed) → x ≡ cl → Has (happened.Put n v g i e) (records_of h) → AreOfVoters (state_at n v g i (records_of h)) x.rows → (rs : List Happened) → ((y : Happened) → Has y rs → Has y (records_of h)) → Gives the_message rs x x.message → runs x.proto x.phase (state_at n v g i (records_of h)).running ≡ true → CarriesChunk m cl.phase cl.message
-      of e x is put rows rs within gives its = subst (λ (z : Closed). CarriesChunk m z.phase z.message) is (closing g n v i e x run m casts same rs within put running rows gives its)
+      there : Has (happened.Put n v g i e) (records_of h)
+      there = subst (Has (happened.Put n v g i e)) (sym split) (append_has_right (happened.Put n v g i e) newer (happened.Put n v g i e ∷ rs) (inl refl))
 
-      by : (e : Entry) → Has (happened.Put n v g i e) (records_of h) → closed_in e ≡ Some cl → HasRows (state_at n v g i (records_of h)) e → Carries e (records_of h) → fits (state_at n v g i (records_of h)) e ≡ true → CarriesChunk m cl.phase cl.message
+      carries : EntryCarries rs e
+      carries = (every_after PutCarries newer (happened.Put n v g i e ∷ rs) (subst (Every PutCarries) split (every_of PutCarries RecordCarries put_carries h safe.carried))).0
+
+      of : (e : Entry) (x : Closed) → x ≡ cl → Has (happened.Put n v g i e) (records_of h) → AreOfVoters (state_at n v g i (records_of h)) x.rows → Gives the_message rs x x.message → runs x.proto x.phase (state_at n v g i (records_of h)).running ≡ true → CarriesChunk m cl.phase cl.message
+      of e x is put rows gives its = subst (λ (z : Closed). CarriesChunk m z.phase z.message) is (closing g n v i e x run m rs casts same put running rows gives its)
+
+      by : (e : Entry) → Has (happened.Put n v g i e) (records_of h) → closed_in e ≡ Some cl → HasRows (state_at n v g i (records_of h)) e → EntryCarries rs e → fits (state_at n v g i (records_of h)) e ≡ true → CarriesChunk m cl.phase cl.message
       by (Once x) put closes rows k fit = absurd (cc)
       by (Begin x) put closes rows k fit = absurd (cc)
       by (Phase x) put closes rows k fit =
-          of (Phase x) x (some_closed x cl closes) put rows k.rs k.within k.carries.1 (and_parts (runs x.proto x.phase (state_at n v g i (records_of h)).running) (nat_lt x.phase max_phases) fit).0
-      by (Approve x) put closes rows k fit = of (Approve x) x (some_closed x cl closes) put rows k.rs k.within k.carries.1 fit
-      by (Reject x) put closes rows k fit = of (Reject x) x (some_closed x cl closes) put rows k.rs k.within k.carries.1 fit
+          of (Phase x) x (some_closed x cl closes) put rows k.1 (and_parts (runs x.proto x.phase (state_at n v g i (records_of h)).running) (nat_lt x.phase max_phases) fit).0
+      by (Approve x) put closes rows k fit = of (Approve x) x (some_closed x cl closes) put rows k.1 fit
+      by (Reject x) put closes rows k fit = of (Reject x) x (some_closed x cl closes) put rows k.1 fit
       by (Late proto phase ps) put closes rows k fit = absurd (cc)
 
 pub the_present_asked : ThePresentAsked
@@ -257,7 +252,7 @@ the_present_asked c es may g n v i p (e, put) there =
     subst (λ (rs : List Happened). AskedToJoin rs g p) (trace_is c es may) k
 
 pub chunks_are_carried : ChunksAreCarried
-chunks_are_carried c es may casts g n v i e cl run m put closes running here =
+chunks_are_carried c es may g n v i e cl run m newer older split casts closes running here =
     let old = sym (trace_is c es may) in
     let same : (k : Pairs) → MapIs (records_of (history_in c es)) g run.proto.view (run.proto.place + 1) k → k ≡ m = λ k at. maps_are_one c es may g run.proto.view (run.proto.place + 1) k m (subst (λ (rs : List Happened). MapIs rs g run.proto.view (run.proto.place + 1) k) (trace_is c es may) at) here in
-    carried_there c es may g n v i e cl run m (subst CastsAreChunks old casts) same (subst (Has (happened.Put n v g i e)) old put) closes (subst (λ (rs : List Happened). (state_at n v g i rs).running ≡ Some run) old running)
+    carried_there c es may g n v i e cl run m newer older (trace_is c es may ∙ split) (subst (λ (rs : List Happened). CastsAreChunks rs older) old casts) same closes (subst (λ (rs : List Happened). (state_at n v g i rs).running ≡ Some run) old running)

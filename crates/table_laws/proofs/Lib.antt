@@ -4,3 +4,5 @@ pub mod Samples
 pub mod Asking
 pub mod Carrying
 pub mod Voting
+pub mod Copies
+pub mod Agreeing

@@ -11,11 +11,11 @@ use Rattle.node_state.specs.declared.config.Config.{Config}
 use Rattle.node_state.specs.declared.happened.Happened.{Happened}
 use Rattle.node_state.specs.declared.happened.Happened.TheVariants as happened
 use Rattle.agreed_table.specs.Pairs.{Pairs}
-use Rattle.table_client.specs.Maps.{AreSafe, MapsHold, entry_map}
+use Rattle.table_client.specs.Maps.{MapsHold, entry_map}
 use Rattle.table_client.specs.Maps as maps
 use Rattle.table_client.proofs.MapLaws.{maps_hold}
 use Rattle.run_safety.specs.Past.{History, records_of, puts_of, base_of, fold_from, state_at, view_now}
-use Rattle.run_safety.specs.Group.{Origin, Record, In, Put, Line, Kept, Noted, kept}
+use Rattle.run_safety.specs.Group.{Origin, In, Put, Line, Kept, Noted, kept}
 use Rattle.run_safety.specs.Group as group
 use Rattle.run_safety.specs.GroupLists as lists
 use Rattle.run_safety.specs.Bases.{base_state}
@@ -177,7 +177,7 @@ module _ (c : Config) (es : List Answered) (may : AllMayHappen c (events_in es))
   held : (g : List ℕ) → MapsHold (lists_of (lines_of g (history_in c es)))
   held g = holds (opening_of c) (history_in c es) is_safe.safe is_safe.seen g
 
-  state_before : (g : List ℕ) (n : ℕ) (v : ViewId) (i : ℕ) → Reaches (answered_after c es).trace g n v i → state_at n v g i (answered_after c es).trace ≡ maps.state_at (lists_of (lines_of g (history_in c es))) v i
+  pub state_before : (g : List ℕ) (n : ℕ) (v : ViewId) (i : ℕ) → Reaches (answered_after c es).trace g n v i → state_at n v g i (answered_after c es).trace ≡ maps.state_at (lists_of (lines_of g (history_in c es))) v i
   state_before g n v i (e, put) =
       ap (state_at n v g i) (sym trace_is) ∙ state_there (opening_of c) (history_in c es) is_safe.safe is_safe.seen g n v i e (subst (Has (happened.Put n v g i e)) (sym trace_is) put)
 

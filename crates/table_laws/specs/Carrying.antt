@@ -1,5 +1,5 @@
 -- What the entries that close the phases of a protocol carry, where each message that is cast is a chunk.
-use Rattle.std.specs.Prelude.{◌≡◌, ℕ, ◌+◌, List, Option, Some}
+use Rattle.std.specs.Prelude.{◌≡◌, ℕ, ◌+◌, List, ◌∷◌, ◌++◌, Option, Some}
 use Rattle.rsct_packet.specs.declared.ids.ViewId.{ViewId}
 use Rattle.rsct_packet.specs.declared.ids.ProtoId.{ProtoId}
 use Rattle.rsct_packet.specs.declared.ids.ProviderId.{ProviderId}
@@ -39,14 +39,14 @@ pub record IsChunk (rs : List Happened) (p : ProviderId) (proto : ProtoId) (phas
   pub is : MapIs rs group proto.view (proto.place + 1) map
   pub chunk : CarriesChunk map phase (Some bytes)
 
--- so is each message that is cast
-abbrev pub CastsAreChunks : List Happened → Type 0
-CastsAreChunks rs =
-    (p : ProviderId) (proto : ProtoId) (phase : ℕ) (vote : Vote) (value : Option (List ℕ)) (bytes : List ℕ) → Has (Cast p proto phase vote value (Some bytes)) rs → IsChunk rs p proto phase bytes
+-- so is each message that is cast in these records
+abbrev pub CastsAreChunks : List Happened → List Happened → Type 0
+CastsAreChunks rs older =
+    (p : ProviderId) (proto : ProtoId) (phase : ℕ) (vote : Vote) (value : Option (List ℕ)) (bytes : List ℕ) → Has (Cast p proto phase vote value (Some bytes)) older → IsChunk rs p proto phase bytes
 
--- Then an entry that closes a phase carries the chunk of that phase of the map of its group, the one directly behind the Begin of
--- what runs, or nothing.
+-- Where that holds of the records before it, an entry that closes a phase carries the chunk of that phase of the map of its group, the one
+-- directly behind the Begin of what runs, or nothing.
 abbrev pub ChunksAreCarried : Type 0
 ChunksAreCarried =
-    (c : Config) (es : List Answered) → AllMayHappen c (events_in es) → CastsAreChunks (answered_after c es).trace → (g : List ℕ) (n : ℕ) (v : ViewId) (i : ℕ) (e : Entry) (closed : Closed) (run : Running) (m : Pairs) → Has (Put n v g i e) (answered_after c es).trace
-    → closed_in e ≡ Some closed → (state_at n v g i (answered_after c es).trace).running ≡ Some run → MapIs (answered_after c es).trace g run.proto.view (run.proto.place + 1) m → CarriesChunk m closed.phase closed.message
+    (c : Config) (es : List Answered) → AllMayHappen c (events_in es) → (g : List ℕ) (n : ℕ) (v : ViewId) (i : ℕ) (e : Entry) (closed : Closed) (run : Running) (m : Pairs) (newer older : List Happened) → (answered_after c es).trace ≡ newer ++ Put n v g i e ∷ older
+    → CastsAreChunks (answered_after c es).trace older → closed_in e ≡ Some closed → (state_at n v g i (answered_after c es).trace).running ≡ Some run → MapIs (answered_after c es).trace g run.proto.view (run.proto.place + 1) m → CarriesChunk m closed.phase closed.message

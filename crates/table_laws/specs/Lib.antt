@@ -1,3 +1,4 @@
+pub mod Agreeing
 pub mod Carrying
 pub mod GroupLists
 pub mod Maps

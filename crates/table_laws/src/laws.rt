@@ -1,4 +1,5 @@
 //! Laws of the map of a group in every run.
+ghost use Rattle.table_laws.specs.Agreeing.{TablesAgree, WholeCopiesAreEqual};
 ghost use Rattle.table_laws.specs.Carrying.{ThePresentAsked, ChunksAreCarried};
 ghost use Rattle.table_laws.specs.Maps.{MapsAreOne, MapsStayWhileRunning, MapsAreEmptyWithoutMembers, MapsExist, ListsSayMaps};
 ghost use Rattle.table_laws.specs.Notices.{NoticesAreOfLists};
@@ -45,8 +46,8 @@ pub fn the_present_asked()
     ensures { ThePresentAsked }
 {}
 
-/// Where each message that is cast is the chunk of its phase of the map directly behind its protocol's Begin, each entry
-/// that closes a phase carries that chunk of its group's map, or nothing.
+/// Where each message that was cast before it is the chunk of its phase of the map directly behind its protocol's Begin, an
+/// entry that closes a phase carries that chunk of its group's map, or nothing.
 pub fn chunks_are_carried()
     ensures { ChunksAreCarried }
 {}
@@ -55,4 +56,15 @@ pub fn chunks_are_carried()
 /// of the phase that runs behind it, of the map directly behind the protocol's Begin.
 pub fn ballots_send_chunks()
     ensures { BallotsSendChunks }
+{}
+
+/// In every run whose events may happen and whose clients are all table clients, a copy that is whole has the map of its group's list,
+/// at its view and length; so has each copy that a log tells, of clients that are gone later, too.
+pub fn tables_agree()
+    ensures { TablesAgree }
+{}
+
+/// So two whole copies of one group with the same view and length have equal maps, of whichever clients of whichever nodes.
+pub fn whole_copies_are_equal()
+    ensures { WholeCopiesAreEqual }
 {}
