@@ -10,7 +10,6 @@ use client_callbacks::Callbacks;
 /// In a run of events that may happen each session of a node that is up has a log, and that log has all that each provider of the
 /// session heard so far. It is one case of what is proved of any property of logs and of ballots that each handing keeps, where the
 /// client that something is handed to was handed all that its provider heard before (`proofs/Along`).
-#[tactic(auto, using(crate::proofs::Along::logs_have_all))]
 pub fn logs_have_all<C: Callbacks>()
     ensures { (c : Config) (all : List Answered) → AllMayHappen c (events_in all)
         → LogsHaveAll C.stands_for c all }
