@@ -130,7 +130,7 @@ fold_of tr [] [] h after k = k.0
 then_more : (p : ProviderId) (hs : List Hearing) (before : List Handing) (h : Handing) → heard_then p hs (before ++ h ∷ []) ≡ heard_after p h.what (heard_then p hs before)
 then_more p hs before h = fold-append (λ (old : List Hearing) (b : Handing). heard_after p b.what old) hs before (h ∷ [])
 
-in_more : (p : ProviderId) (log : List Logged) (l : Logged) → heard_in p (log ++ l ∷ []) ≡ heard_after p l.what (heard_in p log)
+pub in_more : (p : ProviderId) (log : List Logged) (l : Logged) → heard_in p (log ++ l ∷ []) ≡ heard_after p l.what (heard_in p log)
 in_more p log l = fold-append (λ (hs : List Hearing) (b : Logged). heard_after p b.what hs) [] log (l ∷ [])
 
 -- neither heard nor cast
