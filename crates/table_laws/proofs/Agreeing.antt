@@ -1,7 +1,8 @@
 -- All copies of a table agree: each is right behind each notice, and each message that is cast is a chunk, one handing after the other.
 use Rattle.std.proofs.Common.{◌≡◌, ◌⊎◌, inl, inr, ℕ, ◌+◌, Bool, true, false, List, [], ◌∷◌, ◌++◌, Option, Some, None, refl, sym, ap, subst, ◌∙◌, append-nil, append_assoc}
-use Rattle.std.specs.Prelude.{reverse, IfSome, if◌then◌else◌}
-use Rattle.std.specs.List.{fold}
+use Rattle.std.specs.Prelude.{◌&&◌, ◌||◌, not, reverse, IfSome, if◌then◌else◌}
+use Rattle.std.specs.List.{fold, list_all}
+use Rattle.std.proofs.lemmas.List.Sums.{fold-append}
 use Rattle.std.specs.Option.{option_map, unwrap_or}
 use Rattle.std.proofs.lemmas.Bool.{and_parts}
 use Rattle.rsct_packet.specs.declared.ids.ViewId.{ViewId}
@@ -57,7 +58,7 @@ use Rattle.run_laws.proofs.seen_runs.Law.{seen_after}
 use Rattle.run_laws.proofs.seen_runs.Once.{safe_entries_asked}
 use Rattle.world_laws.specs.world_answers.Answers.{Answered, events_in, answered_after, answered_records}
 use Rattle.world_laws.proofs.world_answers.Grown.{grows_by}
-use Rattle.world_model.specs.World.{World}
+use Rattle.world_model.specs.World.{World, world_new}
 use Rattle.world_safety.specs.Events.{AllMayHappen}
 use Rattle.world_safety.specs.HeardStates.{FoldAt, AreFolds}
 use Rattle.world_safety.specs.Scripts.{IsSafe, history_in}
@@ -65,7 +66,7 @@ use Rattle.world_safety.proofs.HeardStates.{answered_last, folds_stay}
 use Rattle.world_safety.proofs.Moments.{front_may}
 use Rattle.world_safety.proofs.Runs.{every_run_is_reached}
 use Rattle.world_safety.proofs.Turned.{onto_is}
-use Rattle.run_hands.specs.Hands.{ClientLogs, Logs}
+use Rattle.run_hands.specs.Hands.{ClientLogs, Logs, RunHands, empty_logs}
 use Rattle.run_hands.specs.Logs.{OfEach, OfLogs}
 use Rattle.hearing_laws.specs.Walk.{Hearing, heard_after, heard_by, GoesOn, IsBehind, Follows, IsWalk}
 use Rattle.hearing_laws.specs.Walk as walk
@@ -76,14 +77,16 @@ use Rattle.hand_laws.specs.Hearers.{heard_in, voice, IsUncast, Moment, IsKeptAlo
 use Rattle.hand_laws.proofs.Along.{holds_along}
 use Rattle.hand_laws.proofs.Calls.{IsBare, given_bare}
 use Rattle.hand_laws.proofs.Handings.{in_more}
-use Rattle.table_laws.specs.Agreeing.{CopyAgrees, TablesAgree, WholeCopiesAreEqual}
+use Rattle.table_laws.specs.Agreeing.{CopyAgrees, TablesAgree, IsCopyAlong, WholeCopiesAreEqual}
 use Rattle.table_laws.specs.Carrying.{AskedToJoin, IsChunk, CastsAreChunks}
+use Rattle.table_laws.specs.Firsts.{joiners_by, finds_nobody, first_after, joined_first, HasWholeCopy, FirstJoinersAreWhole}
 use Rattle.table_laws.specs.GroupLists.{origin_of}
 use Rattle.table_laws.specs.Maps.{MapIs, group_lists, ListsSay}
 use Rattle.table_laws.specs.Notices.{IsOfLists}
 use Rattle.table_laws.specs.Voting.{IsAt, SendsChunk}
 use Rattle.table_laws.proofs.Carrying.{chunks_are_carried}
-use Rattle.table_laws.proofs.Copies.{copy_begins, map_into, running_into, after_place, Front, front_of, own_more, filled_behind}
+use Rattle.table_laws.proofs.Copies.{Said, copy_begins, map_into, kept_into, after_place, after_running, Front, front_of, own_more, filled_behind}
+use Rattle.table_laws.proofs.Firsts.{AloneIf, first_whole, whole_on}
 use Rattle.table_laws.proofs.GroupLists.{found_is}
 use Rattle.table_laws.proofs.RunMaps.{puts_entered, is_safe, trace_is, state_before, maps_are_one, lists_say_maps, notices_are_of_lists}
 use Rattle.table_laws.proofs.Voting.{ballots_send_chunks}
@@ -177,6 +180,10 @@ ends_same (z ∷ xs) (w ∷ ys) x y e =
     let k = ends_same xs ys x y tail in
     ((λ j. head j ∷ k.0 j), k.1)
 
+-- whether a join found nobody, with one record more
+first_more : (p : ProviderId) (log : List Logged) (l : Logged) → joined_first p (log ++ l ∷ []) ≡ first_after p l.what l.after (joined_first p log)
+first_more p log l = fold-append (λ (old : Bool) (b : Logged). first_after p b.what b.after old) false log (l ∷ [])
+
 -- who heard directly before a record of a log
 last_hearer : (log : List Logged) (o : Option ProviderId) (l : Logged) (ys : List Logged) → AreLogged o (log ++ l ∷ ys) → ((log ≡ []) × IsLogged o l.what l.after) ⊎ ((front : List Logged) × (x : Logged) × (log ≡ front ++ x ∷ []) × IsLogged (hearer x.what) l.what l.after)
 last_hearer [] o l ys k = inl (refl, k.0)
@@ -263,8 +270,14 @@ module _ (c : Config) (all : List Answered) (may : AllMayHappen c (events_in all
   NoticeAt log l =
       (p : ProviderId) (v : ViewId) (g : List ℕ) (i : ℕ) (e : Entry) (ms : List ProviderId) (value : List ℕ) → l.what ≡ happened.Heard p v g i e ms value → IsAt (lists g) (before (notice_to v g i e l.after p) log) (notice_to v g i e l.after p) × AskedToJoin tr g p
 
+  -- and it is whole; nobody is a member while its own join runs
+  abbrev WholeIf : ProviderId → Option Copied → Type 0
+  WholeIf p None = ⊥
+  WholeIf p (Some x) = ((m : Pairs) × (x.map ≡ Some m)) × AloneIf p x.running (maps.state_at (lists x.group) x.view x.len).members
+
   record Right (log : List Logged) : Type 0 where
     copies : (p : ProviderId) → RightIf p (heard_in p log) (own p log)
+    first : (p : ProviderId) → joined_first p log ≡ true → WholeIf p (own p log)
     last : (front : List Logged) (l : Logged) → log ≡ front ++ l ∷ [] → NoticeAt front l
 
   abbrev Chunked : Happened → Type 0
@@ -303,6 +316,13 @@ module _ (c : Config) (all : List Answered) (may : AllMayHappen c (events_in all
 
       said : IsOfLists (lists g) n
       said = notices_are_of_lists c all may q v g i f ms value h.after (subst (λ r. FoldAt tr r h.after) is fold_here)
+
+      notice_said : Said (lists g) n
+      notice_said = (said.entry, said.after, said.mapped)
+
+      -- a copy behind it is whole, and nobody is a member while its own join runs
+      abbrev WholeBehind : Copied → Type 0
+      WholeBehind x = ((m : Pairs) × (x.map ≡ Some m)) × AloneIf q n.after.running n.after.members
 
       record Placed (x : Copied) : Type 0 where
         at : IsAt (lists g) x n
@@ -343,6 +363,7 @@ module _ (c : Config) (all : List Answered) (may : AllMayHappen c (events_in all
           comes : Comes (lists g) x n
           map : IfSome x.map (maps.MapIs (lists g) v i)
           running : x.running ≡ (maps.state_at (lists g) v i).running
+          members : (maps.state_at (lists g) x.view x.len).members ≡ (maps.state_at (lists g) v i).members
 
         step : Step
         step = by follows.behind
@@ -355,13 +376,16 @@ module _ (c : Config) (all : List Answered) (may : AllMayHappen c (events_in all
                   comes = Onward other copy (sym to_view) (sym to_place);
                   map = subst (λ (z : ViewId × ℕ). IfSome x.map (maps.MapIs (lists g) z.0 z.1)) (λ j. (to_view j, to_place j)) copy.map;
                   running = copy.running ∙ (λ j. (maps.state_at (lists g) (to_view j) (to_place j)).running);
+                  members = λ j. (maps.state_at (lists g) (to_view j) (to_place j)).members;
                 }
             by (inr (zero, goes)) =
                 let on : Continues (lists g) x.view x.len v = subst (λ (z : ViewId × ℕ). Continues (lists g) z.0 z.1 v) (λ j. (k.view j, k.len j)) (continues g (k.latest).view ((k.latest).place + 1) v goes) in
+                let kept = kept_into (lists g) (say g).safe x.view x.len v on in
                 record {
                   comes = Into other copy zero on;
                   map = subst (λ j. IfSome x.map (maps.MapIs (lists g) v j)) (sym zero) (some_has x.map (maps.MapIs (lists g) x.view x.len) (maps.MapIs (lists g) v 0) (λ y a. map_into (lists g) x.view x.len v y on a) copy.map);
-                  running = copy.running ∙ sym (running_into (lists g) (say g).safe x.view x.len v on) ∙ ap (λ j. (maps.state_at (lists g) v j).running) (sym zero);
+                  running = copy.running ∙ sym kept.1 ∙ ap (λ j. (maps.state_at (lists g) v j).running) (sym zero);
+                  members = sym kept.0 ∙ ap (λ j. (maps.state_at (lists g) v j).members) (sym zero);
                 }
 
         carries : (closed : Closed) → closed_in f ≡ Some closed → WhereOwnJoins (lists g) q x (λ run y. CarriesChunk y closed.phase closed.message)
@@ -376,6 +400,12 @@ module _ (c : Config) (all : List Answered) (may : AllMayHappen c (events_in all
         tells : Tells (lists g) x n
         tells = record { entry = said.entry; after = said.after; mapped = said.mapped; carries = carries }
 
+        -- where it is whole, and nobody is there while its own join runs, so it is behind the notice
+        whole_behind : WholeIf q (Some x) → WholeBehind (copy_after n x)
+        whole_behind (whole, alone) =
+            whole_on (lists g) (say g).safe n notice_said x whole.0 whole.1 step.running other
+            (λ run runs mine. sym step.members ∙ ap (λ (z : List ℕ). (maps.state_at (lists z) x.view x.len).members) (sym to_group) ∙ alone run (step.running ∙ runs) mine)
+
         onward : Placed x
         onward = record { at = record { entry = said.entry; after = said.after; map = step.map }; new = copies_follow (lists g) x n (say g).safe tells step.comes; group = to_group }
 
@@ -383,7 +413,7 @@ module _ (c : Config) (all : List Answered) (may : AllMayHappen c (events_in all
       placed = by (own q log) (right.copies q)
         where
           by : (o : Option Copied) → RightIf q (heard_in q log) o → Placed (unwrap_or o (fresh_copy n))
-          by None k = record { at = record { entry = said.entry; after = said.after; map = tt }; new = copy_begins (lists g) (say g).safe n (said.entry, said.after, said.mapped); group = refl }
+          by None k = record { at = record { entry = said.entry; after = said.after; map = tt }; new = copy_begins (lists g) (say g).safe n notice_said; group = refl }
           by (Some x) k = onward x k
 
       now_right : RightCopy q (record { view = v; group = g; place = i; entry = f } ∷ heard_in q log) (copy_after n (before n log))
@@ -399,6 +429,30 @@ module _ (c : Config) (all : List Answered) (may : AllMayHappen c (events_in all
             len = sym a.2;
             copy = subst (λ (z : List ℕ). CopyIs (lists z) q (copy_after n (before n log))) (sym same_group) placed.new;
           }
+
+      -- whose join found nobody has a whole copy
+      now_whole : (joined_first q log || finds_nobody q f h.after) ≡ true → WholeIf q (Some (copy_after n (before n log)))
+      now_whole found =
+          let k : WholeBehind (copy_after n (before n log)) = by (own q log) (right.copies q) (right.first q) (joined_first q log) refl found in
+          (k.0, λ run runs mine. there ∙ ap (λ (s : GroupState). s.members) (sym said.after) ∙ k.1 run (sym (after_running n (before n log)) ∙ runs) mine)
+        where
+          there : (maps.state_at (lists (copy_after n (before n log)).group) (copy_after n (before n log)).view (copy_after n (before n log)).len).members ≡ (maps.state_at (lists g) v (i + 1)).members
+          there =
+              let a = after_place n (before n log) in
+              let same_group : (copy_after n (before n log)).group ≡ g = a.0 ∙ placed.group in
+              λ j. (maps.state_at (lists (same_group j)) (a.1 j) (a.2 j)).members
+
+          by : (o : Option Copied) → RightIf q (heard_in q log) o → (joined_first q log ≡ true → WholeIf q o) → (b : Bool) → joined_first q log ≡ b → (b || finds_nobody q f h.after) ≡ true → WholeBehind (copy_after n (unwrap_or o (fresh_copy n)))
+          by None k whole true first z = absurd (whole first)
+          by None k whole false first z =
+              let parts = and_parts (begins_own q f) (list_all (among (joiners_by f)) h.after.members) z in
+              let begun = first_whole (lists g) (say g).safe n notice_said parts.0 parts.1 in
+              (([], begun.0), begun.1)
+          by (Some x) k whole true first z = whole_behind x k (whole first)
+          by (Some x) k whole false first z =
+              let own_join : begins_own q f ≡ true = (and_parts (begins_own q f) (list_all (among (joiners_by f)) h.after.members) z).0 in
+              let both : true ≡ false = sym own_join ∙ other x k in
+              absurd (cc)
 
       noticed_at : IsAt (lists g) (before n log) n × AskedToJoin tr g q
       noticed_at = (placed.at, heard_asked q v g i f ms value (subst (λ r. Has r tr) is there))
@@ -430,6 +484,30 @@ module _ (c : Config) (all : List Answered) (may : AllMayHappen c (events_in all
         by (happened.Told q r why) is = informed (told.Refused q r why)
         by (happened.Noted client name v i t) is = informed t
         by _ is = right.copies p
+
+    -- and whole, where the provider's join found nobody
+    first_now : (p : ProviderId) → joined_first p (log ++ logged h ∷ []) ≡ true → WholeIf p (own p (log ++ logged h ∷ []))
+    first_now p first = subst (WholeIf p) (sym (own_more p log (logged h))) (by h.what refl (sym (first_more p log (logged h)) ∙ first))
+      where
+        informed : (t : Told) → (joined_first p log && not (dissolves p t)) ≡ true → WholeIf p (own_then p (own p log) (Informed t))
+        informed t = of (dissolves p t)
+          where
+            of : (b : Bool) → (joined_first p log && not b) ≡ true → WholeIf p (if b then None else own p log)
+            of true k = absurd (let no : false ≡ true = (and_parts (joined_first p log) false k).1 in cc)
+            of false k = right.first p (and_parts (joined_first p log) true k).0
+
+        by : (r : Happened) → h.what ≡ r → first_after p r h.after (joined_first p log) ≡ true → WholeIf p (fold (own_then p) (own p log) (handed_if r h.after None))
+        by (happened.Heard q v g i f ms value) is = of (same_provider q p) refl
+          where
+            n : NoticeView
+            n = notice_to v g i f h.after q
+
+            of : (b : Bool) → same_provider q p ≡ b → (if b then joined_first p log || finds_nobody p f h.after else joined_first p log) ≡ true → WholeIf p (if b then Some (copy_after n (unwrap_or (own p log) (fresh_copy n))) else own p log)
+            of false z k = right.first p k
+            of true z k = subst (λ (y : ProviderId). (joined_first y log || finds_nobody y f h.after) ≡ true → WholeIf y (Some (copy_after n (unwrap_or (own y log) (fresh_copy n))))) (provider_same q p z) (now_whole q v g i f ms value is) k
+        by (happened.Told q r why) is = informed (told.Refused q r why)
+        by (happened.Noted client name v i t) is = informed t
+        by _ is = right.first p
 
     last_now : (front : List Logged) (l : Logged) → log ++ logged h ∷ [] ≡ front ++ l ∷ [] → NoticeAt front l
     last_now front l e =
@@ -538,12 +616,12 @@ module _ (c : Config) (all : List Answered) (may : AllMayHappen c (events_in all
         by _ is = tt
 
     handed_right : Right (log ++ logged h ∷ []) × Chunked h.what
-    handed_right = (record { copies = copies_now; last = last_now }, chunk_now)
+    handed_right = (record { copies = copies_now; first = first_now; last = last_now }, chunk_now)
 
   right_along : IsKeptAlong ByRules c all Right Chunked
   right_along =
       record {
-        empty = record { copies = λ p. tt; last = λ front l e. absurd (no_end front l e) };
+        empty = record { copies = λ p. tt; first = λ p k. absurd (let no : false ≡ true = k in cc); last = λ front l e. absurd (no_end front l e) };
         uncast = uncast;
         given = λ s ev none r i. bare r (given_bare s ev none r i);
         handed = λ es fs e older h log whole m right chunked. handed_right es fs e whole older h log m right chunked;
@@ -569,21 +647,36 @@ logs_has P [] x log k h i = absurd h
 logs_has P (y ∷ logs) x log k (inl q) i = each_has P y.logs log k.0 (subst (λ (z : ClientLogs). Has log z.logs) q i)
 logs_has P (y ∷ logs) x log k (inr h) i = logs_has P logs x log k.1 h i
 
+module _ (c : Config) (all es fs : List Answered) (logs : Logs) (may : AllMayHappen c (events_in all)) (whole : all ≡ es ++ fs) (hands : RunHands ByRules (world_new c) es (empty_logs (world_new c)) logs) where
+  right_log : (x : ClientLogs) (log : List Logged) → Has x logs → Has log x.logs → Right c all may log
+  right_log x log in_logs in_log =
+      logs_has (Right c all may) logs x log (holds_along ByRules c all (Right c all may) (Chunked c all may) (right_along c all may) may es fs whole logs hands).0 in_logs in_log
+
 pub tables_agree : TablesAgree
-tables_agree c es logs may hands p x (l, in_logs, log, in_log, found) =
-    let k : OfLogs (Right c es may) logs = (holds_along ByRules c es (Right c es may) (Chunked c es may) (right_along c es may) may es [] (sym (append-nil es)) logs hands).0 in
-    let r : Right c es may log = logs_has (Right c es may) logs l log k in_logs in_log in
-    agrees (own c es may p log) (sym (copies_are_apart (handed_by log) p) ∙ found) (r.copies p)
+tables_agree c all es fs logs may whole hands p x (l, in_logs, log, in_log, found) =
+    agrees (own c all may p log) (sym (copies_are_apart (handed_by log) p) ∙ found) ((right_log c all es fs logs may whole hands l log in_logs in_log).copies p)
   where
-    agrees : (o : Option Copied) → o ≡ Some x → RightIf c es may p (heard_in p log) o → CopyAgrees (answered_after c es).trace x
+    agrees : (o : Option Copied) → o ≡ Some x → RightIf c all may p (heard_in p log) o → CopyAgrees (answered_after c all).trace x
     agrees None q k = absurd (cc)
     agrees (Some y) q k =
         let same : y ≡ x = cc in
-        subst (CopyAgrees (answered_after c es).trace) same (some_has y.map (maps.MapIs (lists c es may y.group) y.view y.len) (MapIs (answered_after c es).trace y.group y.view y.len) (λ m h. (lists_say_maps c es may y.group).of_records y.view y.len m h) k.copy.map)
+        subst (CopyAgrees (answered_after c all).trace) same (some_has y.map (maps.MapIs (lists c all may y.group) y.view y.len) (MapIs (answered_after c all).trace y.group y.view y.len) (λ m h. (lists_say_maps c all may y.group).of_records y.view y.len m h) k.copy.map)
 
 pub whole_copies_are_equal : WholeCopiesAreEqual
-whole_copies_are_equal c es logs may hands p q a b m k in_a in_b group view len a_whole b_whole =
-    let tr : List Happened = (answered_after c es).trace in
-    let first : MapIs tr a.group a.view a.len m = subst (λ (o : Option Pairs). IfSome o (MapIs tr a.group a.view a.len)) a_whole (tables_agree c es logs may hands p a in_a) in
-    let other : MapIs tr b.group b.view b.len k = subst (λ (o : Option Pairs). IfSome o (MapIs tr b.group b.view b.len)) b_whole (tables_agree c es logs may hands q b in_b) in
-    maps_are_one c es may b.group b.view b.len m k (subst (λ (z : List ℕ × ViewId × ℕ). MapIs tr z.0 z.1 z.2 m) (λ j. (group j, view j, len j)) first) other
+whole_copies_are_equal c all may p q a b m k at_a at_b group view len a_whole b_whole =
+    maps_are_one c all may b.group b.view b.len m k
+    (subst (λ (z : List ℕ × ViewId × ℕ). MapIs (answered_after c all).trace z.0 z.1 z.2 m) (λ j. (group j, view j, len j)) (map_of p a m at_a a_whole)) (map_of q b k at_b b_whole)
+  where
+    map_of : (o : ProviderId) (x : Copied) (y : Pairs) → IsCopyAlong c all o x → x.map ≡ Some y → MapIs (answered_after c all).trace x.group x.view x.len y
+    map_of o x y (es, fs, whole, logs, hands, in_logs) is =
+        subst (λ (z : Option Pairs). IfSome z (MapIs (answered_after c all).trace x.group x.view x.len)) is (tables_agree c all es fs logs may whole hands o x in_logs)
+
+-- ---- and first members are whole
+
+pub first_joiners_are_whole : FirstJoinersAreWhole
+first_joiners_are_whole c es logs may hands p x log in_logs in_log first =
+    whole (own c es may p log) refl ((right_log c es es [] logs may (sym (append-nil es)) hands x log in_logs in_log).first p first)
+  where
+    whole : (o : Option Copied) → own c es may p log ≡ o → WholeIf c es may p o → HasWholeCopy p log
+    whole None q k = absurd k
+    whole (Some y) q k = (y, k.0.0, copies_are_apart (handed_by log) p ∙ q, k.0.1)

@@ -61,7 +61,7 @@ pub after_place : (n : NoticeView) (c : Copied) → ((copy_after n c).group ≡ 
 unfolding copy_after with_place
 after_place n c = (members_group n (with_effect n (with_chunk n c)) ∙ effect_group n (with_chunk n c) ∙ chunk_group n c, refl, refl)
 
-after_running : (n : NoticeView) (c : Copied) → (copy_after n c).running ≡ n.after.running
+pub after_running : (n : NoticeView) (c : Copied) → (copy_after n c).running ≡ n.after.running
 unfolding copy_after with_place
 after_running n c = refl
 
@@ -87,7 +87,7 @@ fresh_effect n (Approve c) other = (refl, refl)
 fresh_effect n (Reject c) other = (refl, refl)
 fresh_effect n (Late proto phase ps) other = (refl, refl)
 
-abbrev whole_if : Copied → Bool → Copied
+abbrev pub whole_if : Copied → Bool → Copied
 whole_if c b = if b then record c { map = Some [] } else c
 
 members_map : (n : NoticeView) (c : Copied) (b : Bool) → is_empty n.after.members ≡ b → c.map ≡ None → c.chunks ≡ [] → ((with_members n c).map ≡ cond b (Some []) None) × ((with_members n c).chunks ≡ [])
@@ -144,18 +144,24 @@ copy_begins x safe n said = by (begins_own n.provider n.entry) refl
 
 -- ---- from view to view
 
--- where a view goes on from a place, its map and what runs are those of the place
+-- where a view goes on from a place, its map, its members and what runs are those of the place
 pub map_into : (x : Lists) (u : ViewId) (len : ℕ) (v : ViewId) (m : Pairs) → Continues x u len v → MapIs x u len m → MapIs x v 0 m
 map_into x u len v m (Next _ b base old at) h = Based v 0 m b refl base (subst (λ (z : ViewId × ℕ). MapIs x z.0 z.1 m) (λ z. (sym old z, sym at z)) h)
 map_into x u len v m (Over _ b base none before) h = Based v 0 m b refl base (subst (λ (k : ℕ). MapIs x b.old k m) (sym none) (map_into x u len b.old m before h))
 
-running_at_base : (x : Lists) → AreSafe x → (v : ViewId) (b : Origin) → x.base v ≡ Some b → (state_at x v 0).running ≡ (state_at x b.old b.len).running
-running_at_base x safe v b base = ap (λ (s : GroupState). s.running) (state_first x v 0 refl ∙ ap base_state base) ∙ (safe.kept v b base).1
+kept_at_base : (x : Lists) → AreSafe x → (v : ViewId) (b : Origin) → x.base v ≡ Some b → ((state_at x v 0).members ≡ (state_at x b.old b.len).members) × ((state_at x v 0).running ≡ (state_at x b.old b.len).running)
+kept_at_base x safe v b base =
+    let first : state_at x v 0 ≡ b.state = state_first x v 0 refl ∙ ap base_state base in
+    (ap (λ (s : GroupState). s.members) first ∙ (safe.kept v b base).0, ap (λ (s : GroupState). s.running) first ∙ (safe.kept v b base).1)
 
-pub running_into : (x : Lists) → AreSafe x → (u : ViewId) (len : ℕ) (v : ViewId) → Continues x u len v → (state_at x v 0).running ≡ (state_at x u len).running
-running_into x safe u len v (Next _ b base old at) = running_at_base x safe v b base ∙ ap (λ (z : ViewId × ℕ). (state_at x z.0 z.1).running) (λ z. (old z, at z))
-running_into x safe u len v (Over _ b base none before) =
-    running_at_base x safe v b base ∙ ap (λ (k : ℕ). (state_at x b.old k).running) none ∙ running_into x safe u len b.old before
+pub kept_into : (x : Lists) → AreSafe x → (u : ViewId) (len : ℕ) (v : ViewId) → Continues x u len v → ((state_at x v 0).members ≡ (state_at x u len).members) × ((state_at x v 0).running ≡ (state_at x u len).running)
+kept_into x safe u len v (Next _ b base old at) =
+    let k = kept_at_base x safe v b base in
+    (k.0 ∙ ap (λ (z : ViewId × ℕ). (state_at x z.0 z.1).members) (λ z. (old z, at z)), k.1 ∙ ap (λ (z : ViewId × ℕ). (state_at x z.0 z.1).running) (λ z. (old z, at z)))
+kept_into x safe u len v (Over _ b base none before) =
+    let k = kept_at_base x safe v b base in
+    let rest = kept_into x safe u len b.old before in
+    (k.0 ∙ ap (λ (j : ℕ). (state_at x b.old j).members) none ∙ rest.0, k.1 ∙ ap (λ (j : ℕ). (state_at x b.old j).running) none ∙ rest.1)
 
 -- ---- a log, record by record
 

@@ -5,4 +5,5 @@ pub mod Asking
 pub mod Carrying
 pub mod Voting
 pub mod Copies
+pub mod Firsts
 pub mod Agreeing

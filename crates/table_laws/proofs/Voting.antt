@@ -21,7 +21,7 @@ use Rattle.table_client.proofs.MapLaws.{state_next, after_fits, empty_maps, begu
 use Rattle.table_client.proofs.SharingLaws.{rules_keep_the_map}
 use Rattle.table_laws.specs.Voting.{IsAt, SendsChunk, BallotsSendChunks}
 
-attrs_members : (s : GroupState) (o : Option Attrs) → (take_attrs s o).members ≡ s.members
+pub attrs_members : (s : GroupState) (o : Option Attrs) → (take_attrs s o).members ≡ s.members
 unfolding take_attrs
 attrs_members s None = refl
 attrs_members s (Some attrs) = refl
@@ -32,7 +32,7 @@ phase_members s value None = refl
 phase_members s value (Some run) = refl
 
 -- where a protocol runs behind an entry nothing took effect, and the members stayed
-still : (s : GroupState) (v : ViewId) (i : ℕ) (e : Entry) (run : Running) (m : Pairs) → (apply s v i e).running ≡ Some run → (message_map (effect_of e s.running) m ≡ m) × ((apply s v i e).members ≡ s.members)
+pub still : (s : GroupState) (v : ViewId) (i : ℕ) (e : Entry) (run : Running) (m : Pairs) → (apply s v i e).running ≡ Some run → (message_map (effect_of e s.running) m ≡ m) × ((apply s v i e).members ≡ s.members)
 unfolding apply begun
 still s v i (Once y) run m is = absurd (once_ends s v i y run is)
 still s v i (Begin y) run m is = (refl, attrs_members s (first_attrs s y))

@@ -1,5 +1,5 @@
 -- That all copies of a table agree: each whole one has the map of its group's list, at its view and length.
-use Rattle.std.specs.Prelude.{◌≡◌, List, find, Some, IfSome}
+use Rattle.std.specs.Prelude.{◌≡◌, ◌++◌, List, find, Some, IfSome}
 use Rattle.rsct_packet.specs.declared.ids.ProviderId.{ProviderId}
 use Rattle.rsct_packet.specs.Search.{Has}
 use Rattle.node_state.specs.declared.config.Config.{Config}
@@ -25,13 +25,20 @@ IsCopyIn logs p c = (x : ClientLogs) × Has x logs × (log : List Logged) × Has
 abbrev pub CopiesAgree : List Happened → Logs → Type 0
 CopiesAgree rs logs = (p : ProviderId) (c : Copied) → IsCopyIn logs p c → CopyAgrees rs c
 
--- Where all clients are table clients: after each run of events that may happen every copy agrees.
+-- Where all clients are table clients: of a run of events that may happen, every copy agrees with the lists of the whole run at each
+-- of its moments, that is after each front of its events.
 abbrev pub TablesAgree : Type 0
 TablesAgree =
-    (c : Config) (es : List Answered) (logs : Logs) → AllMayHappen c (events_in es) → RunHands ByRules (world_new c) es (empty_logs (world_new c)) logs → CopiesAgree (answered_after c es).trace logs
+    (c : Config) (all es fs : List Answered) (logs : Logs) → AllMayHappen c (events_in all) → all ≡ es ++ fs → RunHands ByRules (world_new c) es (empty_logs (world_new c)) logs → CopiesAgree (answered_after c all).trace logs
 
--- So two whole copies of one group with the same view and length have equal maps, of whichever clients of whichever nodes.
+-- the copy of a provider, as a log tells it at some moment of the run
+abbrev pub IsCopyAlong : Config → List Answered → ProviderId → Copied → Type 0
+IsCopyAlong c all p x =
+    (es : List Answered) × (fs : List Answered) × (all ≡ es ++ fs) × (logs : Logs) × RunHands ByRules (world_new c) es (empty_logs (world_new c)) logs × IsCopyIn logs p x
+
+-- So two whole copies of one group with the same view and length have equal maps, of whichever clients of whichever nodes, at whichever
+-- moments of the run.
 abbrev pub WholeCopiesAreEqual : Type 0
 WholeCopiesAreEqual =
-    (c : Config) (es : List Answered) (logs : Logs) → AllMayHappen c (events_in es) → RunHands ByRules (world_new c) es (empty_logs (world_new c)) logs
-    → (p q : ProviderId) (a b : Copied) (m k : Pairs) → IsCopyIn logs p a → IsCopyIn logs q b → a.group ≡ b.group → a.view ≡ b.view → a.len ≡ b.len → a.map ≡ Some m → b.map ≡ Some k → m ≡ k
+    (c : Config) (all : List Answered) → AllMayHappen c (events_in all) → (p q : ProviderId) (a b : Copied) (m k : Pairs) → IsCopyAlong c all p a → IsCopyAlong c all q b
+    → a.group ≡ b.group → a.view ≡ b.view → a.len ≡ b.len → a.map ≡ Some m → b.map ≡ Some k → m ≡ k

@@ -1,5 +1,6 @@
 pub mod Agreeing
 pub mod Carrying
+pub mod Firsts
 pub mod GroupLists
 pub mod Maps
 pub mod Notices

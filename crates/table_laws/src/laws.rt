@@ -1,6 +1,7 @@
 //! Laws of the map of a group in every run.
 ghost use Rattle.table_laws.specs.Agreeing.{TablesAgree, WholeCopiesAreEqual};
 ghost use Rattle.table_laws.specs.Carrying.{ThePresentAsked, ChunksAreCarried};
+ghost use Rattle.table_laws.specs.Firsts.{FirstJoinersAreWhole};
 ghost use Rattle.table_laws.specs.Maps.{MapsAreOne, MapsStayWhileRunning, MapsAreEmptyWithoutMembers, MapsExist, ListsSayMaps};
 ghost use Rattle.table_laws.specs.Notices.{NoticesAreOfLists};
 ghost use Rattle.table_laws.specs.Voting.{BallotsSendChunks};
@@ -59,12 +60,19 @@ pub fn ballots_send_chunks()
 {}
 
 /// In every run whose events may happen and whose clients are all table clients, a copy that is whole has the map of its group's list,
-/// at its view and length; so has each copy that a log tells, of clients that are gone later, too.
+/// at its view and length; so has each copy that a log tells at some moment of the run, of clients that are gone later, too.
 pub fn tables_agree()
     ensures { TablesAgree }
 {}
 
-/// So two whole copies of one group with the same view and length have equal maps, of whichever clients of whichever nodes.
+/// So two whole copies of one group with the same view and length have equal maps, of whichever clients of whichever nodes, at
+/// whichever moments of the run.
 pub fn whole_copies_are_equal()
     ensures { WholeCopiesAreEqual }
+{}
+
+/// A provider whose join found nobody in its group has a whole copy from then on, until it is told that it is dissolved: where the
+/// state behind the entry with which the join begins has no members but who joins by that entry.
+pub fn first_joiners_are_whole()
+    ensures { FirstJoinersAreWhole }
 {}
