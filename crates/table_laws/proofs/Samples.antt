@@ -1,12 +1,16 @@
--- The map of each place of the worked row.
-use Rattle.std.proofs.Common.{refl, ◌≡◌, inl, inr, ℕ, [], codes, ap, arith}
+-- The map of each place of the worked row, and whose join found nobody.
+use Rattle.std.proofs.Common.{refl, ◌≡◌, inl, inr, ℕ, true, false, [], codes, ap, arith}
 use Rattle.rsct_packet.specs.Fields.{bytes_text, u16_text}
 use Rattle.proposal_core.specs.Fold.{fold_opens}
 use Rattle.node_state.specs.declared.happened.Happened.{Happened}
 use Rattle.node_state.specs.declared.happened.Happened.TheVariants.{Base}
+use Rattle.client_callbacks.specs.Handed.{NoticeView}
+use Rattle.session_clients.specs.Notices.{notice_to}
 use Rattle.agreed_table.specs.Pairs.{written, encoding}
+use Rattle.table_client.specs.Rules.{fresh_copy, copy_after, rules_open}
+use Rattle.table_laws.specs.Firsts.{joined_first, HasWholeCopy}
 use Rattle.table_laws.specs.Maps.{HasNoBase, MapIs, Fresh, Based, Then}
-use Rattle.table_laws.specs.Samples.{view_at, db, joins, says, leaves, joined, row, one_pair, both_pairs}
+use Rattle.table_laws.specs.Samples.{view_at, first, db, joins, says, leaves, joined, row, one_pair, both_pairs, first_log, second, second_log}
 
 abbrev number_in : Happened → ℕ
 number_in (Base n v g u len s) = v.number
@@ -46,3 +50,15 @@ after_both = Then (view_at 2) 1 both_pairs 1 0 (says 3 (codes "y=2")) one_pair r
 pub after_leave : MapIs row db (view_at 2) 2 []
 unfolding fold_opens written
 after_leave = Then (view_at 2) 2 [] 1 1 leaves both_pairs refl refl (inl refl) after_both
+
+-- ---- whose join found nobody
+
+pub first_found_nobody : joined_first first first_log ≡ true
+first_found_nobody = refl
+
+pub first_is_whole : HasWholeCopy first first_log
+unfolding rules_open
+first_is_whole = let n : NoticeView = notice_to (view_at 1) db 0 joins joined first in (copy_after n (fresh_copy n), [], refl, refl)
+
+pub second_found_somebody : joined_first second second_log ≡ false
+second_found_somebody = refl

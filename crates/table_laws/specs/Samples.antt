@@ -8,7 +8,8 @@ use Rattle.proposal_core.specs.declared.entry.Entry.{Entry}
 use Rattle.proposal_core.specs.declared.entry.Entry.TheVariants.{Once}
 use Rattle.proposal_core.specs.declared.group_state.GroupState.{GroupState}
 use Rattle.node_state.specs.declared.happened.Happened.{Happened}
-use Rattle.node_state.specs.declared.happened.Happened.TheVariants.{Base, Put}
+use Rattle.node_state.specs.declared.happened.Happened.TheVariants.{Base, Put, Heard}
+use Rattle.node_state.specs.Handed.{Logged}
 use Rattle.agreed_table.specs.Pairs.{Pairs}
 
 abbrev pub view_at : ℕ → ViewId
@@ -43,3 +44,16 @@ one_pair = (codes "x", codes "1") ∷ []
 
 abbrev pub both_pairs : Pairs
 both_pairs = (codes "x", codes "1") ∷ (codes "y", codes "2") ∷ []
+
+-- ---- whose join found nobody
+
+-- the first provider's join, as its client's log tells it
+abbrev pub first_log : List Logged
+first_log = record { what = Heard first (view_at 1) db 0 joins (first ∷ []) []; after = joined } ∷ []
+
+abbrev pub second : ProviderId
+second = record { node = 2; inc = 1; instance = 1; join = 1 }
+
+-- and that of one who joins behind it
+abbrev pub second_log : List Logged
+second_log = record { what = Heard second (view_at 1) db 1 (Once (Join (second ∷ []) empty_attrs None)) (first ∷ second ∷ []) []; after = record joined { members = first ∷ second ∷ [] } } ∷ []
