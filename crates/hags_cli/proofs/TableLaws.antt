@@ -1,25 +1,42 @@
 -- From what each part of a play with tables says to what the command says.
 use Rattle.std.proofs.Common.{◌≡◌, ℕ, ◌≤◌, Bool, true, false, List, [], ◌∷◌, ◌++◌, length, Option, Some, None, IfSome, IfOk, IsErr, IsErrAnd, refl, sym, ap, subst, ◌∙◌, inl, inr, append-nil}
-use Rattle.std.specs.Prelude.{Result, Ok, Err}
+use Rattle.std.specs.Prelude.{Result, Ok, Err, find, map}
 use Rattle.std.specs.Io.KnownBytes.{Appends, Keeps, IsAtEnd}
 use Rattle.std.proofs.KnownBytes.{Keeps-refl, Keeps-trans, Appends-nil, Appends-trans}
 use Rattle.hags_io.specs.Edges.{GrowsByFront, Rose}
+use Rattle.rsct_packet.specs.declared.ids.ViewId.{ViewId}
+use Rattle.rsct_packet.specs.Search.{Has}
+use Rattle.session_clients.specs.Clients.{StandFor}
 use Rattle.node_state.specs.declared.happened.Happened.{Happened}
+use Rattle.node_state.specs.Handed.{Logged}
+use Rattle.entry_delivery.specs.Received.{handed_by}
+use Rattle.node_core.specs.Node.{NodeView}
 use Rattle.world_model.specs.declared.script.Script.{Script}
 use Rattle.world_model.specs.Reading.{IsScript, input_limit, script_of}
 use Rattle.world_model.specs.Kept.{most_kept}
 use Rattle.world_model.specs.World.{world_new}
+use Rattle.world_laws.specs.world_answers.Answers.{events_in, answered_after}
+use Rattle.world_laws.specs.world_answers.Plays.{AnsweredPlay}
+use Rattle.world_laws.specs.world_answers.Limits.{answered_in}
+use Rattle.run_hands.specs.Hands.{ClientLogs, Logs, LogsStand}
 use Rattle.transcript.specs.declared.kinds.Kinds.{Kinds}
 use Rattle.transcript.specs.Kinds.{kinds_text, no_kinds}
 use Rattle.transcript.proofs.KindLaws.{no_lines}
 use Rattle.net_script.specs.declared.world.World.{World}
+use Rattle.net_script.specs.Safe.{AllMayHappen}
 use Rattle.net_script.specs.Standing.{Stands}
-use Rattle.net_script.specs.Ends.{PlayedAs, records_in, records_within}
+use Rattle.net_script.specs.Ends.{ClientsStand, PlayedAs, records_in, records_within}
 use Rattle.net_script.specs.PlaySafe.{MayPlay}
 use Rattle.net_script.proofs.PlaySafeLaws.{scripts_may_play}
+use Rattle.net_script.proofs.SafePlays.{play_may}
 use Rattle.play_state.specs.declared.play_fault.PlayFault.{PlayFault}
 use Rattle.play_state.specs.declared.play_fault.PlayFault.TheVariants as play_fault
-use Rattle.table_client.specs.Rules.{Copied, ByRules}
+use Rattle.agreed_table.specs.Pairs.{Pairs}
+use Rattle.table_client.specs.Rules.{Copied, is_copy, copies_after, ByRules}
+use Rattle.table_client.proofs.ApartLaws.{copies_are_distinct}
+use Rattle.table_laws.specs.Maps.{MapIs}
+use Rattle.table_laws.proofs.RunMaps.{maps_are_one}
+use Rattle.table_laws.proofs.Agreeing.{tables_agree}
 use Rattle.link_use.specs.declared.stop.Stop.TheVariants as stop
 use Rattle.script_reader.specs.Reading.{FailsScript}
 use Rattle.script_reader.specs.declared.faults.ScriptFault.{ScriptFault}
@@ -30,7 +47,7 @@ use Rattle.hags_cli.specs.declared.input.InputFault.{InputFault}
 use Rattle.hags_cli.specs.declared.input.InputFault.TheVariants as input_fault
 use Rattle.hags_cli.specs.Endings.{ending_of_input, ending_of_script, ending_of_play}
 use Rattle.hags_cli.specs.Run.{ReadsAs, InputFails}
-use Rattle.hags_cli.specs.Tables.{tables_text, TablesPlayed, TablesEnd, PlaysTables, TablesPast, MayHaveTables, TablesEnds}
+use Rattle.hags_cli.specs.Tables.{tables_text, WorldAgrees, WholeAreEqual, TablesPlayed, TablesEnd, PlaysTables, TablesPast, MayHaveTables, TablesEnds}
 use Rattle.hags_cli.specs.Tasks.{TellEnds}
 use Rattle.hags_cli.proofs.EndLaws.{ended_by}
 use Rattle.hags_cli.proofs.RunLaws.{reads_script, has_bad_line, at_end}
@@ -52,6 +69,38 @@ grows_none a b g = appends_none a b (subst (Appends a b) (empty_front g.front g.
 no_text : (k : Kinds) → k ≡ no_kinds → (rs : List Happened) → kinds_text k rs ≡ []
 no_text k e rs = ap (λ (j : Kinds). kinds_text j rs) e ∙ no_lines rs
 
+-- ---- the copies of its clients
+
+-- each of the clients stands for what a log of these tells
+of_logs : (all : List (List Copied)) (logs : List (List Logged)) → StandFor ByRules all (map handed_by logs) → (copies : List Copied) → Has copies all → (log : List Logged) × Has log logs × ByRules copies (handed_by log)
+of_logs [] logs stand copies has = absurd has
+of_logs (x ∷ all) [] stand copies has = absurd stand
+of_logs (x ∷ all) (log ∷ logs) stand copies (inl same) = (log, inl refl, subst (λ (y : List Copied). ByRules y (handed_by log)) (sym same) stand.0)
+of_logs (x ∷ all) (log ∷ logs) stand copies (inr has) = let found = of_logs all logs stand.1 copies has in (found.0, inr found.1, found.2)
+
+of_nodes : (ns : List (NodeView (List Copied))) (logs : Logs) → LogsStand ByRules ns logs → (n : NodeView (List Copied)) → Has n ns → (copies : List Copied) → Has copies n.clients
+    → (x : ClientLogs) × Has x logs × (log : List Logged) × Has log x.logs × ByRules copies (handed_by log)
+of_nodes [] logs stand n up copies has = absurd up
+of_nodes (m ∷ ns) [] stand n up copies has = absurd stand
+of_nodes (m ∷ ns) (x ∷ logs) stand n (inl same) copies has =
+    let found = of_logs m.clients x.logs stand.1.stand copies (subst (λ (y : NodeView (List Copied)). Has copies y.clients) same has) in
+    (x, inl refl, found.0, found.1, found.2)
+of_nodes (m ∷ ns) (x ∷ logs) stand n (inr up) copies has = let found = of_nodes ns logs stand.2 n up copies has in (found.0, inr found.1, found.2, found.3, found.4)
+
+module _ (s : Script) (w : World (List Copied)) (play : AnsweredPlay) (may : AllMayHappen s.config (events_in (answered_in play))) where
+  all_agree : ClientsStand ByRules (Ok w) s.config play → WorldAgrees (answered_after s.config (answered_in play)).trace w
+  all_agree (logs, hands, stand) c (n, up, copies, kept, has) =
+      let told = of_nodes w.nodes logs stand n up copies kept in
+      let found : find (is_copy c.provider) (copies_after (handed_by told.2)) ≡ Some c = copies_are_distinct (handed_by told.2) c (subst (Has c) told.4.copies has) in
+      tables_agree s.config (answered_in play) logs may hands c.provider c (told.0, told.1, told.2, told.3, found)
+
+  all_equal : WorldAgrees (answered_after s.config (answered_in play)).trace w → WholeAreEqual w
+  all_equal agree a b m k of_a of_b groups views lens whole_a whole_b =
+      let rs = (answered_after s.config (answered_in play)).trace in
+      let of_m : MapIs rs a.group a.view a.len m = subst (λ (o : Option Pairs). IfSome o (MapIs rs a.group a.view a.len)) whole_a (agree a of_a) in
+      let of_k : MapIs rs b.group b.view b.len k = subst (λ (o : Option Pairs). IfSome o (MapIs rs b.group b.view b.len)) whole_b (agree b of_b) in
+      maps_are_one s.config (answered_in play) may a.group a.view a.len m k of_m (subst (λ (x : List ℕ × ViewId × ℕ). MapIs rs x.0 x.1 x.2 k) (λ z. (sym groups z, sym views z, sym lens z)) of_k)
+
 -- what the play says of its end
 abbrev pub PlayedTables : Result (World (List Copied)) PlayFault → Kinds → Script → Option (List ℕ) → Option (List ℕ) → Type 0
 PlayedTables r k s old new = PlayedAs (λ c. None) (λ items. None) ByRules r k most_kept s old new
@@ -61,7 +110,10 @@ PlayedNothing r s old new = (new ≡ old) × IfOk r (λ w. Stands (λ c. None) (
 
 module _ (k : Kinds) (none : k ≡ no_kinds) (s : Script) (old new : Option (List ℕ)) where
   tables_played : (w : World (List Copied)) → MayPlay s → PlayedTables (Ok w) k s old new → TablesPlayed s w
-  tables_played w may p = record { play = p.play; lines = p.lines; within = p.ends.0; stands = p.ends.3; hands = p.hands; safe = p.safe may }
+  tables_played w may p =
+      let happens : AllMayHappen s.config (events_in (answered_in p.play)) = play_may (λ items. None) s p.play p.lines may in
+      let agree : WorldAgrees (answered_after s.config (answered_in p.play)).trace w = all_agree s w p.play happens p.hands in
+      record { play = p.play; lines = p.lines; within = p.ends.0; stands = p.ends.3; hands = p.hands; safe = p.safe may; agree = agree; equal = all_equal s w p.play happens agree }
 
   tables_ended : (w : World (List Copied)) → MayPlay s → (s.begun ≡ true → PlayedTables (Ok w) k s old new) → (s.begun ≡ false → PlayedNothing (Ok w) s old new) → TablesEnd s w
   tables_ended w may played nothing = (λ e. tables_played w may (played e), λ e. (nothing e).1)

@@ -2,10 +2,13 @@
 use Rattle.std.specs.Prelude.{◌≡◌, ℕ, ◌⊎◌, true, false, List, [], map, find, flat_map, Option, Some, None, IfSome, Result, Ok, Err}
 use Rattle.std.specs.Io.KnownBytes.{Appends, Keeps, IsAtEnd}
 use Rattle.hags_io.specs.Edges.{GrowsByFront}
+use Rattle.rsct_packet.specs.Search.{Has}
+use Rattle.node_state.specs.declared.happened.Happened.{Happened}
 use Rattle.world_model.specs.declared.script.Script.{Script}
 use Rattle.world_model.specs.Reading.{IsScript, IsNone, script_of}
 use Rattle.world_model.specs.Kept.{most_kept}
 use Rattle.world_model.specs.World.{world_new}
+use Rattle.world_laws.specs.world_answers.Answers.{answered_after}
 use Rattle.world_laws.specs.world_answers.Plays.{AnsweredPlay, starting, PlaysLines}
 use Rattle.world_laws.specs.world_answers.Limits.{answered_in, limited}
 use Rattle.session_clients.specs.Clients.{client_named}
@@ -14,7 +17,9 @@ use Rattle.net_script.specs.declared.world.World.{World}
 use Rattle.net_script.specs.Standing.{is_me, number_in, Stands}
 use Rattle.net_script.specs.Ends.{ClientsStand, records_in}
 use Rattle.net_script.specs.Safe.{IsSafe}
+use Rattle.agreed_table.specs.Pairs.{Pairs}
 use Rattle.table_client.specs.Rules.{Copied, ByRules}
+use Rattle.table_laws.specs.Agreeing.{CopyAgrees}
 use Rattle.table_lines.specs.Lines.{copies_text}
 use Rattle.table_lines.specs.Names.{names_of}
 use Rattle.link_use.specs.declared.stop.Stop.TheVariants as stop
@@ -42,9 +47,22 @@ tables_text g w = flat_map (λ k. node_text g (find (is_me k) w.nodes)) (map num
 
 -- ---- the play
 
+-- a copy that some client of the world keeps
+abbrev pub IsCopyOf : World (List Copied) → Copied → Type 0
+IsCopyOf w c = (n : NodeView (List Copied)) × Has n w.nodes × (copies : List Copied) × Has copies n.clients × Has c copies
+
+-- each that is whole has the map of its group's list, at its view and length
+abbrev pub WorldAgrees : List Happened → World (List Copied) → Type 0
+WorldAgrees rs w = (c : Copied) → IsCopyOf w c → CopyAgrees rs c
+
+-- so two whole copies of one group at one view and length have equal maps, of whichever clients of whichever nodes
+abbrev pub WholeAreEqual : World (List Copied) → Type 0
+WholeAreEqual w =
+    (a b : Copied) (m k : Pairs) → IsCopyOf w a → IsCopyOf w b → a.group ≡ b.group → a.view ≡ b.view → a.len ≡ b.len → a.map ≡ Some m → b.map ≡ Some k → m ≡ k
+
 -- The script was played with clients that keep tables, and its packets were within the limit: with what these answered its lines
 -- come to this play, which is safe, and this is its world. Each of its clients stands for what the run handed to it, and has
--- filled its ballots by the rules of tables.
+-- filled its ballots by the rules of tables; and their copies agree.
 pub record TablesPlayed (s : Script) (w : World (List Copied)) : Type 0 where
   pub play : AnsweredPlay
   pub lines : PlaysLines (λ items. None) (starting s.config) s.lines play
@@ -52,6 +70,8 @@ pub record TablesPlayed (s : Script) (w : World (List Copied)) : Type 0 where
   pub stands : Stands (λ c. None) (λ items. None) w play.world
   pub hands : ClientsStand ByRules (Ok w) s.config play
   pub safe : IsSafe s.config (answered_in play) (records_in play)
+  pub agree : WorldAgrees (answered_after s.config (answered_in play)).trace w
+  pub equal : WholeAreEqual w
 
 -- or the script has no `begin` line, and this is the world with which its run would begin
 abbrev pub TablesEnd : Script → World (List Copied) → Type 0

@@ -1,5 +1,5 @@
 -- The copies of different providers.
-use Rattle.std.proofs.Common.{◌≡◌, Bool, true, false, cond, List, [], ◌∷◌, Option, Some, None, refl, sym, ap, subst, ◌∙◌, arith}
+use Rattle.std.proofs.Common.{◌≡◌, Bool, true, false, cond, List, [], ◌∷◌, Option, Some, None, refl, sym, ap, subst, ◌∙◌, inl, inr, arith}
 use Rattle.std.specs.Prelude.{find, ◌&&◌, if◌then◌else◌}
 use Rattle.std.specs.List.{fold}
 use Rattle.std.specs.Option.{unwrap_or}
@@ -7,12 +7,12 @@ use Rattle.std.proofs.lemmas.Bool.Decides.{nat_tests}
 use Rattle.rsct_packet.specs.declared.ids.ProviderId.{ProviderId}
 use Rattle.rsct_packet.specs.Lists.{drop_where}
 use Rattle.rsct_packet.specs.Providers.{same_provider}
-use Rattle.rsct_packet.specs.Search.{insert_before}
+use Rattle.rsct_packet.specs.Search.{Has, insert_before}
 use Rattle.client_callbacks.specs.declared.told.Told.{Told}
 use Rattle.client_callbacks.specs.declared.told.Told.TheVariants as told
 use Rattle.client_callbacks.specs.Handed.{NoticeView, Handed, Notified, Informed}
 use Rattle.table_client.specs.Rules.{Copied, is_copy, fresh_copy, copy_before, copy_after, comes_after, is_dissolved, noticed, informed, copies_then, copies_after}
-use Rattle.table_client.specs.Apart.{dissolves, own_then, CopiesAreApart}
+use Rattle.table_client.specs.Apart.{dissolves, own_then, CopiesAreApart, CopiesAreDistinct}
 use Rattle.table_client.proofs.ClientLaws.{provider_is, before_is, after_keeps}
 
 same_self : (p : ProviderId) → same_provider p p ≡ true
@@ -172,3 +172,26 @@ along (Informed t ∷ hs) copies p apart =
 pub copies_are_apart : CopiesAreApart
 unfolding copies_after
 copies_are_apart hs p = along hs [] p tt
+
+stay_apart : (hs : List Handed) (copies : List Copied) → AreApart copies → AreApart (fold copies_then copies hs)
+stay_apart [] copies apart = apart
+stay_apart (Notified n f ∷ hs) copies apart = stay_apart hs (noticed n copies) (noticed_apart n copies apart)
+stay_apart (Informed t ∷ hs) copies apart = stay_apart hs (informed t copies) (told_apart t copies apart)
+
+found_first : (c : Copied) (xs : List Copied) → find (is_copy c.provider) (c ∷ xs) ≡ Some c
+found_first c xs = rw same_self c.provider refl
+
+found : (xs : List Copied) → AreApart xs → (c : Copied) → Has c xs → find (is_copy c.provider) xs ≡ Some c
+found [] apart c has = absurd has
+found (x ∷ xs) apart c (inl same) = subst (λ (y : Copied). find (is_copy c.provider) (y ∷ xs) ≡ Some c) same (found_first c xs)
+found (x ∷ xs) apart c (inr has) = by (is_copy c.provider x) refl (found xs apart.1 c has)
+  where
+    by : (b : Bool) → is_copy c.provider x ≡ b → find (is_copy c.provider) xs ≡ Some c → cond b (Some x) (find (is_copy c.provider) xs) ≡ Some c
+    by true e rest =
+        let none : find (is_copy c.provider) xs ≡ None = subst (λ (p : ProviderId). find (is_copy p) xs ≡ None) (provider_is x.provider c.provider e) apart.0 in
+        absurd (cc)
+    by false e rest = rest
+
+pub copies_are_distinct : CopiesAreDistinct
+unfolding copies_after
+copies_are_distinct hs c has = found (fold copies_then [] hs) (stay_apart hs [] tt) c has

@@ -242,14 +242,14 @@ some_map None P Q f h = h
 some_map (Some m) P Q f h = f m h
 
 -- where a view goes on from a place, its map and what runs are those of the place
-map_into : (x : Lists) (u : ViewId) (len : ℕ) (v : ViewId) (m : Pairs) → Continues x u len v → MapIs x u len m → MapIs x v 0 m
+pub map_into : (x : Lists) (u : ViewId) (len : ℕ) (v : ViewId) (m : Pairs) → Continues x u len v → MapIs x u len m → MapIs x v 0 m
 map_into x u len v m (Next _ b base old at) h = Based v 0 m b refl base (subst (λ (z : ViewId × ℕ). MapIs x z.0 z.1 m) (λ z. (sym old z, sym at z)) h)
 map_into x u len v m (Over _ b base none before) h = Based v 0 m b refl base (subst (λ (k : ℕ). MapIs x b.old k m) (sym none) (map_into x u len b.old m before h))
 
 running_at_base : (x : Lists) → AreSafe x → (v : ViewId) (b : Origin) → x.base v ≡ Some b → (state_at x v 0).running ≡ (state_at x b.old b.len).running
 running_at_base x safe v b base = ap (λ (s : GroupState). s.running) (state_first x v 0 refl ∙ ap base_state base) ∙ (safe.kept v b base).1
 
-running_into : (x : Lists) → AreSafe x → (u : ViewId) (len : ℕ) (v : ViewId) → Continues x u len v → (state_at x v 0).running ≡ (state_at x u len).running
+pub running_into : (x : Lists) → AreSafe x → (u : ViewId) (len : ℕ) (v : ViewId) → Continues x u len v → (state_at x v 0).running ≡ (state_at x u len).running
 running_into x safe u len v (Next _ b base old at) = running_at_base x safe v b base ∙ ap (λ (z : ViewId × ℕ). (state_at x z.0 z.1).running) (λ z. (old z, at z))
 running_into x safe u len v (Over _ b base none before) =
     running_at_base x safe v b base ∙ ap (λ (k : ℕ). (state_at x b.old k).running) none ∙ running_into x safe u len b.old before

@@ -1,7 +1,7 @@
 //! What the rules make of a map.
 ghost use Rattle.table_client.specs.Maps.{Lists, AreSafe, MapsHold};
 ghost use Rattle.table_client.specs.Sharing.{RulesKeepTheMap};
-ghost use Rattle.table_client.specs.Apart.{CopiesAreApart};
+ghost use Rattle.table_client.specs.Apart.{CopiesAreApart, CopiesAreDistinct};
 ghost use Rattle.table_client.specs.Following.{CopiesFollow};
 
 /// Of the lists and bases of one group, where entries fit and a base keeps the members and what runs: the map at a place is
@@ -22,6 +22,12 @@ pub fn rules_keep_the_map()
 #[tactic(auto, using(crate::proofs::ApartLaws::copies_are_apart))]
 pub fn copies_are_apart()
     ensures { CopiesAreApart }
+{}
+
+/// No two copies of a client are of one provider.
+#[tactic(auto, using(crate::proofs::ApartLaws::copies_are_distinct))]
+pub fn copies_are_distinct()
+    ensures { CopiesAreDistinct }
 {}
 
 /// A copy whose provider hears the lists of its group, one entry after another from its own join on and from view to view,

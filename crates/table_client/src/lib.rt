@@ -14,4 +14,6 @@ mod tests;
 
 pub use client::TableClient;
 pub use copies::TableCopy;
-pub use laws::{copies_are_apart, copies_follow, maps_hold, rules_keep_the_map};
+pub use laws::{
+    copies_are_apart, copies_are_distinct, copies_follow, maps_hold, rules_keep_the_map,
+};
