@@ -179,7 +179,7 @@ stay_apart (Notified n f ∷ hs) copies apart = stay_apart hs (noticed n copies)
 stay_apart (Informed t ∷ hs) copies apart = stay_apart hs (informed t copies) (told_apart t copies apart)
 
 found_first : (c : Copied) (xs : List Copied) → find (is_copy c.provider) (c ∷ xs) ≡ Some c
-found_first c xs = rw same_self c.provider refl
+found_first c xs = rw (same_self c.provider) refl
 
 found : (xs : List Copied) → AreApart xs → (c : Copied) → Has c xs → find (is_copy c.provider) xs ≡ Some c
 found [] apart c has = absurd has
