@@ -92,7 +92,7 @@ module _ (s : Script) (w : World (List Copied)) (play : AnsweredPlay) (may : All
   all_agree (logs, hands, stand) c (n, up, copies, kept, has) =
       let told = of_nodes w.nodes logs stand n up copies kept in
       let found : find (is_copy c.provider) (copies_after (handed_by told.2)) ≡ Some c = copies_are_distinct (handed_by told.2) c (subst (Has c) told.4.copies has) in
-      tables_agree s.config (answered_in play) logs may hands c.provider c (told.0, told.1, told.2, told.3, found)
+      tables_agree s.config (answered_in play) (answered_in play) [] logs may (sym (append-nil (answered_in play))) hands c.provider c (told.0, told.1, told.2, told.3, found)
 
   all_equal : WorldAgrees (answered_after s.config (answered_in play)).trace w → WholeAreEqual w
   all_equal agree a b m k of_a of_b groups views lens whole_a whole_b =
