@@ -241,18 +241,24 @@ some_map : (o : Option Pairs) (P Q : Pairs → Type 0) → ((m : Pairs) → P m 
 some_map None P Q f h = h
 some_map (Some m) P Q f h = f m h
 
--- where a view goes on from a place, its map and what runs are those of the place
+-- where a view goes on from a place, its map, its members and what runs are those of the place
 pub map_into : (x : Lists) (u : ViewId) (len : ℕ) (v : ViewId) (m : Pairs) → Continues x u len v → MapIs x u len m → MapIs x v 0 m
 map_into x u len v m (Next _ b base old at) h = Based v 0 m b refl base (subst (λ (z : ViewId × ℕ). MapIs x z.0 z.1 m) (λ z. (sym old z, sym at z)) h)
 map_into x u len v m (Over _ b base none before) h = Based v 0 m b refl base (subst (λ (k : ℕ). MapIs x b.old k m) (sym none) (map_into x u len b.old m before h))
 
-running_at_base : (x : Lists) → AreSafe x → (v : ViewId) (b : Origin) → x.base v ≡ Some b → (state_at x v 0).running ≡ (state_at x b.old b.len).running
-running_at_base x safe v b base = ap (λ (s : GroupState). s.running) (state_first x v 0 refl ∙ ap base_state base) ∙ (safe.kept v b base).1
+kept_at_base : (x : Lists) → AreSafe x → (v : ViewId) (b : Origin) → x.base v ≡ Some b → ((state_at x v 0).members ≡ (state_at x b.old b.len).members) × ((state_at x v 0).running ≡ (state_at x b.old b.len).running)
+kept_at_base x safe v b base =
+    let first : state_at x v 0 ≡ b.state = state_first x v 0 refl ∙ ap base_state base in
+    (ap (λ (s : GroupState). s.members) first ∙ (safe.kept v b base).0, ap (λ (s : GroupState). s.running) first ∙ (safe.kept v b base).1)
 
-pub running_into : (x : Lists) → AreSafe x → (u : ViewId) (len : ℕ) (v : ViewId) → Continues x u len v → (state_at x v 0).running ≡ (state_at x u len).running
-running_into x safe u len v (Next _ b base old at) = running_at_base x safe v b base ∙ ap (λ (z : ViewId × ℕ). (state_at x z.0 z.1).running) (λ z. (old z, at z))
-running_into x safe u len v (Over _ b base none before) =
-    running_at_base x safe v b base ∙ ap (λ (k : ℕ). (state_at x b.old k).running) none ∙ running_into x safe u len b.old before
+pub kept_into : (x : Lists) → AreSafe x → (u : ViewId) (len : ℕ) (v : ViewId) → Continues x u len v → ((state_at x v 0).members ≡ (state_at x u len).members) × ((state_at x v 0).running ≡ (state_at x u len).running)
+kept_into x safe u len v (Next _ b base old at) =
+    let k = kept_at_base x safe v b base in
+    (k.0 ∙ ap (λ (z : ViewId × ℕ). (state_at x z.0 z.1).members) (λ z. (old z, at z)), k.1 ∙ ap (λ (z : ViewId × ℕ). (state_at x z.0 z.1).running) (λ z. (old z, at z)))
+kept_into x safe u len v (Over _ b base none before) =
+    let k = kept_at_base x safe v b base in
+    let rest = kept_into x safe u len b.old before in
+    (k.0 ∙ ap (λ (j : ℕ). (state_at x b.old j).members) none ∙ rest.0, k.1 ∙ ap (λ (j : ℕ). (state_at x b.old j).running) none ∙ rest.1)
 
 before_of : (x : Lists) → AreSafe x → (c : Copied) (n : NoticeView) → Tells x c n → Comes x c n → Before x c n
 before_of x safe c n tells (First own part idle none) =
@@ -272,7 +278,7 @@ before_of x safe c n tells (Onward other is view place) =
 before_of x safe c n tells (Into other is start into) =
     record {
       map = some_map c.map (MapIs x c.view c.len) (MapIs x n.view n.place) (λ m h. subst (λ (k : ℕ). MapIs x n.view k m) (sym start) (map_into x c.view c.len n.view m into h)) is.map;
-      running = is.running ∙ sym (running_into x safe c.view c.len n.view into) ∙ ap (λ (k : ℕ). (state_at x n.view k).running) (sym start);
+      running = is.running ∙ sym (kept_into x safe c.view c.len n.view into).1 ∙ ap (λ (k : ℕ). (state_at x n.view k).running) (sym start);
       chunks = is.chunks;
       new = λ e. absurd (let both : true ≡ false = sym e ∙ other in cc);
     }

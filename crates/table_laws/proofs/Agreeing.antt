@@ -38,7 +38,7 @@ use Rattle.table_client.specs.Maps as maps
 use Rattle.table_client.specs.Following.{WhereOwnJoins, CopyIs, begins_own, Continues, Comes, Onward, Into, Tells}
 use Rattle.table_client.specs.Following as following
 use Rattle.table_client.proofs.ApartLaws.{copies_are_apart}
-use Rattle.table_client.proofs.FollowingLaws.{copies_follow}
+use Rattle.table_client.proofs.FollowingLaws.{map_into, kept_into, copies_follow}
 use Rattle.table_client.proofs.MapLaws.{state_next}
 use Rattle.run_safety.specs.Past.{records_of, state_at}
 use Rattle.run_safety.specs.Group.{Origin, Line, Noted}
@@ -85,7 +85,7 @@ use Rattle.table_laws.specs.Maps.{MapIs, group_lists, ListsSay}
 use Rattle.table_laws.specs.Notices.{IsOfLists}
 use Rattle.table_laws.specs.Voting.{IsAt, SendsChunk}
 use Rattle.table_laws.proofs.Carrying.{chunks_are_carried}
-use Rattle.table_laws.proofs.Copies.{Said, copy_begins, map_into, kept_into, after_place, after_running, Front, front_of, own_more, filled_behind}
+use Rattle.table_laws.proofs.Copies.{Said, copy_begins, after_place, after_running, Front, front_of, own_more, filled_behind}
 use Rattle.table_laws.proofs.Firsts.{AloneIf, first_whole, whole_on}
 use Rattle.table_laws.proofs.GroupLists.{found_is}
 use Rattle.table_laws.proofs.RunMaps.{puts_entered, is_safe, trace_is, state_before, maps_are_one, lists_say_maps, notices_are_of_lists}

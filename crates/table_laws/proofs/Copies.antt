@@ -22,10 +22,10 @@ use Rattle.entry_delivery.specs.Received.{ballot_behind, handed_if, handed_by}
 use Rattle.agreed_table.specs.Pairs.{Pairs}
 use Rattle.table_client.specs.Rules.{Copied, fresh_copy, closed_in, is_own, kept_of, with_chunk, with_effect, with_members, with_place, copy_after, effect_of, joined_map, taken, copies_then, noticed, informed, FilledBy}
 use Rattle.table_client.specs.Apart.{own_then}
-use Rattle.table_client.specs.Maps.{Origin, base_state, Lists, state_at, AreSafe, message_map, MapIs, Based, Then}
+use Rattle.table_client.specs.Maps.{Lists, state_at, AreSafe, message_map, MapIs, Then}
 use Rattle.table_client.specs.Sharing.{AreChunksOf}
-use Rattle.table_client.specs.Following.{CopyIs, begins_own, Continues, Next, Over, Tells, First}
-use Rattle.table_client.proofs.MapLaws.{state_next, state_first}
+use Rattle.table_client.specs.Following.{CopyIs, begins_own, Tells, First}
+use Rattle.table_client.proofs.MapLaws.{state_next}
 use Rattle.table_client.proofs.FollowingLaws.{copies_follow}
 
 -- ---- what a notice keeps
@@ -141,27 +141,6 @@ copy_begins x safe n said = by (begins_own n.provider n.entry) refl
           running = running ∙ (λ i. (state_at x (sym view i) (sym len i)).running);
           chunks = λ run m runs own at. subst (AreChunksOf m) (sym k.1) tt;
         }
-
--- ---- from view to view
-
--- where a view goes on from a place, its map, its members and what runs are those of the place
-pub map_into : (x : Lists) (u : ViewId) (len : ℕ) (v : ViewId) (m : Pairs) → Continues x u len v → MapIs x u len m → MapIs x v 0 m
-map_into x u len v m (Next _ b base old at) h = Based v 0 m b refl base (subst (λ (z : ViewId × ℕ). MapIs x z.0 z.1 m) (λ z. (sym old z, sym at z)) h)
-map_into x u len v m (Over _ b base none before) h = Based v 0 m b refl base (subst (λ (k : ℕ). MapIs x b.old k m) (sym none) (map_into x u len b.old m before h))
-
-kept_at_base : (x : Lists) → AreSafe x → (v : ViewId) (b : Origin) → x.base v ≡ Some b → ((state_at x v 0).members ≡ (state_at x b.old b.len).members) × ((state_at x v 0).running ≡ (state_at x b.old b.len).running)
-kept_at_base x safe v b base =
-    let first : state_at x v 0 ≡ b.state = state_first x v 0 refl ∙ ap base_state base in
-    (ap (λ (s : GroupState). s.members) first ∙ (safe.kept v b base).0, ap (λ (s : GroupState). s.running) first ∙ (safe.kept v b base).1)
-
-pub kept_into : (x : Lists) → AreSafe x → (u : ViewId) (len : ℕ) (v : ViewId) → Continues x u len v → ((state_at x v 0).members ≡ (state_at x u len).members) × ((state_at x v 0).running ≡ (state_at x u len).running)
-kept_into x safe u len v (Next _ b base old at) =
-    let k = kept_at_base x safe v b base in
-    (k.0 ∙ ap (λ (z : ViewId × ℕ). (state_at x z.0 z.1).members) (λ z. (old z, at z)), k.1 ∙ ap (λ (z : ViewId × ℕ). (state_at x z.0 z.1).running) (λ z. (old z, at z)))
-kept_into x safe u len v (Over _ b base none before) =
-    let k = kept_at_base x safe v b base in
-    let rest = kept_into x safe u len b.old before in
-    (k.0 ∙ ap (λ (j : ℕ). (state_at x b.old j).members) none ∙ rest.0, k.1 ∙ ap (λ (j : ℕ). (state_at x b.old j).running) none ∙ rest.1)
 
 -- ---- a log, record by record
 
