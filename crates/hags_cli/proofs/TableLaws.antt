@@ -36,7 +36,7 @@ use Rattle.table_client.specs.Rules.{Copied, is_copy, copies_after, ByRules}
 use Rattle.table_client.proofs.ApartLaws.{copies_are_distinct}
 use Rattle.table_laws.specs.Maps.{MapIs}
 use Rattle.table_laws.proofs.RunMaps.{maps_are_one}
-use Rattle.table_laws.proofs.Agreeing.{tables_agree}
+use Rattle.table_laws.proofs.Agreeing.{tables_agree, first_joiners_are_whole}
 use Rattle.link_use.specs.declared.stop.Stop.TheVariants as stop
 use Rattle.script_reader.specs.Reading.{FailsScript}
 use Rattle.script_reader.specs.declared.faults.ScriptFault.{ScriptFault}
@@ -113,7 +113,7 @@ module _ (k : Kinds) (none : k ≡ no_kinds) (s : Script) (old new : Option (Lis
   tables_played w may p =
       let happens : AllMayHappen s.config (events_in (answered_in p.play)) = play_may (λ items. None) s p.play p.lines may in
       let agree : WorldAgrees (answered_after s.config (answered_in p.play)).trace w = all_agree s w p.play happens p.hands in
-      record { play = p.play; lines = p.lines; within = p.ends.0; stands = p.ends.3; hands = p.hands; safe = p.safe may; agree = agree; equal = all_equal s w p.play happens agree }
+      record { play = p.play; lines = p.lines; within = p.ends.0; stands = p.ends.3; hands = p.hands; safe = p.safe may; agree = agree; equal = all_equal s w p.play happens agree; firsts = first_joiners_are_whole s.config (answered_in p.play) p.hands.0 happens p.hands.1 }
 
   tables_ended : (w : World (List Copied)) → MayPlay s → (s.begun ≡ true → PlayedTables (Ok w) k s old new) → (s.begun ≡ false → PlayedNothing (Ok w) s old new) → TablesEnd s w
   tables_ended w may played nothing = (λ e. tables_played w may (played e), λ e. (nothing e).1)

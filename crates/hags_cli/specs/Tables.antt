@@ -20,6 +20,7 @@ use Rattle.net_script.specs.Safe.{IsSafe}
 use Rattle.agreed_table.specs.Pairs.{Pairs}
 use Rattle.table_client.specs.Rules.{Copied, ByRules}
 use Rattle.table_laws.specs.Agreeing.{CopyAgrees}
+use Rattle.table_laws.specs.Firsts.{FirstsAreWhole}
 use Rattle.table_lines.specs.Lines.{copies_text}
 use Rattle.table_lines.specs.Names.{names_of}
 use Rattle.link_use.specs.declared.stop.Stop.TheVariants as stop
@@ -62,7 +63,7 @@ WholeAreEqual w =
 
 -- The script was played with clients that keep tables, and its packets were within the limit: with what these answered its lines
 -- come to this play, which is safe, and this is its world. Each of its clients stands for what the run handed to it, and has
--- filled its ballots by the rules of tables; and their copies agree.
+-- filled its ballots by the rules of tables; their copies agree, and whose join found nobody has a whole one.
 pub record TablesPlayed (s : Script) (w : World (List Copied)) : Type 0 where
   pub play : AnsweredPlay
   pub lines : PlaysLines (λ items. None) (starting s.config) s.lines play
@@ -72,6 +73,7 @@ pub record TablesPlayed (s : Script) (w : World (List Copied)) : Type 0 where
   pub safe : IsSafe s.config (answered_in play) (records_in play)
   pub agree : WorldAgrees (answered_after s.config (answered_in play)).trace w
   pub equal : WholeAreEqual w
+  pub firsts : FirstsAreWhole hands.0
 
 -- or the script has no `begin` line, and this is the world with which its run would begin
 abbrev pub TablesEnd : Script → World (List Copied) → Type 0
