@@ -11,6 +11,7 @@ from hags_tools import daemons
 HERE = pathlib.Path(__file__).resolve().parent
 TOP = HERE.parent.parent
 C = TOP / "clients" / "c"
+CLIENT, GROUP_SERVICES = sorted(C.glob("hags*.c")), sorted(C.glob("ha_gs*.c"))
 WAIT = 120  # seconds that a client waits for an answer: longer than any daemon is away
 ASKING = ("join", "leave", "expel", "state", "message", "attrs")  # the commands that ask something of a group
 OWN = ("heard", "cast", "asked", "told")
@@ -53,7 +54,7 @@ def compiled(source, folder, more=()):
 
 
 def build_c(folder):
-    return compiled(HERE / "driver.c", folder, [C / "hags.c"])
+    return compiled(HERE / "driver.c", folder, CLIENT)
 
 
 def build_go(folder):

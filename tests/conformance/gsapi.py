@@ -127,7 +127,7 @@ def tell(cluster, settings, words):
 
 def play(program, folder):
     """Plays it, and says how it went."""
-    words = drivers.compiled(drivers.HERE / "gs_member.c", folder, [drivers.C / "ha_gs.c", drivers.C / "hags.c"])
+    words = drivers.compiled(drivers.HERE / "gs_member.c", folder, [*drivers.GROUP_SERVICES, *drivers.CLIENT])
     began = time.monotonic()
     text = daemons.Plan(len(NODES), heartbeat=HEARTBEAT).settings(daemons.free_port(len(NODES)))
     cluster = daemons.Cluster([daemons.Daemon(program, node, text, folder, words=WORDS) for node in NODES])

@@ -2,7 +2,11 @@
  *
  * With libFuzzer (`make fuzz`) this goes on as long as one likes. Without it (`fuzz_reader TIMES`, as `make check` does)
  * it makes so many inputs of its own, always the same ones, out of good ones that it spoils. */
-#include "../hags.c"
+#include "../hags_internal.h"
+
+#include <stdio.h>
+#include <stdlib.h>
+#include <string.h>
 
 static void use(const hags_event *event) {
     volatile size_t sum = strlen(event->line) + event->length;
@@ -37,7 +41,7 @@ int LLVMFuzzerTestOneInput(const uint8_t *input, size_t size) {
     hags client = {.node = 1, .places = 1, .key = 7, .is_active = true, .number = 1, .length = 3, .line = "abc"};
     client.last_link = &client.first;
     while (size >= 2) {
-        size_t length = (size_t)number_in(input, 2), whole;
+        size_t length = (size_t)number_in(input, 2);
         if (length > size - 2) length = size - 2;
         /* in memory of its own, so that a byte too far is seen */
         uint8_t *datagram = malloc(length ? length : 1);
@@ -47,15 +51,13 @@ int LLVMFuzzerTestOneInput(const uint8_t *input, size_t size) {
         if (!event) abort();
         use(event);
         free(event);
-        hags_result result = HAGS_OK;
-        const uint8_t *down = joined(&client, datagram, length, &whole, &result);
-        if (down) take_down(&client, down, whole);
+        hags_take(&client, datagram, length);
         free(datagram);
         input += 2 + length;
         size -= 2 + length;
     }
     for (hags_event *event; (event = hags_next(&client)); free(event)) use(event);
-    forget_message(&client.newest);
+    hags_forget_message(&client.newest);
     return 0;
 }
 
