@@ -72,7 +72,7 @@ class FakeDaemon:
             question, what = struct.unpack(">IB", message[16:21])
             hosts = "1.5,2.5,3.5"
             texts = [
-                f"hats 1 3.5.1 members=1,2,3 neighbour=2",
+                "hats 1 3.5.1 members=1,2,3 neighbour=2",
                 f"hagsns 3.1.5 coord=1 members={hosts} frozen=no",
                 "",
                 "",

@@ -11,6 +11,7 @@ import time
 from contextlib import ExitStack
 
 import pytest
+
 from fake import Answer, FakeDaemon, settings_of
 from hags import (
     AsyncClient,

@@ -6,6 +6,7 @@ import json
 from pathlib import Path
 
 import pytest
+
 from fake import FakeDaemon, settings_of
 from hags import BadArgument, Client, Host, Lock, LockLost, Member, Settings, Token, Value, View, Watch
 from hags.ctl import NO_ANSWER, PARTED, WHOLE, faults_of, faults_of_settings, faults_of_versions, main, standing

@@ -6,6 +6,7 @@ import random
 import struct
 
 import pytest
+
 from hags import BadArgument, DaemonFull, SessionEnded, SessionLost
 from hags.session import IDLE, LONGEST_IDLE, Question, Session
 from hags.settings import Place

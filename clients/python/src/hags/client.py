@@ -294,8 +294,8 @@ class Client(AbstractContextManager["Client"]):
         return asked
 
     def status(self, what: str, node: int | None = None, seconds: float | None = None) -> list[str]:
-        """Asks the daemon of a node, its own one unless said, what `hags status` would: `hats`, `hagsns`, `hagsgr` or
-        `hagsvote`. Gives its lines, or raises NoReply."""
+        """Asks the daemon of a node, its own one unless said, what `hags status` would: `hats`, `hagsns`, `hagsgr`,
+        `hagsvote`, `hagscl` or `hagsd`. Gives its lines, or raises NoReply."""
         calls.one_of("what to ask", what, QUESTIONS)
         answers: list[list[str]] = []
         with self.locked() as core:

@@ -226,7 +226,8 @@ def check(options: argparse.Namespace) -> int:
     print("\n".join(found) if found else "nothing is seen that differs from these settings")
     older = [node for node in answering if node not in daemons]
     if older:
-        print(f"Not compared of node {numbers(older)}: settings and version, which an older daemon does not say of itself")
+        why = "settings and version, which an older daemon does not say of itself"
+        print(f"Not compared of node {numbers(older)}: {why}")
     return PARTED if found else WHOLE
 
 
