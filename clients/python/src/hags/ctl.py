@@ -341,9 +341,10 @@ def line_of(change: Change, as_json: bool) -> str:
 
 
 def get(options: argparse.Namespace) -> int:
-    now = versioned(group_named(options, f"value.{options.name}").value)
+    groups = groups_of(asked_of_one(options, "hagsgr"))
+    now = next((versioned(group.value) for group in groups if group.name == f"value.{options.name}"), None)
     if now is None:
-        raise Said(PARTED, f"{options.name} was never set")
+        raise Said(PARTED, f"{options.name} was never set, or nobody keeps it any more")
     sys.stdout.buffer.write(now.data + b"\n")
     return WHOLE
 
