@@ -52,7 +52,7 @@ void ha_gs_drop_gone(void) {
     }
     for (subscriber **at = &ha_gs_session.subscribers; *at;) {
         subscriber *it = *at;
-        if (it->is_gone) *at = it->next, free(it);
+        if (it->is_gone) *at = it->next, free(it->first), free(it);
         else at = &it->next;
     }
 }
@@ -72,13 +72,15 @@ ha_gs_rc_t ha_gs_dispatch(const ha_gs_dispatch_flag_t dispatch_flag) {
     if (!ha_gs_session.client) return HA_GS_NO_INIT;
     if (ha_gs_session.is_giving) return HA_GS_NOT_OK; /* from a callback */
     bool is_blocking = dispatch_flag == HA_GS_BLOCKING;
-    hags_result result;
+    hags_result result = HAGS_OK;
     ha_gs_session.is_giving = true;
-    do {
+    ha_gs_give_events(); /* what is there already */
+    while (!ha_gs_session.has_quit && result == HAGS_OK) {
         result = is_blocking ? hags_wait(ha_gs_session.client, -1) : hags_dispatch(ha_gs_session.client);
         ha_gs_give_events();
         if (result == HAGS_LOST || result == HAGS_FULL) ha_gs_give_death();
-    } while (is_blocking && !ha_gs_session.has_quit && result == HAGS_OK);
+        if (!is_blocking) break;
+    }
     ha_gs_session.is_giving = false;
     ha_gs_drop_gone();
     bool has_ended = result == HAGS_LOST || result == HAGS_FULL || ha_gs_session.has_quit;

@@ -231,6 +231,8 @@ ha_gs_rc_t ha_gs_subscribe(ha_gs_token_t *subscriber_token, const ha_gs_proposal
     strcpy(it->group, request->gs_subscription_group);
     it->control = request->gs_subscription_control;
     it->callback = request->gs_subscription_callback;
+    /* without it the first notification is that of the first change */
+    (void)!hags_look(ha_gs_session.client, it->group, &it->first);
     it->next = ha_gs_session.subscribers;
     ha_gs_session.subscribers = it;
     return HA_GS_OK;

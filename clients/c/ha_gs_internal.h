@@ -64,6 +64,8 @@ typedef struct subscriber {
     ha_gs_subscription_ctrl_t control;
     ha_gs_subscription_cb_t *callback;
     bool is_gone, was_noted;
+    hags_event *first; /* how the group stood as it was subscribed, until that is notified */
+    hags_noted newest; /* of which only the view and the place are kept */
     members before;
     text value;
 } subscriber;

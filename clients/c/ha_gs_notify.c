@@ -292,7 +292,18 @@ static void give_told(const hags_told *told) {
 
 /* ---- Notifications of subscribers ---- */
 
-static void note(subscriber *it, hags_members list, hags_bytes value) {
+/* Is this of a later view, or of a later place in the same one? */
+static bool is_later(const hags_noted *one, const hags_noted *other) {
+    const hags_view *view = &one->view, *before = &other->view;
+    if (view->number != before->number) return view->number > before->number;
+    if (view->coordinator != before->coordinator) return view->coordinator > before->coordinator;
+    if (view->incarnation != before->incarnation) return view->incarnation > before->incarnation;
+    return one->has_place && (!other->has_place || one->place > other->place);
+}
+
+static void note(subscriber *it, const hags_noted *noted) {
+    hags_members list = noted->members;
+    hags_bytes value = noted->value;
     members now, joining, leaving;
     text new_value;
     ha_gs_membership_t full, in, out;
@@ -315,14 +326,27 @@ static void note(subscriber *it, hags_members list, hags_bytes value) {
         type & HA_GS_SUBSCRIPTION_DELTA_JOIN ? membership(&in, &joining) : NULL,
         type & HA_GS_SUBSCRIPTION_DELTA_LEAVE ? membership(&out, &leaving) : NULL};
     it->was_noted = true;
+    it->newest = *noted;
     it->before = now;
     it->value = new_value;
     if (type) it->callback(&notification);
 }
 
 static void give_noted(const hags_noted *noted) {
-    for (subscriber *it = ha_gs_session.subscribers; it; it = it->next)
-        if (!it->is_gone && !strcmp(it->group, noted->group)) note(it, noted->members, noted->value);
+    for (subscriber *it = ha_gs_session.subscribers; it; it = it->next) {
+        bool is_news = !it->was_noted || is_later(noted, &it->newest);
+        if (!it->is_gone && !strcmp(it->group, noted->group) && is_news) note(it, noted);
+    }
+}
+
+/* What the daemon does not note, since nothing has changed. */
+static void give_first(void) {
+    for (subscriber *it = ha_gs_session.subscribers; it && !ha_gs_session.has_quit; it = it->next) {
+        hags_event *first = it->first;
+        it->first = NULL;
+        if (first && !it->is_gone) note(it, &first->noted);
+        free(first);
+    }
 }
 
 /* ---- All of them ---- */
@@ -339,6 +363,7 @@ void ha_gs_give_death(void) {
 }
 
 void ha_gs_give_events(void) {
+    give_first();
     for (hags_event *event; !ha_gs_session.has_quit && (event = hags_next(ha_gs_session.client));) {
         switch (event->what) {
             case HAGS_HEARD: give_heard(&event->heard); break;

@@ -74,6 +74,7 @@ void hags_delete(hags *client) {
     if (!client) return;
     drop_events(client);
     hags_forget_message(&client->newest);
+    free(client->reply);
     if (client->poll >= 0) close(client->poll);
     if (client->timer >= 0) close(client->timer);
     if (client->socket >= 0) close(client->socket);
@@ -97,8 +98,7 @@ hags_result hags_dispatch(hags *client) {
     return result;
 }
 
-/* Waits until something comes or is due, or this moment is over. False where it is over. */
-static bool wait_until(hags *client, int64_t end) {
+bool hags_wait_until(hags *client, int64_t end) {
     int64_t left = end < 0 ? 1000000 : end - now();
     if (left <= 0) return false;
     struct pollfd descriptor = {client->poll, POLLIN, 0};
@@ -111,7 +111,7 @@ hags_result hags_settle(hags *client) {
     while (!client->is_settled) {
         hags_result result = hags_dispatch(client);
         if (result != HAGS_OK) return result;
-        if (!client->is_settled && !wait_until(client, end)) return HAGS_LATE;
+        if (!client->is_settled && !hags_wait_until(client, end)) return HAGS_LATE;
     }
     return client->answer;
 }
@@ -197,7 +197,7 @@ hags_result hags_wait(hags *client, int milliseconds) {
         if (client->first) return HAGS_OK;
         if (result != HAGS_OK) return result;
         if (!client->is_active) return HAGS_BAD;
-        if (!wait_until(client, end)) return HAGS_LATE;
+        if (!hags_wait_until(client, end)) return HAGS_LATE;
     }
 }
 

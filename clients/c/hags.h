@@ -266,6 +266,11 @@ hags_result hags_unsubscribe(hags *client, const char *group);
 /* Any call, as docs/formats.md has them, with the client's name in it. */
 hags_result hags_call(hags *client, const char *line);
 
+/* How a group stands at the daemon now, or HAGS_HOSTS, while a session is open: what a subscription does not tell, which notes
+ * changes. The event is a HAGS_NOTED, which the caller frees, and what is noted of a later view, or of a later place in it, is
+ * newer; NULL is a group that the daemon does not know. It is no call, and waits for the daemon as long as a call does. */
+hags_result hags_look(hags *client, const char *group, hags_event **event);
+
 /* What became of the last call: HAGS_OK, HAGS_REFUSED, or HAGS_LATE while it has no answer; HAGS_LOST, HAGS_FULL. */
 hags_result hags_answer(const hags *client);
 /* Waits for that answer, as long as a call does. */

@@ -4,6 +4,7 @@
  *   hags_session.c    a session: Ups that go out, and Downs that come back in pieces
  *   hags_event.c      lines that were heard, taken apart
  *   hags_calls.c      calls, spelled as lines
+ *   hags_look.c       questions about how things stand
  *   hags_settings.c   where settings have the daemon */
 #ifndef HAGS_INTERNAL_H
 #define HAGS_INTERNAL_H
@@ -74,6 +75,10 @@ struct hags {
     hags_provider asker;
     uint32_t request;
     queued *first, **last_link;
+
+    /* of hags_look */
+    uint32_t question; /* 0 where none waits for its reply */
+    char *reply;
 };
 
 /* This moment, in microseconds. */
@@ -100,16 +105,23 @@ static inline uint64_t number_in(const uint8_t *from, int bytes) {
 /* A word that is the digits, without a needless zero, of a number of at most `most`. NULL is none. */
 bool hags_number(char *word, uint64_t most, uint32_t *number);
 
+/* The next line of a text that is one to be read, with at most so many words of it, each cut off; how many there are. */
+int hags_next_line(char **text, char **word, int most);
+
 /* Where these settings have the daemon of the client's node, by the least of its networks first. The text is cut. */
 bool hags_read_settings(hags *client, char *text);
 
-/* Sends the Up of this moment. */
+/* Sends a message of one piece; and the Up of this moment. */
+void hags_send(hags *client, const uint8_t *bytes, size_t length);
 void hags_send_up(hags *client);
 
 /* Takes a datagram that came, whatever it is. HAGS_LOST and HAGS_FULL end the session. */
 hags_result hags_take(hags *client, const uint8_t *datagram, size_t length);
 
 void hags_forget_message(message *it);
+
+/* Waits until something comes or is due, or this moment is over; less than 0 is none. False where it is over. */
+bool hags_wait_until(hags *client, int64_t end);
 
 #pragma GCC visibility pop
 #endif

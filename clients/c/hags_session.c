@@ -1,26 +1,36 @@
 /* The client's end of a session, as docs/remote-sessions.md has it: Ups that go out again and again, and Downs that come
- * back in pieces. */
+ * back in pieces; and the replies to questions, which come on the same way. */
 #include "hags_internal.h"
 
 #include <stdlib.h>
 #include <string.h>
 
 enum {
+    MOST_MESSAGE = UP_HEAD + HAGS_MOST_LINE,
+    REPLY_HEAD = 20,         /* the head of a packet, and the number of the question */
     OTHER_NETWORK_AFTER = 8, /* Ups without an answer */
     TAKEN = 1, FULL = 3      /* answers of a Down */
 };
 
-/* An Up is one message of sender 0 in incarnation 0, of one piece. One that the system does not take is lost, as any
- * datagram may be, and goes again. */
-void hags_send_up(hags *client) {
-    uint8_t datagram[NETWORK_BYTE + PIECE_HEAD + UP_HEAD + HAGS_MOST_LINE], *to = datagram;
-    if (client->unanswered++ >= OTHER_NETWORK_AFTER) client->at = (client->at + 1) % client->places;
+/* A client's message is one piece of sender 0 in incarnation 0. One that the system does not take is lost, as any datagram
+ * may be, and goes again. */
+void hags_send(hags *client, const uint8_t *bytes, size_t length) {
+    uint8_t datagram[NETWORK_BYTE + PIECE_HEAD + MOST_MESSAGE], *to = datagram;
     to = put_number(to, client->place[client->at].network, 1);
     to = put_number(to, 0x52500000, 4);
     to = put_number(to, 0, 4);
     to = put_number(to, ++client->sent, 8);
     to = put_number(to, 0, 4);
     to = put_number(to, 1, 4);
+    memcpy(to, bytes, length);
+    to += length;
+    (void)!sendto(client->socket, datagram, (size_t)(to - datagram), 0, (struct sockaddr *)&client->place[client->at].at,
+                  sizeof client->place[client->at].at);
+}
+
+void hags_send_up(hags *client) {
+    uint8_t up[MOST_MESSAGE], *to = up;
+    if (client->unanswered++ >= OTHER_NETWORK_AFTER) client->at = (client->at + 1) % client->places;
     to = put_number(to, 0x52530100, 4);
     to = put_number(to, client->key, 4);
     to = put_number(to, client->number, 4);
@@ -28,8 +38,7 @@ void hags_send_up(hags *client) {
     to = put_number(to, client->length, 2);
     memcpy(to, client->line, client->length);
     to += client->length;
-    (void)!sendto(client->socket, datagram, (size_t)(to - datagram), 0, (struct sockaddr *)&client->place[client->at].at,
-                  sizeof client->place[client->at].at);
+    hags_send(client, up, (size_t)(to - up));
     client->due = now() + client->pause;
     client->pause = client->pause * 2 < client->longest ? client->pause * 2 : client->longest;
 }
@@ -177,9 +186,25 @@ static hags_result take_down(hags *client, const uint8_t *bytes, size_t length) 
     return result;
 }
 
+/* ---- Replies ---- */
+
+static bool is_reply(const uint8_t *bytes, size_t length) {
+    return length >= REPLY_HEAD && number_in(bytes, 4) == 0x52470117;
+}
+
+static hags_result take_reply(hags *client, const uint8_t *bytes, size_t length) {
+    if (!client->question || client->reply || number_in(bytes + REPLY_HEAD - 4, 4) != client->question) return HAGS_OK;
+    client->reply = malloc(length - REPLY_HEAD + 1);
+    if (!client->reply) return HAGS_NO_MEMORY;
+    memcpy(client->reply, bytes + REPLY_HEAD, length - REPLY_HEAD);
+    client->reply[length - REPLY_HEAD] = 0;
+    return HAGS_OK;
+}
+
 hags_result hags_take(hags *client, const uint8_t *datagram, size_t length) {
     hags_result result = HAGS_OK;
     size_t whole;
-    const uint8_t *down = joined(client, datagram, length, &whole, &result);
-    return down ? take_down(client, down, whole) : result;
+    const uint8_t *bytes = joined(client, datagram, length, &whole, &result);
+    if (!bytes) return result;
+    return is_reply(bytes, whole) ? take_reply(client, bytes, whole) : take_down(client, bytes, whole);
 }

@@ -6,8 +6,7 @@
 
 enum { DEFAULT_PORT = 12347, LAST_PORT = 65000 };
 
-/* The next line of a text that is one to be read, with at most four words of it, each cut off; how many there are. */
-static int next_line(char **text, char *word[4]) {
+int hags_next_line(char **text, char **word, int most) {
     while (*text) {
         char *line = *text, *end = strchr(line, '\n');
         if (end) *end = 0;
@@ -15,7 +14,7 @@ static int next_line(char **text, char *word[4]) {
         if (*line == '#') continue;
         int count = 0;
         for (char *it = strtok_r(line, " ", &line); it; it = strtok_r(NULL, " ", &line)) {
-            if (count < 4) word[count] = it;
+            if (count < most) word[count] = it;
             count++;
         }
         if (count) return count;
@@ -35,7 +34,7 @@ bool hags_read_settings(hags *client, char *text) {
     bool has_node = false, has_adapters = false;
     struct in_addr address;
     char *word[4];
-    for (int count; (count = next_line(&text, word)) && strcmp(word[0], "begin");) {
+    for (int count; (count = hags_next_line(&text, word, 4)) && strcmp(word[0], "begin");) {
         if (count == 2 && !strcmp(word[0], "node") && hags_number(word[1], MOST_NODES, &node))
             has_node |= (int)node == client->node;
         if (count == 2 && !strcmp(word[0], "port") && (!hags_number(word[1], LAST_PORT, &port) || !port)) return false;

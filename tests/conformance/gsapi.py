@@ -84,6 +84,7 @@ def tell(cluster, settings, words):
         one, two, three = members
         for count, member in enumerate(members, 1):
             member.do("subscribe")
+            member.wait_for("the hosts", lambda lines: f"noted 8 {','.join(f'{node}.0' for node in NODES)}" in lines)
             member.do("join")
             wait_for_all(members[:count], JOIN, "", names_of(*NODES[:count]))
             see(members[: count - 1], "proposed", JOIN, count, names_of(count))

@@ -40,6 +40,7 @@ int LLVMFuzzerTestOneInput(const uint8_t *input, size_t size);
 int LLVMFuzzerTestOneInput(const uint8_t *input, size_t size) {
     hags client = {.node = 1, .places = 1, .key = 7, .is_active = true, .number = 1, .length = 3, .line = "abc"};
     client.last_link = &client.first;
+    client.question = 7;
     while (size >= 2) {
         size_t length = (size_t)number_in(input, 2);
         if (length > size - 2) length = size - 2;
@@ -58,6 +59,9 @@ int LLVMFuzzerTestOneInput(const uint8_t *input, size_t size) {
     }
     for (hags_event *event; (event = hags_next(&client)); free(event)) use(event);
     hags_forget_message(&client.newest);
+    char *word[6], *text = client.reply;
+    while (text && hags_next_line(&text, word, 6)) continue;
+    free(client.reply);
     return 0;
 }
 
@@ -87,8 +91,23 @@ static uint32_t below(uint32_t most) {
     return (uint32_t)(state >> 33) % most;
 }
 
-/* A datagram with a piece of a Down of some of these lines, or a line alone. */
+/* The reply to the question that waits. */
+static size_t make_reply(uint8_t *out) {
+    static const char text[] = "hagsgr db leader=1 len=2 members=1.5.7.1,2.5.8.2 value=a%20b\nhagsgr e leader=? len=0\n";
+    uint8_t *to = put_number(out, 0x0152500100, 5);
+    to = put_number(to, 5, 4);
+    to = put_number(to, below(50), 8);
+    to = put_number(to, 1, 8);
+    to = put_number(to, 0x52470117, 4);
+    memset(to, 0, 12);
+    to = put_number(to + 12, 7, 4);
+    memcpy(to, text, sizeof text - 1);
+    return (size_t)(to - out) + sizeof text - 1;
+}
+
+/* A datagram with a piece of a Down of some of these lines, or with a reply, or a line alone. */
 static size_t make_one(uint8_t *out) {
+    if (below(8) == 0) return make_reply(out);
     if (below(3) == 0) {
         const char *line = LINES[below(COUNT)];
         memcpy(out, line, strlen(line));

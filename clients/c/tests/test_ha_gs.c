@@ -58,6 +58,11 @@ static const row ROWS[] = {
     {"subscribe gs-test HostMembership", TAKEN,
      "noted 1.gs-test 1.1.5 HostMembership - 1.5,2.5 =\nnoted 1.gs-test 2.1.5 HostMembership - 1.5,3.9 ="},
     {"unsubscribe gs-test HostMembership", TAKEN, ""},
+    /* what is noted first is older than what the daemon says when it is asked, or the same */
+    {"subscribe gs-test db", TAKEN,
+     "noted 1.gs-test 1.1.5 db 8 " ME " =old\nnoted 1.gs-test 1.1.5 db 9 " ME "," OTHER " =red\n"
+     "noted 1.gs-test 1.1.5 db 10 " ME "," OTHER " =blue"},
+    {"unsubscribe gs-test db", TAKEN, ""},
     {"subscribe gs-test none", REFUSED, "refused 1.gs-test UNKNOWN_GROUP"},
     {"expel gs-test db n " OTHER, TAKEN, "asked " ME " 5 db expel\ntold " ME " 5 COLLIDE 1.1.5/9"},
     {"state gs-test db 1 x", REFUSED, "refused 1.gs-test COLLIDE 5"},
@@ -125,6 +130,26 @@ static void take_call(uint32_t key, uint32_t number, const char *line) {
     play(it);
 }
 
+/* The first question of each kind is not heard. */
+static void reply(const uint8_t *question, const struct sockaddr_in *client) {
+    static const char *const texts[] = {
+        [2] = "hagsns 1.1.5 coord=1 members=1.5,2.5 frozen=no\n",
+        [3] = "hagsgr a leader=? len=0 members=- value=\nhagsgr db leader=1 len=10 members=" ME "," OTHER " value=red\n"};
+    static bool has_come[4];
+    uint8_t out[500] = {1, 'R', 'P', 1}, what = question[20];
+    if (what > 3 || !texts[what]) fail(__LINE__, "no such question");
+    bool was_asked = has_come[what];
+    has_come[what] = true;
+    if (!was_asked) return;
+    put_number(out + 5, incarnation);
+    put_number(out + 13, ++known.sent);
+    put_number(out + 21, 1);
+    memcpy(out + HEAD, "RG\1\27", 4);
+    memcpy(out + HEAD + 16, question + 16, 4);
+    memcpy(out + HEAD + 20, texts[what], strlen(texts[what]));
+    sendto(daemon_socket, out, HEAD + 20 + strlen(texts[what]), 0, (const struct sockaddr *)client, sizeof *client);
+}
+
 static void *serve(void *none) {
     uint8_t up[1300], down[2000] = {1, 'R', 'P', 1};
     struct sockaddr_in client;
@@ -133,6 +158,10 @@ static void *serve(void *none) {
         ssize_t length = recvfrom(daemon_socket, up, sizeof up - 1, 0, (struct sockaddr *)&client, &size);
         if (length <= 1) return none;
         up[length] = 0;
+        if (!memcmp(up + HEAD, "RG\1\26", 4)) {
+            reply(up + HEAD, &client);
+            continue;
+        }
         take_call(number_at(up + HEAD + 4), number_at(up + HEAD + 8), (const char *)up + HEAD + 18);
         uint32_t heard = number_at(up + HEAD + 12);
         uint8_t *at = down + HEAD + 22;
@@ -358,6 +387,10 @@ int main(void) {
     CHECK(ha_gs_subscribe(&subscriber, &hosts) == HA_GS_OK);
     EXPECT("noted b all:1.0:2.0 in:1.0:2.0\nnoted e all:1.0:3.0 in:3.0 out:2.0\n");
     CHECK(ha_gs_unsubscribe(subscriber) == HA_GS_OK && ha_gs_unsubscribe(subscriber) == HA_GS_BAD_MEMBER_TOKEN);
+    hosts.gs_subscribe_request.gs_subscription_group = "db";
+    CHECK(ha_gs_subscribe(&subscriber, &hosts) == HA_GS_OK);
+    EXPECT("noted b all:1.7:2.8 in:1.7:2.8\nnoted 1\n");
+    CHECK(ha_gs_unsubscribe(subscriber) == HA_GS_OK);
     hosts.gs_subscribe_request.gs_subscription_group = "none";
     CHECK(ha_gs_subscribe(&subscriber, &hosts) == HA_GS_UNKNOWN_GROUP);
 

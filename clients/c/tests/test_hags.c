@@ -390,6 +390,27 @@ static void test_close(void) {
     end(client);
 }
 
+/* A question, and a reply that comes when nobody waits for it any more; test_ha_gs.c has replies that come in time. */
+static void test_look(void) {
+    static const char question[] = {'R', 'G', 1, 22, 2, 0, 1, 0, 0, 0, 0, 0, 0, 0, 0, 5};
+    static const char text[] = "hagsns 1.1.5 coord=1 members=1.5 frozen=no\n";
+    uint8_t reply[100] = {'R', 'G', 1, 23};
+    hags *client = client_of("");
+    hags_event *event = (hags_event *)&event;
+    CHECK(hags_look(client, HAGS_HOSTS, &event) == HAGS_BAD && !event);
+    open_client(client);
+    CHECK(hags_look(client, HAGS_HOSTS, &event) == HAGS_LATE && !event);
+    do take_up(client);
+    while (memcmp(played.up + HEAD, question, sizeof question));
+    CHECK(played.length == HEAD + 21 && played.up[HEAD + 20] == 2);
+    memcpy(reply + 16, played.up + HEAD + 16, 4);
+    memcpy(reply + 20, text, sizeof text);
+    played.sent++;
+    send_piece(0, 1, reply, 20 + sizeof text - 1);
+    CHECK(hags_wait(client, 20) == HAGS_LATE && hags_is_open(client));
+    end(client);
+}
+
 /* How each call is spelled. */
 static void test_calls(void) {
     static const hags_attributes all = {true, HAGS_BOTH, true, 20, "disk", true, 7};
@@ -556,6 +577,7 @@ int main(void) {
     test_second_network();
     test_idle();
     test_close();
+    test_look();
     test_calls();
     puts("the C client is as it should be");
 }
