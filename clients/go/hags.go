@@ -97,10 +97,13 @@ type call struct {
 // Client is a session with the daemon of a node.
 type Client struct {
 	name   string
+	whom   string // as daemons name it, with the node
 	conn   *net.UDPConn
 	places []place
 	calls  chan *call
 	events chan Event
+
+	questions chan *question
 
 	ending    context.Context // until Close
 	end       context.CancelFunc
@@ -136,8 +139,9 @@ func Open(ctx context.Context, settings string, node int, name string) (*Client,
 		return nil, err
 	}
 	conn.SetReadBuffer(receiveBuffer) // as much of it as the system gives: many events come as many pieces at once
-	c := &Client{name: name, conn: conn, places: places, calls: make(chan *call, 1), events: make(chan Event, room),
-		ended: make(chan struct{}), began: time.Now()}
+	c := &Client{name: name, whom: fmt.Sprintf("%d.%s", node, name), conn: conn, places: places, calls: make(chan *call, 1), events: make(chan Event, room),
+		questions: make(chan *question, 1),
+		ended:     make(chan struct{}), began: time.Now()}
 	c.SetIdle(longest)
 	c.ending, c.end = context.WithCancel(context.Background())
 	go c.run(&session{node: node, key: binary.BigEndian.Uint32(key)})
@@ -253,7 +257,8 @@ func (c *Client) stop() {
 type server struct {
 	*Client
 	*session
-	call       *call // under way
+	call       *call     // under way
+	question   *question // that waits for its reply
 	queue      []Event
 	due        time.Time
 	pause      time.Duration
@@ -292,14 +297,14 @@ func (s *server) turn(buffer []byte) error {
 	}
 	// First the deadline, then the calls: so a call that comes later sets an earlier deadline behind this one.
 	if s.number > 0 {
-		s.conn.SetReadDeadline(s.due)
+		s.conn.SetReadDeadline(s.next())
 	} else {
 		s.conn.SetReadDeadline(time.Time{})
 	}
 	if s.ending.Err() != nil {
 		return ErrClosed
 	}
-	if s.isReady() {
+	if s.isReady() || s.asks() {
 		return nil
 	}
 	length, _, err := s.conn.ReadFromUDP(buffer)
@@ -310,6 +315,14 @@ func (s *server) turn(buffer []byte) error {
 		return nil // the deadline, or a fault of the network, which is a lost datagram
 	}
 	return s.receive(buffer[:length])
+}
+
+// next is when something is due.
+func (s *server) next() time.Time {
+	if s.question != nil && s.question.due.Before(s.due) {
+		return s.question.due
+	}
+	return s.due
 }
 
 // hand hands events on as far as the channel has room.
@@ -348,7 +361,7 @@ func (s *server) send() {
 		s.at = (s.at + 1) % len(s.places)
 	}
 	to := s.places[s.at]
-	s.conn.WriteToUDP(s.up(to.network), to.at) // one that fails is a lost one, and goes again
+	s.conn.WriteToUDP(s.datagram(to.network, s.up()), to.at) // one that fails is a lost one, and goes again
 	s.due = time.Now().Add(s.pause)
 	if s.pause *= 2; s.pause > time.Duration(s.idle.Load()) {
 		s.pause = time.Duration(s.idle.Load())
@@ -357,7 +370,7 @@ func (s *server) send() {
 
 func (s *server) receive(datagram []byte) error {
 	message := s.joined(datagram)
-	if message == nil {
+	if message == nil || s.takeReply(message) {
 		return nil
 	}
 	it, isDown := downOf(message)

@@ -19,6 +19,7 @@ type played struct {
 	incarnation uint32 // that its Downs say, and its pieces where it is not 0
 	networks    map[byte]bool
 	lost        int // how many Ups of each call go unanswered
+	asked       int // how many questions came
 	script      func(line string) (answer byte, events []string)
 	lines       chan string
 }
@@ -60,6 +61,11 @@ func (p *played) serve() {
 			continue
 		}
 		up := buffer[25:length]
+		if string(up[:4]) == "RG\x01\x16" {
+			sent++
+			p.reply(from, buffer[0], sent, up)
+			continue
+		}
 		key, number, heard, line := [4]byte{up[4], up[5], up[6], up[7]}, big.Uint32(up[8:]), big.Uint32(up[12:]), string(up[18:])
 		if key != it.key {
 			it = life{key: key}
@@ -100,6 +106,51 @@ func (p *played) serve() {
 	}
 }
 
+// reply answers a question, but for the first one.
+func (p *played) reply(to *net.UDPAddr, network byte, sent uint64, question []byte) {
+	if p.asked++; p.asked == 1 {
+		return
+	}
+	big := binary.BigEndian
+	out := big.AppendUint32(append([]byte{network}, "RP\x01\x00"...), p.incarnation)
+	out = big.AppendUint64(big.AppendUint64(out, sent), 1)
+	out = append(append(out, "RG\x01\x17............"...), question[16:20]...)
+	out = append(out, map[byte]string{
+		askView:   "hagsns 3.1.5 coord=1 members=1.5,2.9 frozen=no\n",
+		askGroups: "hagsgr a leader=? len=0 members=- value=\nhagsgr db leader=1 len=3 members=1.5.7.1 value=a%20b\n",
+	}[question[20]]...)
+	p.conn.WriteToUDP(out, to)
+}
+
+func TestLook(t *testing.T) {
+	p, settings := newPlayed(t)
+	c := opened(t, p, settings)
+	c.SetIdle(time.Second)
+	for _, it := range []struct{ group, wanted string }{
+		{Hosts, "noted 1.a 3.1.5 HostMembership - 1.5,2.9 ="},
+		{"db", "noted 1.a 3.1.5 db 2 1.5.7.1 =a%20b"},
+		{"a", "noted 1.a 3.1.5 a - - ="},
+		{"b", ""},
+	} {
+		noted, isThere, err := c.Look(soon(t), it.group)
+		if err != nil || isThere != (it.wanted != "") || isThere && noted.String() != it.wanted {
+			t.Errorf("%s: %v %v %v", it.group, noted, isThere, err)
+		}
+	}
+	given, giveUp := context.WithCancel(context.Background())
+	giveUp()
+	if _, _, err := c.Look(given, "db"); err != context.Canceled {
+		t.Error(err)
+	}
+	if _, isThere, err := c.Look(soon(t), "db"); err != nil || !isThere {
+		t.Error(isThere, err)
+	}
+	c.Close()
+	if _, _, err := c.Look(soon(t), "db"); err != ErrClosed {
+		t.Error(err)
+	}
+}
+
 func opened(t *testing.T, p *played, settings string) *Client {
 	t.Helper()
 	go p.serve()
@@ -133,7 +184,7 @@ func TestBytes(t *testing.T) {
 	}
 	s := &session{node: 1, key: 7}
 	s.begin("client 1 a -")
-	if it := s.up(1); !bytes.Equal(it, bytesOf(up)) {
+	if it := s.datagram(1, s.up()); !bytes.Equal(it, bytesOf(up)) {
 		t.Errorf("%x", it)
 	}
 	it, isDown := downOf(s.joined(bytesOf(down)))

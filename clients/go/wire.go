@@ -47,16 +47,22 @@ func (s *session) begin(line string) {
 	s.line, s.isUnderWay, s.isTaken, s.why, s.asked = line, true, false, "", Asked{}
 }
 
-// up is the datagram of this moment's Up, to a network: one message of sender 0 in incarnation 0, of one piece.
-func (s *session) up(network byte) []byte {
+// datagram is that of the next message to a network: one of sender 0 in incarnation 0, of one piece.
+func (s *session) datagram(network byte, message []byte) []byte {
 	s.sent++
 	big := binary.BigEndian
-	out := make([]byte, 0, 1+pieceHead+18+len(s.line))
+	out := make([]byte, 0, 1+pieceHead+len(message))
 	out = append(out, network, 'R', 'P', 0, 0, 0, 0, 0, 0)
 	out = big.AppendUint64(out, s.sent)
 	out = big.AppendUint32(out, 0)
 	out = big.AppendUint32(out, 1)
-	out = append(out, 'R', 'S', 1, 0)
+	return append(out, message...)
+}
+
+// up is the Up of this moment.
+func (s *session) up() []byte {
+	big := binary.BigEndian
+	out := append(make([]byte, 0, 18+len(s.line)), 'R', 'S', 1, 0)
 	out = big.AppendUint32(out, s.key)
 	out = big.AppendUint32(out, s.number)
 	out = big.AppendUint32(out, s.heard)
