@@ -70,9 +70,9 @@ static bool is_group(const char *name) {
     return length && length <= MOST_CALL_GROUP && strspn(name, HAGS_LETTERS) == length;
 }
 
-/* Is the source's name one of a group, if there is one? */
-static bool has_source_name(const hags_attributes *attributes) {
-    return !attributes || !attributes->source || is_group(attributes->source);
+/* Can they be spelled? NULL can. */
+static bool are_attributes(const hags_attributes *it) {
+    return !it || ((unsigned)it->batch <= HAGS_BOTH && (!it->source || is_group(it->source)));
 }
 
 /* Begins the line of a call: its word, the client's name and the group. */
@@ -93,7 +93,7 @@ static hags_result finish(hags *client, const spelling *line) {
 
 hags_result hags_join(hags *client, const char *group, unsigned instance, const hags_attributes *attributes) {
     spelling line;
-    bool is_good = instance && instance <= UINT16_MAX && has_source_name(attributes);
+    bool is_good = instance && instance <= UINT16_MAX && are_attributes(attributes);
     if (!is_good || !begin(client, &line, "join", group)) return HAGS_BAD;
     add_number(&line, " ", instance);
     add_attributes(&line, attributes);
@@ -144,7 +144,7 @@ hags_result hags_message(hags *client, const char *group, bool by_vote, hags_byt
 
 hags_result hags_change(hags *client, const char *group, bool by_vote, const hags_attributes *attributes) {
     spelling line;
-    if (!has_source_name(attributes) || !begin(client, &line, "attrs", group)) return HAGS_BAD;
+    if (!are_attributes(attributes) || !begin(client, &line, "attrs", group)) return HAGS_BAD;
     add(&line, phases(by_vote));
     add_attributes(&line, attributes);
     return finish(client, &line);

@@ -443,6 +443,7 @@ static void test_calls(void) {
     CHECK(hags_join(client, "d b", 1, NULL) == HAGS_BAD && hags_join(client, "", 1, NULL) == HAGS_BAD);
     CHECK(hags_join(client, "db", 0, NULL) == HAGS_BAD && hags_join(client, "db", 65536, NULL) == HAGS_BAD);
     CHECK(hags_vote(client, "db", 'X', (hags_bytes){0, NULL}) == HAGS_BAD);
+    CHECK(hags_change(client, "db", false, &(hags_attributes){.batch = 4}) == HAGS_BAD);
     CHECK(hags_call(client, "") == HAGS_BAD && hags_call(client, "leave a db 1\n") == HAGS_BAD);
     CHECK(hags_open(client, "b") == HAGS_BAD);
     end(client);
