@@ -22,9 +22,9 @@ static void send_question(hags *client, int what) {
     hags_send(client, query, sizeof query);
 }
 
-/* Asks until the reply comes, which the caller frees. */
-static hags_result ask(hags *client, int what, char **reply) {
-    int64_t end = now() + (int64_t)client->patience * 1000, again = 0;
+/* Asks until the reply comes, which the caller frees, or this moment is over. */
+static hags_result ask(hags *client, int what, int64_t end, char **reply) {
+    int64_t again = 0;
     hags_result result = HAGS_OK;
     do {
         if (getrandom(&client->question, sizeof client->question, 0) != sizeof client->question) return HAGS_FAULT;
@@ -39,6 +39,7 @@ static hags_result ask(hags *client, int what, char **reply) {
         if (result != HAGS_OK || client->reply) break;
         if (!hags_wait_until(client, again < end ? again : end) && now() >= end) result = HAGS_LATE;
     }
+    free(*reply);
     *reply = client->reply;
     client->question = 0;
     client->reply = NULL;
@@ -59,10 +60,29 @@ static hags_event *event_of(const hags *client, const char *view, const char *gr
     if (!line) return NULL;
     if (hags_number(behind(said[0], "len="), UINT32_MAX, &length) && length)
         snprintf(place, sizeof place, "%u", (unsigned)(length - 1));
-    int size = sprintf(line, "noted %d.%s %s %s %s %s =%s", client->node, client->name, view, group, place, members, value);
+    int size = sprintf(line, "noted %d.%s %s %s %s", client->node, client->name, view, group, place);
+    size += sprintf(line + size, " %s =%s", members, value);
     hags_event *event = hags_event_of(line, (size_t)size);
     free(line);
     return event;
+}
+
+/* The replies about the view and, unless hosts are asked for, about the groups in it: so the view is asked for again, until it
+ * was the same before and after. */
+static hags_result ask_all(hags *client, bool are_hosts, char **view, char **groups) {
+    int64_t end = now() + (int64_t)client->patience * 1000;
+    char *before = NULL;
+    hags_result result = ask(client, VIEW, end, view);
+    while (result == HAGS_OK && !are_hosts) {
+        free(before);
+        before = *view;
+        *view = NULL;
+        result = ask(client, GROUPS, end, groups);
+        if (result == HAGS_OK) result = ask(client, VIEW, end, view);
+        if (result == HAGS_OK && !strcmp(before, *view)) break;
+    }
+    free(before);
+    return result;
 }
 
 hags_result hags_look(hags *client, const char *group, hags_event **event) {
@@ -70,8 +90,7 @@ hags_result hags_look(hags *client, const char *group, hags_event **event) {
     bool are_hosts = !strcmp(group, HAGS_HOSTS), is_there = false;
     *event = NULL;
     if (!client->is_open) return client->end != HAGS_OK ? client->end : HAGS_BAD;
-    hags_result result = ask(client, VIEW, &view);
-    if (result == HAGS_OK && !are_hosts) result = ask(client, GROUPS, &groups);
+    hags_result result = ask_all(client, are_hosts, &view, &groups);
     bool has_view = result == HAGS_OK && (text = view) && hags_next_line(&text, host, 5) == 5;
     if (has_view && are_hosts) {
         char *said[] = {host[2], host[3], host[4]}; /* of which only the members are any that an event has */

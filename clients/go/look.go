@@ -30,7 +30,7 @@ type question struct {
 // changes. What is Noted of a later view, or of a later place in it, is newer. isThere is false where the daemon knows no
 // such group. It is no call.
 func (c *Client) Look(ctx context.Context, group string) (noted Noted, isThere bool, err error) {
-	view, err := c.ask(ctx, askView)
+	view, groups, err := c.askAll(ctx, group == Hosts)
 	if err != nil {
 		return Noted{}, false, err
 	}
@@ -41,10 +41,6 @@ func (c *Client) Look(ctx context.Context, group string) (noted Noted, isThere b
 	if group == Hosts {
 		noted, isThere = c.notedOf(host[1], group, "-", host[3], "")
 		return noted, isThere, nil
-	}
-	groups, err := c.ask(ctx, askGroups)
-	if err != nil {
-		return Noted{}, false, err
 	}
 	for _, line := range strings.Split(groups, "\n") {
 		if words := strings.Split(line, " "); len(words) >= 6 && words[1] == group {
@@ -57,6 +53,23 @@ func (c *Client) Look(ctx context.Context, group string) (noted Noted, isThere b
 		}
 	}
 	return Noted{}, false, nil
+}
+
+// askAll gives the replies about the view and, unless hosts are asked for, about the groups in it: so the view is asked
+// for again, until it was the same before and after.
+func (c *Client) askAll(ctx context.Context, areHosts bool) (view, groups string, err error) {
+	if view, err = c.ask(ctx, askView); err != nil || areHosts {
+		return view, "", err
+	}
+	for {
+		before := view
+		if groups, err = c.ask(ctx, askGroups); err != nil {
+			return "", "", err
+		}
+		if view, err = c.ask(ctx, askView); err != nil || view == before {
+			return view, groups, err
+		}
+	}
 }
 
 // notedOf is the event that would be noted so.

@@ -19,11 +19,13 @@ def take_all(line: str) -> Answer:
 
 class FakeDaemon:
     """Serves sessions at a loopback address. `answer` says what comes of a call; `is_silent` lets it be silent; `lose`
-    drops so many of the datagrams that come; `of_itself` is what it says of itself, where it does."""
+    drops so many of the datagrams that come; `of_itself` is what it says of itself, where it does; `groups` are its
+    lines `hagsgr`, and `views` its views, of which the next one comes behind each of these answers."""
 
     def __init__(self, address: str, port: int, node: int, answer: Callable[[str], Answer] = take_all) -> None:
         self.node, self.answer, self.incarnation, self.is_silent, self.lose = node, answer, 5, False, 0
         self.of_itself: dict[str, str] = {}
+        self.views, self.groups = ["3.1.5"], ""
         self.calls: list[str] = []
         self.networks: list[int] = []
         self._kept: dict[bytes, list[object]] = {}
@@ -71,14 +73,17 @@ class FakeDaemon:
         if message.startswith(b"RG\1\x16"):
             question, what = struct.unpack(">IB", message[16:21])
             hosts = "1.5,2.5,3.5"
+            view = self.views[0]
+            if what == 3 and len(self.views) > 1:
+                del self.views[0]
             texts = [
-                "hats 1 3.5.1 members=1,2,3 neighbour=2",
-                f"hagsns 3.1.5 coord=1 members={hosts} frozen=no",
-                "",
+                "hats 1 3.5.1 members=1,2,3 neighbour=2\n",
+                f"hagsns {view} coord=1 members={hosts} frozen=no\n",
+                self.groups,
                 "",
             ]
             head = struct.pack(">3sBBBBBIII", b"RG\1", 23, datagram[0], self.node, 0, 0, self.incarnation, 0, question)
-            self._send(datagram[0], head + f"{texts[what - 1]}\n".encode(), whom)
+            self._send(datagram[0], head + texts[what - 1].encode(), whom)
             return
         if message.startswith(b"RI\1"):
             text = self.of_itself.get(("hagscl", "hagsd")[message[3] - 1])

@@ -23,10 +23,12 @@ from hags import (
     HagsError,
     Member,
     NoReply,
+    Noted,
     Rejected,
     SessionEnded,
     SessionLost,
     TimedOut,
+    View,
 )
 
 
@@ -330,6 +332,22 @@ def test_status_and_hosts(daemon: FakeDaemon) -> None:
             client.status("hagsns", node=2, seconds=0.1)
 
 
+def test_look(daemon: FakeDaemon) -> None:
+    daemon.groups = (
+        "hagsgr a leader=? len=0 members=- value=\nhagsgr db leader=1 len=3 members=1.5.7.1,2.5.8.2 value=a%20b\n"
+    )
+    members = (Member(1, 5, 7, 1), Member(2, 5, 8, 2))
+    with Client(settings_of(daemon.port, nodes=3), 1, "a") as client:
+        assert client.look("db") == Noted("1.a", View(3, 1, 5), "db", 2, members, b"a b")
+        assert client.look("a") == Noted("1.a", View(3, 1, 5), "a", None, (), b"")
+        assert client.look("b") is None
+        daemon.views = ["3.1.5", "4.1.5"]
+        found = client.look("db")
+        assert found and found.view == View(4, 1, 5)
+        with pytest.raises(BadArgument):
+            client.look("d b")
+
+
 def test_settings_given_in_another_way() -> None:
     with pytest.raises(BadArgument, match="Settings.parse"):
         Client("node 1\nbegin\n", 1)
@@ -344,6 +362,9 @@ def test_asyncio(daemon: FakeDaemon) -> None:
 
     async def use() -> None:
         async with AsyncClient(settings_of(daemon.port, nodes=3), 1, "a") as client:
+            daemon.groups = "hagsgr db leader=1 len=1 members=1.5.7.1 value=x\n"
+            found = await client.look("db")
+            assert found and (found.place, found.value) == (0, b"x") and await client.look("b") is None
             assert await client.join("db", instance=7) == Member(1, 5, 7, 1)
             assert [type(event).__name__ async for event in client.events(0.1)] == ["Asked", "Heard"]
             waiting = asyncio.create_task(client.next_event(10))

@@ -29,9 +29,10 @@ from .client import (
 )
 from .core import Answer, Core, Membership
 from .errors import ClientClosed, HagsError, NoReply, SessionLost, TimedOut
-from .events import HOSTS, Asked, Event, Hosts
+from .events import HOSTS, Asked, Event, Hosts, Noted
 from .ids import Member
 from .session import IDLE
+from .status import noted_of
 from .wire import QUESTIONS
 
 
@@ -218,6 +219,16 @@ class AsyncClient(AbstractAsyncContextManager["AsyncClient"]):
         finally:
             core.withdraw(question)
         return answers[0]
+
+    async def look(self, group: str, seconds: float | None = None) -> Noted | None:
+        """How a group stands now at the daemon, as `Client.look`. Raises NoReply."""
+        calls.group_name(group)
+        node = self.node
+        before, view = None, await self.status("hagsns", node, seconds)
+        while before != view:
+            before, groups = view, await self.status("hagsgr", node, seconds)
+            view = await self.status("hagsns", node, seconds)
+        return noted_of(f"{node}.{self.name}", group, view, groups)
 
     # Events
 

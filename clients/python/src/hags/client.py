@@ -21,10 +21,11 @@ from . import calls
 from .calls import PLAIN, Attributes, Bytes
 from .core import Answer, Core, Membership
 from .errors import BadArgument, CallRefused, ClientClosed, HagsError, NoReply, Rejected, SessionLost, TimedOut
-from .events import HOSTS, Asked, Event, Hosts
+from .events import HOSTS, Asked, Event, Hosts, Noted
 from .ids import Member
 from .session import IDLE
 from .settings import Settings
+from .status import noted_of
 from .wire import QUESTIONS
 
 FOREVER = float("inf")
@@ -250,7 +251,8 @@ class Client(AbstractContextManager["Client"]):
 
     def subscribe(self, group: str) -> None:
         """From now on each change of the group's members or value is noted, and what they are as a view begins; of
-        HOSTS the nodes of each view. How it stands now is not noted: `hags.Watch` tells that first."""
+        HOSTS the nodes of each view. How it stands now is not noted: `look` asks for that, and `hags.Watch` tells it
+        first."""
         line = calls.subscribe_line(group)
         with self._lock:
             self._core.wants_hosts = self._core.wants_hosts or group == HOSTS
@@ -309,6 +311,18 @@ class Client(AbstractContextManager["Client"]):
             with self.locked():
                 core.withdraw(question)
         return answers[0]
+
+    def look(self, group: str, seconds: float | None = None) -> Noted | None:
+        """How a group stands now at the daemon, which a subscription does not tell, as it would be noted; what is noted
+        of a later view, or of a later place in it, is newer. None where the daemon knows no such group. It is no call.
+        Raises NoReply. How the nodes stand is told by `hosts`."""
+        calls.group_name(group)
+        node = self.node
+        before, view = None, self.status("hagsns", node, seconds)
+        while before != view:  # so that the groups are those of this view
+            before, groups = view, self.status("hagsgr", node, seconds)
+            view = self.status("hagsns", node, seconds)
+        return noted_of(f"{node}.{self.name}", group, view, groups)
 
     # Events
 

@@ -11,6 +11,7 @@ from functools import partial
 from typing import NamedTuple
 
 from .calls import one_of
+from .events import Noted
 from .ids import Host, Member, View, hosts_of, members_of
 from .session import Question
 from .settings import Settings
@@ -113,6 +114,16 @@ def groups_of(lines: list[str]) -> list[Group]:
         members = members_of(fields["members"])
         found.append(Group(name, leader, int(fields["len"]), members, value_of("=" + fields["value"])))
     return found
+
+
+def noted_of(client: str, name: str, view: list[str], groups: list[str]) -> Noted | None:
+    """How a group stands by the answers `hagsns` and `hagsgr` of one view, as it would be noted to this client. None
+    where it is not there."""
+    found = next((group for group in groups_of(groups) if group.name == name), None)
+    if found is None:
+        return None
+    place = found.length - 1 if found.length else None
+    return Noted(client, nodes_of(view).view, name, place, found.members, found.value)
 
 
 def votes_of(lines: list[str]) -> list[Vote]:
