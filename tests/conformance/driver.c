@@ -112,6 +112,15 @@ static void print_entry(const hags_put *put) {
     }
 }
 
+static void print_noted(const hags_noted *it) {
+    printf("noted %s ", it->client);
+    print_view(it->view);
+    printf(" %s ", it->group);
+    if (it->has_place) printf("%u ", it->place);
+    else printf("- ");
+    print_state(it->members, !strcmp(it->group, HAGS_HOSTS), it->value);
+}
+
 static void print_event(const hags_event *event) {
     switch (event->what) {
         case HAGS_ASKED:
@@ -142,12 +151,8 @@ static void print_event(const hags_event *event) {
             printf(" %u %s%s%s", event->told.request, event->told.code, *event->told.detail ? " " : "", event->told.detail);
             break;
         case HAGS_NOTED:
-            printf("event noted %s ", event->noted.client);
-            print_view(event->noted.view);
-            printf(" %s ", event->noted.group);
-            if (event->noted.has_place) printf("%u ", event->noted.place);
-            else printf("- ");
-            print_state(event->noted.members, !strcmp(event->noted.group, HAGS_HOSTS), event->noted.value);
+            printf("event ");
+            print_noted(&event->noted);
             break;
         case HAGS_PUT:
             printf("event put %u ", event->put.node);
@@ -252,6 +257,20 @@ static void answer(hags *client, const char *command, hags_result result) {
     }
 }
 
+static void look(hags *client, const char *group) {
+    hags_event *event;
+    hags_result result = hags_look(client, group, &event);
+    print_events(client);
+    if (result != HAGS_OK) {
+        answer(client, "look", result);
+        return;
+    }
+    printf(event ? "did stands " : "did stands");
+    if (event) print_noted(&event->noted);
+    putchar('\n');
+    free(event);
+}
+
 /* Carries out the command of this line. False where it is to end. */
 static bool command(hags *client, char *line) {
     char *word[MOST_WORDS + 1] = {NULL};
@@ -263,6 +282,10 @@ static bool command(hags *client, char *line) {
     } else {
         for (char *it = strtok(line, " "); it && count < MOST_WORDS; it = strtok(NULL, " ")) word[count++] = it;
         if (!count || !strcmp(word[0], "quit")) return false;
+        if (!strcmp(word[0], "look")) {
+            look(client, word[1]);
+            return true;
+        }
         result = do_command(client, word);
     }
     print_events(client);

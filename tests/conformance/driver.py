@@ -12,6 +12,7 @@ TOP = pathlib.Path(__file__).resolve().parents[2]
 sys.path.insert(0, str(TOP / "clients" / "python" / "src"))
 import hags
 from hags.events import line_of
+from hags.status import nodes_of
 
 ATTRIBUTES = {"batch": "batch", "default": "default", "limit": "limit", "source": "source", "slimit": "source_limit"}
 
@@ -53,6 +54,11 @@ class Driver:
         self.client = None
         return "did taken"
 
+    def hosts(self):
+        """The nodes of the view, asked for and not subscribed to, as `Client.hosts` would."""
+        view = nodes_of(self.client.status("hagsns"))
+        return hags.Hosts(f"{self.node}.{self.client.name}", view.view, view.hosts)
+
     def make(self, command, words):
         """Makes the call of a command, and says what came of it."""
         client, group, *more = self.client, words[0] if words else None, *words[1:]
@@ -75,6 +81,9 @@ class Driver:
             client.subscribe(group)
         elif command == "unsubscribe":
             client.unsubscribe(group)
+        elif command == "look":
+            found = self.hosts() if group == hags.HOSTS else client.look(group)
+            return f"did stands {line_of(found)}" if found else "did stands"
         elif command == "raw":
             client.call(" ".join(words))
         return "did taken"

@@ -230,6 +230,8 @@ class Driver:
             return f"subscribe {self.chance.one_of(('db', 'log', 'HostMembership', 'none'))}"
         if kind == 19:
             return f"unsubscribe {self.chance.one_of(('db', 'log', 'HostMembership'))}"
+        if kind == 20 and self.chance.happens(50):
+            return f"look {self.chance.one_of(('db', 'log', 'HostMembership', 'none'))}"
         if kind == 20:
             return f"expel {group} 1 1.1.1.1"
         if kind == 21:

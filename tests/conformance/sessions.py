@@ -86,6 +86,18 @@ def undecided(session, life, begun):
     return [request for request in open_ones if is_member.get(request.split("/")[0], True)]
 
 
+def compare_stands(session, places, views):
+    """What was told of how a group stands is what all heard at that place, and hosts are the nodes of that view. How often
+    was it told?"""
+    told = [answer.split(" ")[1:] for _, answer in session.calls if answer.startswith("stands ")]
+    for _, whom, view, group, place, *stands in told:
+        is_hosts = group == "HostMembership"
+        heard = [views[view], "="] if is_hosts else places.get((view, group, place), (None, ["", *stands]))[1][1:]
+        if whom != f"{session.node}.{session.name}" or heard != stands:
+            raise Fault(f"{session.name}: told that {group} stands at {stands} at {view} {place}, and heard {heard}")
+    return len(told)
+
+
 def compare_places(session, places):
     """All clients heard the same at a place, and were told the same entry there; and each provider hears the places of a
     view one after another."""

@@ -220,6 +220,8 @@ def test_a_call_that_is_told_it_drops_what_was_heard_before(daemon: FakeDaemon) 
             client.state("db", "x")
         with pytest.raises(SessionLost):
             client.next_event(0.1)
+        with pytest.raises(SessionLost):
+            client.look("db")
         client.open()
         assert client.next_event(0.1) is None and client.is_open
 
@@ -323,7 +325,9 @@ def test_more_than_1024_descriptors(daemon: FakeDaemon) -> None:
 
 def test_status_and_hosts(daemon: FakeDaemon) -> None:
     with Client(settings_of(daemon.port, nodes=3), 1) as client:
-        assert client.status("hagsns") == ["hagsns 3.1.5 coord=1 members=1.5,2.5,3.5 frozen=no"]
+        began = time.monotonic()
+        assert client.status("hagsns", seconds=60) == ["hagsns 3.1.5 coord=1 members=1.5,2.5,3.5 frozen=no"]
+        assert time.monotonic() - began < 30  # it ends with the answer
         hosts = client.hosts()
         assert hosts and [host.node for host in hosts.hosts] == [1, 2, 3] and client.has_majority()
         with pytest.raises(BadArgument):

@@ -18,6 +18,7 @@ type driver struct {
 	node     int
 	patience time.Duration
 	client   *hags.Client
+	stands   string // what the last look has found
 }
 
 func main() {
@@ -113,6 +114,8 @@ func (d *driver) answer(command string, err error) {
 	switch {
 	case err == nil && strings.HasPrefix(command, "open "):
 		fmt.Println("did taken", d.client.Incarnation())
+	case err == nil && strings.HasPrefix(command, "look "):
+		fmt.Printf("did stands%s\n", d.stands)
 	case err == nil:
 		fmt.Println("did taken")
 		if command == "close" {
@@ -176,6 +179,11 @@ func (d *driver) do(command string) error {
 			value = textOf(text)
 		}
 		err = c.Vote(ctx, rest[0], hags.Vote(vote), value)
+	case "look":
+		noted, isThere, fault := c.Look(ctx, rest[0])
+		if d.stands, err = "", fault; isThere {
+			d.stands = " " + noted.String()
+		}
 	case "subscribe":
 		err = c.Subscribe(ctx, rest[0])
 	case "unsubscribe":

@@ -212,12 +212,15 @@ class AsyncClient(AbstractAsyncContextManager["AsyncClient"]):
         question = core.ask(what, answers.append, node)
         self._act()
         try:
-            await self._wait("an answer", lambda: bool(answers), self.seconds if seconds is None else seconds)
+            allowed = self.seconds if seconds is None else seconds
+            await self._wait("an answer", lambda: bool(answers or core.over), allowed)
         except TimedOut:
             places = ", ".join(map(str, question.places))
             raise NoReply(f"the daemon of node {question.node} does not answer at {places}") from None
         finally:
             core.withdraw(question)
+        if core.over and not answers:
+            raise core.over
         return answers[0]
 
     async def look(self, group: str, seconds: float | None = None) -> Noted | None:

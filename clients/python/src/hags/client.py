@@ -303,13 +303,16 @@ class Client(AbstractContextManager["Client"]):
         with self.locked() as core:
             question = core.ask(what, answers.append, node)
         try:
-            self.wait_until("an answer", lambda: bool(answers), self.seconds if seconds is None else seconds)
+            allowed = self.seconds if seconds is None else seconds
+            self.wait_until("an answer", lambda: bool(answers or core.over), allowed)
         except TimedOut:
             places = ", ".join(map(str, question.places))
             raise NoReply(f"the daemon of node {question.node} does not answer at {places}") from None
         finally:
             with self.locked():
                 core.withdraw(question)
+        if core.over and not answers:
+            raise core.over
         return answers[0]
 
     def look(self, group: str, seconds: float | None = None) -> Noted | None:

@@ -166,8 +166,13 @@ class Core:
 
     def ask(self, what: str, answer: Callable[[list[str]], None], node: int | None = None) -> Question:
         """Asks the daemon of a node, the client's own one unless said, and hands the lines over once they come."""
+
+        def take(lines: list[str]) -> None:
+            self.has_news = True
+            answer(lines)
+
         node = self.node if node is None else node
-        question = Question(node, self.settings.places(node), what, answer)
+        question = Question(node, self.settings.places(node), what, take)
         self.connection.questions.append(question)
         return question
 
