@@ -1,6 +1,7 @@
 """The text for Prometheus, and that alerts and pages speak of metrics that there are."""
 import re
 import unittest
+from unittest import mock
 
 import context
 from hags_tools import metrics, reading, records
@@ -26,6 +27,13 @@ class Answers:
 
 DAEMON = "hagsd 1.5 version=0.2.0 settings=00112233aabbccdd turns=900 ticks=80 received=70 strays=2 sent=60 failed=1 keys=2 ended=4"
 CLIENTS = ("hagscl a key=7 silent=12 unread=3 members=1.5.7.1", "hagscl own key=- silent=- unread=- members=-")
+
+
+def stat_words(parent, began):
+    """What the system says of a process, as far as it is read."""
+    words = ["0"] * 40
+    words[metrics.PARENT], words[metrics.BEGAN] = parent, str(began)
+    return words
 
 
 def told(*answers):
@@ -59,8 +67,8 @@ class Told(unittest.TestCase):
     def test_what_a_daemon_says_of_itself(self):
         found = told(Answers(itself=(DAEMON, *CLIENTS)))
         self.assertEqual(found["hags_daemon_info", "0.2.0", "00112233aabbccdd"], 1)
-        counts = ("turns_total", "ticks_total", "datagrams_received_total", "strays_total", "datagrams_sent_total", "sends_failed_total")
-        self.assertEqual([found[f"hags_{name}",] for name in counts], [900, 80, 70, 2, 60, 1])
+        counts = ("turns_total", "ticks_total", "datagrams_received_total", "strays_total", "receives_failed_total", "datagrams_sent_total")
+        self.assertEqual([found[f"hags_{name}",] for name in counts], [900, 80, 70, 2, 1, 60])
         self.assertEqual((found["hags_sessions",], found["hags_sessions_ended_total",]), (2, 4))
         self.assertEqual((found["hags_client_silent_seconds", "a"], found["hags_client_unread_events", "a"]), (1.2, 3))
         self.assertNotIn(("hags_client_silent_seconds", "own"), found)
@@ -72,6 +80,15 @@ class Told(unittest.TestCase):
             found = {name: number for name, _, number in metrics.of_counts(said, turns)}
             self.assertEqual(found["hags_turns_left"], left)
         self.assertNotIn("hags_turns_left", {name for name, _, _ in metrics.of_counts(said, None)})
+
+    def test_pauses(self):
+        """Another daemon of one supervisor is counted, and none that somebody has started."""
+        watch = metrics.Watch("hags", None, b"", 1)
+        words = {"7": [b"hags-daemon", b"--supervise"], "8": [b"sh"]}
+        with mock.patch.object(metrics, "words_of", lambda folder: words[folder.name]):
+            for parent, began, pauses in (("7", 5, 0), ("7", 5, 0), ("7", 9, 1), ("8", 11, 1), ("8", 12, 1), ("7", 13, 1), ("", 0, 1), ("7", 14, 2)):
+                watch.note_process(stat_words(parent, began) if parent else [])
+                self.assertEqual(watch.pauses, pauses, (parent, began))
 
     def test_an_older_daemon_is_asked_once(self):
         """Of itself, and again once it was started anew."""

@@ -13,6 +13,7 @@ from hags_tools import asking, records, sockets
 TURNS = 50  # of 20 milliseconds, for an answer
 PROC = pathlib.Path("/proc")
 TICKS, PAGE = os.sysconf("SC_CLK_TCK"), os.sysconf("SC_PAGE_SIZE")
+PARENT, USER_TIME, SYSTEM_TIME, BEGAN, RESIDENT = 1, 11, 12, 19, 21  # words of /proc/PID/stat, from the state on
 TICKS_OF_A_SECOND = 10  # of a daemon
 LASTING, TURNS_UNTOLD = 2**64 - 1, 2**32 - 1  # turns of a daemon with --lasting, and of one that was told nothing
 
@@ -52,11 +53,12 @@ METRICS = (
     Metric("hags_ticks_total", "counter", "ticks of its node"),
     Metric("hags_datagrams_received_total", "counter", "datagrams that it has received"),
     Metric("hags_strays_total", "counter", "datagrams among them that brought no message and were no piece of one"),
+    Metric("hags_receives_failed_total", "counter", "receives that failed; after 16 in a row it ends"),
     Metric("hags_datagrams_sent_total", "counter", "datagrams that it has sent"),
-    Metric("hags_sends_failed_total", "counter", "datagrams that the system did not send"),
     Metric("hags_socket_dropped_total", "counter", "datagrams for which its socket had no room"),
     Metric("hags_socket_waiting_bytes", "gauge", "bytes that its socket holds and it has not taken yet"),
     Metric("hags_process_up", "gauge", "1 where there is a process of the daemon, else 0"),
+    Metric("hags_pauses_total", "counter", "times that its supervisor was seen to start it anew, as it does after a pause"),
     Metric("hags_process_cpu_seconds_total", "counter", "processor time of the process"),
     Metric("hags_process_resident_bytes", "gauge", "memory of the process"),
     Metric("hags_process_start_seconds", "gauge", "when the process began, in seconds since 1970"),
@@ -84,6 +86,7 @@ class Watch:
         self.view, self.entered = None, 0
         self.rings, self.formed = {}, {}
         self.lasting = Lasting()
+        self.process, self.pauses = None, 0
         self.mute = None  # the daemon, as NODE.INC, that did not answer what it was asked of itself
         self.samples = []
 
@@ -169,9 +172,21 @@ class Watch:
             yield "hags_socket_dropped_total", {}, socket.dropped
             yield "hags_socket_waiting_bytes", {}, socket.waiting
         process = process_of(port, self.node)
-        yield "hags_process_up", {}, int(process is not None)
-        if process:
-            yield from of_process(process)
+        words = stat_of(process) if process else []
+        self.note_process(words)
+        yield "hags_process_up", {}, int(bool(words))
+        yield "hags_pauses_total", {}, self.pauses
+        if words:
+            yield from of_process(words)
+
+    def note_process(self, words):
+        """Counts another daemon of the same supervisor: that one starts it anew after a pause alone, else it ends too."""
+        if not words:
+            return
+        parent, began = words[PARENT], words[BEGAN]
+        before, self.process = self.process, (parent, began)
+        if before and before[0] == parent and before[1] != began and b"--supervise" in words_of(PROC / parent):
+            self.pauses += 1
 
 
 def of_counts(said, turns):
@@ -185,8 +200,8 @@ def of_counts(said, turns):
     yield "hags_ticks_total", {}, said.ticks
     yield "hags_datagrams_received_total", {}, said.received
     yield "hags_strays_total", {}, said.strays
+    yield "hags_receives_failed_total", {}, said.failed
     yield "hags_datagrams_sent_total", {}, said.sent
-    yield "hags_sends_failed_total", {}, said.failed
 
 
 def process_of(port, node):
@@ -216,15 +231,19 @@ def is_daemon(folder, node):
     return words[1:2] == [b"daemon"] and any(pair == (b"--node", b"%d" % node) for pair in zip(words, words[1:]))
 
 
-def of_process(folder):
+def stat_of(folder):
+    """What the system says of the process of this folder, in words from its state on; none where it has ended."""
     try:
-        words = (folder / "stat").read_text().rsplit(")", 1)[1].split()
-        booted = next(int(line.split()[1]) for line in (PROC / "stat").read_text().splitlines() if line.startswith("btime"))
+        return (folder / "stat").read_text().rsplit(")", 1)[1].split()
     except OSError:
-        return
-    yield "hags_process_cpu_seconds_total", {}, (int(words[11]) + int(words[12])) / TICKS
-    yield "hags_process_resident_bytes", {}, int(words[21]) * PAGE
-    yield "hags_process_start_seconds", {}, booted + int(words[19]) / TICKS
+        return []
+
+
+def of_process(words):
+    booted = next(int(line.split()[1]) for line in (PROC / "stat").read_text().splitlines() if line.startswith("btime"))
+    yield "hags_process_cpu_seconds_total", {}, (int(words[USER_TIME]) + int(words[SYSTEM_TIME])) / TICKS
+    yield "hags_process_resident_bytes", {}, int(words[RESIDENT]) * PAGE
+    yield "hags_process_start_seconds", {}, booted + int(words[BEGAN]) / TICKS
 
 
 def receive_buffer_errors():
