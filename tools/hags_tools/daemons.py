@@ -132,7 +132,7 @@ class Daemon:
 
     def memory(self):
         """How many bytes of memory it has now."""
-        return int(pathlib.Path(f"/proc/{self.process.pid}/statm").read_text().split()[1]) * resource.getpagesize()
+        return memory_of(self.process.pid)
 
     def kill(self):
         if self.process is not None:
@@ -165,14 +165,29 @@ class Supervised(Daemon):
         last = next((line.split() for line in reversed(self.lines()) if line.startswith("up ")), None)
         return last and f"{last[1]}.{last[2]}"
 
+    def child(self):
+        """The process of the daemon itself. It is waited for where the supervisor starts another one just now."""
+        while not (process := daemon_of(self.process.pid)):
+            if not self.is_alive():
+                raise DaemonError(self.end())
+            time.sleep(0.01)
+        return process
+
+    def memory(self):
+        return memory_of(self.child())
+
     def pause(self, seconds, with_supervisor):
         """Stops the daemon for so long, alone or with its supervisor, and lets it go on."""
-        stopped = [daemon_of(self.process.pid), *([self.process.pid] if with_supervisor else [])]
+        stopped = [self.child(), *([self.process.pid] if with_supervisor else [])]
         for process in stopped:
             os.kill(process, signal.SIGSTOP)
         time.sleep(seconds)
         for process in stopped:
             os.kill(process, signal.SIGCONT)
+
+
+def memory_of(process):
+    return int(pathlib.Path(f"/proc/{process}/statm").read_text().split()[1]) * resource.getpagesize()
 
 
 def daemon_of(supervisor):
