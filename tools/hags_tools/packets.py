@@ -296,6 +296,13 @@ def question(number, what, node):
     return datagram(*pieces(0, 0, 1, asked))
 
 
+def session(node, key):
+    """The datagram by which a client on another machine begins at a node."""
+    line = b"client %d n%d -" % (node, key)
+    up = b"RS\1\0" + struct.pack(">IIIH", key, 1, 0, len(line)) + line
+    return datagram(*pieces(0, 0, key, up))
+
+
 def samples(sender, incarnation, receiver, peer, of_view=None):
     """A packet of each kind from a node to another, named by kind and level. `peer` is the receiver's incarnation. What
     they say is of a group db in this view, which is 2.S.I of the sender where none is named, and of a ring that it
