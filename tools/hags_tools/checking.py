@@ -5,6 +5,7 @@ import re
 import resource
 import select
 import stat
+import time
 
 from hags_tools import asking, reading, sockets
 
@@ -196,6 +197,16 @@ def of_port(settings, node):
             yield f"Node {node} is to have {address} on network {network}, which is no address of this machine; it has: {own}."
 
 
+def of_incarnation(given):
+    """Whether the incarnation that is given is one that a start without it has passed."""
+    now = int(time.time())
+    if given and int(given) < now:
+        yield (
+            f"`--inc {given}` has to be greater than in all starts of this node before, and one without `--inc` takes the seconds since 1970, "
+            f"{now} now. Where it is not, the others take this daemon for an old one. `hags-daemon --kept FILE` in place of `hags daemon` sees to it."
+        )
+
+
 def of_standard_output():
     """What will keep a daemon from writing."""
     try:
@@ -242,6 +253,8 @@ def of_daemon(program, settings, data, node, is_client):
             f"The daemon of node {node} does not answer {where}.{holds} It may be stopped or wait for who reads its output, a filter "
             "may lie between, or its settings have another port or address."
         )
+        if holder and holder.writes_to_pipe:
+            yield f"The output of process {holder.process} is a pipe: it stands still while nobody reads that. Read it, or let the output be a file."
     elif is_client:
         yield f"The daemon of node {node} answers `hags status`. If it takes no clients, start it with `--remote`."
 

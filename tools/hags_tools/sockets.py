@@ -15,6 +15,7 @@ class Holder(NamedTuple):
     process: int
     command: str
     is_stopped: bool
+    writes_to_pipe: bool
 
 
 def at_port(port):
@@ -46,7 +47,7 @@ def _files_of(folder):
 def _holder_of(folder):
     command = (folder / "cmdline").read_bytes().replace(b"\0", b" ").decode(errors="replace").strip()
     state = (folder / "stat").read_text().rsplit(")", 1)[1].split()[0]
-    return Holder(int(folder.name), command, state in "Tt")
+    return Holder(int(folder.name), command, state in "Tt", str((folder / "fd" / "1").readlink()).startswith("pipe:"))
 
 
 def addresses():
