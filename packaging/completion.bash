@@ -1,4 +1,4 @@
-# Completion of hags in bash.
+# Completion of hags and hagsctl in bash.
 _hags() {
     local word=${COMP_WORDS[COMP_CWORD]} before=${COMP_WORDS[COMP_CWORD - 1]} command=${COMP_WORDS[1]} words=
     if [ "$COMP_CWORD" = 1 ]; then
@@ -22,3 +22,14 @@ _hags() {
     mapfile -t COMPREPLY < <(compgen -W "$words" -- "$word")
 }
 complete -o default -F _hags hags
+
+_hagsctl() {
+    local word=${COMP_WORDS[COMP_CWORD]} before=${COMP_WORDS[COMP_CWORD - 1]} words=
+    case $before in
+        --settings) return ;;
+        --node) words=$(seq 1 32) ;;
+        *) words='status check clients members watch get set lock elect expel --settings --node --seconds --wait --json --help' ;;
+    esac
+    mapfile -t COMPREPLY < <(compgen -W "$words" -- "$word")
+}
+complete -o default -F _hagsctl hagsctl

@@ -12,6 +12,7 @@ from dataclasses import dataclass
 TOP = pathlib.Path(__file__).resolve().parent.parent
 DOCS = "/usr/share/doc/hags"
 BULLET = r"\(bu"
+NOT_HERE = ("![", "<!--", "In the sources: ")  # so begin the blocks that a man page leaves out
 COMMANDS = ("run", "load", "daemon", "status", "client", "table")
 INSTALLED = (("./hags ", "hags "), ("tools/hags-", "hags-"), ("tools/", "hags-"), ("clients/python/hagsctl", "hagsctl"))
 
@@ -30,7 +31,7 @@ class Part:
             raise ValueError(f"docs/{self.page} has no part {self.heading}")
         rest = text[found.end() :]
         end = re.search(rf"^#{{1,{len(found[1])}}} ", rest, re.MULTILINE)
-        return blocks_of(rest[: end.start()] if end else rest)
+        return [it for it in blocks_of(rest[: end.start()] if end else rest) if not it[1].startswith(NOT_HERE)]
 
 
 @dataclass(frozen=True)
@@ -49,13 +50,15 @@ class Page:
 def pages():
     own = ("hags", "--help"), *(("hags", command, "--help") for command in COMMANDS)
     words = Part("command-line.md", "Words"), Part("command-line.md", "Values"), Part("command-line.md", "Examples")
-    running = [Part("operating.md", it) for it in ("Starting", "The options of a service", "Asking", "Clients on other machines", "What to watch")]
+    running = [Part("installing.md", it) for it in ("Settings", "Start", "Without systemd", "What is where")]
+    running += [Part("operating.md", it) for it in ("Starting", "The options of a service", "Asking", "Clients on other machines", "What to watch")]
     running += [Part("operating.md", it) for it in ("What it writes", "How fast a death is seen", "How long a daemon runs")]
     running += [Part("operating.md", "Receive buffers"), Part("operating.md", "Ports and networks")]
-    settings = Part("operating.md", "Settings"), Part("formats.md", "Settings of a node")
-    reading = Part("formats.md", "The input of a client"), Part("messages.md", "Reasons of a bad line")
+    settings = Part("operating.md", "Settings"), Part("operating.md", "How fast a death is seen"), Part("formats.md", "Settings of a node")
+    reading = tuple(Part("formats.md", it) for it in ("The digest of settings", "The input of a client"))
+    reading += (Part("messages.md", "Reasons of a bad line"),)
     told = Part("metrics.md", "What is told"), Part("metrics.md", "Alerts")
-    everything = ("hags(1)", "hagsctl(1)", "hags-settings(5)", "hags-daemon(8)", "hags-metrics(8)", "hags-annotate(1)", "hags-view(1)")
+    everything = ("hags(1)", "hagsctl(1)", *(f"hags-{it}(1)" for it in TOOLS), "hags-settings(5)", "hags-daemon(8)", "hags-metrics(8)")
     return [
         Page("hags", 1, "group membership for clusters", own, (*words, Part("messages.md", "Exit statuses of `hags`")), everything),
         Page("hagsctl", 1, "looks at a cluster of hags, and uses it", (("hagsctl", "--help"),), (Part("clients/python.md", "hagsctl"),), everything),
@@ -100,8 +103,6 @@ def kind_of(line, before):
         return "item"
     if line.startswith("|"):
         return "table"
-    if line.startswith("!["):
-        return "picture"
     return "text" if line else None
 
 
@@ -109,9 +110,9 @@ def roff_text(text):
     """A text with its marks as requests for fonts."""
     for old, new in INSTALLED:
         text = text.replace(old, new)
-    text = re.sub(r"\[([^]]*)\]\(#[^)]*\)", r"\1", text)
+    text = re.sub(r"\[([^]]*)\]\(#[^)]*\)", r"\1", text).replace("](README.md", "](index.md")
     text = re.sub(r"\[([^]]*)\]\((?!http)(?:\.\./|docs/)*([\w./-]+)[^)]*\)", r"\1 (\2)", text)
-    pieces = re.split(r"(`[^`]+`|\*\*[^*]+\*\*|(?<![\w*])\*[^*]+\*(?![\w*]))", text)
+    pieces = re.split(r"(`[^`]+`|\*\*[^*]+\*\*|(?<![\w*])\*(?! )[^*]+(?<! )\*(?![\w*]))", text)
     return "".join(map(roff_piece, pieces))
 
 
@@ -119,7 +120,7 @@ def roff_piece(piece):
     if piece.startswith("`") and len(piece) > 1:
         return rf"\fB{escaped(piece[1:-1])}\fP"
     if piece.startswith("**"):
-        return rf"\fB{escaped(piece[2:-2])}\fP"
+        return rf"\fB{escaped(piece[2:-2].replace('`', ''))}\fP"
     if piece.startswith("*") and len(piece) > 2:
         return rf"\fI{escaped(piece[1:-1])}\fP"
     return escaped(piece)
@@ -154,7 +155,7 @@ def roff_block(kind, text):
         return [f".IP {tag} 3", *(roff_line(roff_text(line.strip())) for line in first.split("\n"))]
     if kind == "table":
         return roff_table([cells_of(line) for line in text.split("\n")])
-    return [] if kind == "picture" else [".PP", roff_line(roff_text(" ".join(text.split("\n"))))]
+    return [".PP", roff_line(roff_text(" ".join(line.strip() for line in text.split("\n"))))]
 
 
 def cells_of(line):
@@ -182,13 +183,14 @@ def roff_table(rows):
 
 
 def help_text(words, program):
-    """What a call says of itself, at the width of a page."""
+    """What a call says of itself, at the width of a page, as it is installed."""
     places = {"hags": program, "hagsctl": TOP / "clients" / "python" / "hagsctl"}
     places |= {it: TOP / "tools" / it for it in ("hags-daemon", "hags-metrics")}
     start = places.get(words[0]) or TOP / "tools" / words[0].removeprefix("hags-")
     environment = {"COLUMNS": "80", "PATH": "/usr/bin:/bin"}
     ran = subprocess.run([start, *words[1:]], capture_output=True, text=True, check=True, env=environment)
-    return ran.stdout.replace(f"usage: {start.name} ", f"usage: {words[0]} ").rstrip()
+    text = ran.stdout.replace(f"usage: {start.name} ", f"usage: {words[0]} ").replace("(./hags)", "(/usr/bin/hags)")
+    return text.replace("docs/", f"{DOCS}/").rstrip()
 
 
 def roff_page(page, program):
