@@ -3,8 +3,11 @@ import collections
 import heapq
 import re
 import struct
+from collections.abc import Iterable
 from dataclasses import dataclass, field
 
+Piece = tuple[int, int, int, int]  # sender, incarnation, number, index
+Place = tuple[int, int]  # of an act: its daemon, and where it stands there
 HEAD = struct.Struct(">B2sBBIQII")  # a network, and the head of a piece
 HEARTBEAT = 1
 CALL = re.compile(r"(?:\d+ +)?(\d+\.\d+) (sendto|recvfrom)\(\d+, (?:\"([^\"]*)\")?.*= (-?\d+).*<(\d+\.\d+)>")
@@ -25,11 +28,11 @@ class Act:
     daemon: int
     place: int
     began: float
-    got: tuple = None  # the piece
-    sends: list = field(default_factory=list)  # of each its piece, and whether it goes out in a tick
+    got: Piece | None = None
+    sends: list[tuple[Piece | None, bool]] = field(default_factory=list)  # of each its piece, and whether it goes out in a tick
 
 
-def piece_of(text):
+def piece_of(text: str) -> Piece | None:
     """Sender, incarnation, number and index of a piece, as strace writes its bytes; None for what is none."""
     data = bytes.fromhex(text.replace("\\x", "")) if text else b""
     if len(data) < HEAD.size or data[1:3] != b"RP":
@@ -38,13 +41,13 @@ def piece_of(text):
     return sender, incarnation, number, index
 
 
-def is_heartbeat(text):
+def is_heartbeat(text: str) -> bool:
     """Is it the first piece of a HEARTBEAT, which nothing but a tick sends?"""
     data = bytes.fromhex(text.replace("\\x", ""))[HEAD.size :]
     return data[:2] == b"RG" and len(data) > 3 and data[3] == HEARTBEAT
 
 
-def acts_of(daemon, lines):
+def acts_of(daemon: int, lines: Iterable[str]) -> list[Act]:
     acts = [Act(daemon, 0, 0.0)]
     ticks = True  # behind the start, and behind a receive that brought nothing, only a tick sends
     for line in lines:
@@ -62,19 +65,19 @@ def acts_of(daemon, lines):
     return acts
 
 
-def edges_of(acts, senders):
+def edges_of(acts: list[list[Act]], senders: dict[Piece, Place]) -> dict[Place, list[Place]]:
     """For each act those that come before it: its daemon's last, and the sender of what it received."""
     before = {}
     for own in acts:
         for act in own:
             before[act.daemon, act.place] = [(act.daemon, act.place - 1)] if act.place else []
-            sender = senders.get(act.got)
+            sender = senders.get(act.got) if act.got else None
             if sender:
                 before[act.daemon, act.place].append(sender)
     return before
 
 
-def ordered(before):
+def ordered(before: dict[Place, list[Place]]) -> tuple[list[Place], list[Place]]:
     """An order of all, each behind those before it, and what is left that waits for each other."""
     waiting = {act: len(earlier) for act, earlier in before.items()}
     behind = collections.defaultdict(list)
@@ -94,9 +97,13 @@ def ordered(before):
     return order, [act for act, count in waiting.items() if count]
 
 
-def knots(before):
+def knots(before: dict[Place, list[Place]]) -> tuple[int, int]:
     """How many sets of several wait for each other, and how many are in them (Tarjan, without recursion)."""
-    index, low, on, stack, sets = {}, {}, set(), [], []
+    index: dict[Place, int] = {}
+    low: dict[Place, int] = {}
+    on: set[Place] = set()
+    stack: list[Place] = []
+    sets: list[int] = []
     for root in before:
         if root in index:
             continue
@@ -132,7 +139,7 @@ def knots(before):
     return len(several), sum(several)
 
 
-def found(traces):
+def found(traces: Iterable[Iterable[str]]) -> list[str]:
     """Says of the traces of daemons, each its lines, what order their acts have; raises Wrong where they have none."""
     acts = [acts_of(number, lines) for number, lines in enumerate(traces)]
     senders, turns = {}, {}
@@ -143,20 +150,20 @@ def found(traces):
                     senders[piece] = (act.daemon, act.place)
                     # turn k is the tick before receive k, that receive, and its answers
                     turns[piece] = (act.daemon, act.place + ticks)
-    received = [act for own in acts for act in own if act.got]
-    known = [act for act in received if act.got in senders]
+    received = [(act, act.got) for own in acts for act in own if act.got]
+    known = [(act, got) for act, got in received if got in senders]
     if not known:
         raise Unknown("no daemon received what another sent")
     order, left = ordered(edges_of(acts, senders))
     if left:
         raise Wrong(f"{len(left)} acts wait for each other, the first {left[:5]}")
     place = {act: at for at, act in enumerate(order)}
-    for act in known:
-        sender = senders[act.got]
+    for act, got in known:
+        sender = senders[got]
         if place[sender] >= place[act.daemon, act.place]:
-            raise Wrong(f"{act.got} is received before it is sent")
+            raise Wrong(f"{got} is received before it is sent")
         if acts[sender[0]][sender[1]].began >= act.began:
-            raise Wrong(f"{act.got} is received before the act began that sent it")
+            raise Wrong(f"{got} is received before the act began that sent it")
     count, inside = knots(edges_of(acts, turns))
     return [
         f"order  {len(order)} acts of {len(acts)} daemons: {len(known)} of {len(received)} datagrams received are theirs",

@@ -6,8 +6,10 @@ import resource
 import select
 import stat
 import time
+from collections.abc import Iterable, Iterator
 
 from hags_tools import asking, reading, sockets
+from hags_tools.programs import Program
 
 COMMANDS = ("run", "load", "daemon", "status", "client", "table")
 KINDS = ("up", "down", "ring", "in", "base", "put", "heard", "cast", "asked", "told", "noted", "refused", "show")
@@ -33,11 +35,14 @@ FIRST_FREE_PORT = 1024
 class Words:
     """The words of a call behind `hags`, as docs/command-line.md has them. `fault` is a sentence, or empty."""
 
-    def __init__(self, words):
-        self.command, self.node, self.operand, self.given = None, None, None, {}
+    def __init__(self, words: Iterable[str]) -> None:
+        self.command = ""
+        self.node: int | None = None
+        self.operand: str | None = None
+        self.given: dict[str, str] = {}
         self.fault = self._fault(list(words))
 
-    def _fault(self, words):
+    def _fault(self, words: list[str]) -> str:
         for word in words:
             if any(0xDC80 <= ord(letter) <= 0xDCFF for letter in word):
                 return f"The word {word!r} is no UTF-8."
@@ -52,7 +57,7 @@ class Words:
             return ""
         return self._of_rest(words)
 
-    def _of_unknown_command(self):
+    def _of_unknown_command(self) -> str:
         if self.command in ("help", "-h", "-?", "-help"):
             return "Write `hags --help`, or `hags COMMAND --help`."
         if self.command in ("-v", "-V", "version"):
@@ -61,19 +66,20 @@ class Words:
         guess = f" Is it `{near[0]}`?" if near else ""
         return f"`{self.command}` is no command.{guess} The first word is one of {', '.join(COMMANDS)}; `hags --help` explains them."
 
-    def _of_rest(self, words):
+    def _of_rest(self, words: list[str]) -> str:
         operands = []
         while words:
             word = words.pop(0)
             if word == "--":
                 operands += words
                 break
-            fault = self._of_option(word, words) if word.startswith("-") and word != "-" else operands.append(word)
-            if fault:
+            if not word.startswith("-") or word == "-":
+                operands.append(word)
+            elif fault := self._of_option(word, words):
                 return fault
         return self._of_operands(operands) or self._of_missing()
 
-    def _of_option(self, word, words):
+    def _of_option(self, word: str, words: list[str]) -> str:
         name, equals, value = word.partition("=")
         flags = FLAGS.get(self.command, ())
         known = OPTIONS[self.command] + flags
@@ -84,7 +90,7 @@ class Words:
         if name in self.given:
             return f"`{name}` stands twice. Give it once."
         if name in flags:
-            self.given[name] = True
+            self.given[name] = ""
             return f"`{name}` has no value. Write it alone." if equals else ""
         if not equals:
             if not words or words[0].startswith("-"):
@@ -93,7 +99,7 @@ class Words:
         self.given[name] = value
         return self._of_value(name, value)
 
-    def _of_unknown_option(self, name, known):
+    def _of_unknown_option(self, name: str, known: tuple[str, ...]) -> str:
         if name == "--port":
             return "The port stands in the settings, as a line `port P`; node N has the UDP port P + N. There is no `--port`."
         meant = [it for it in known if it[1:3] == name[:2] or it.startswith(name)] or difflib.get_close_matches(name, known, 1)
@@ -101,13 +107,13 @@ class Words:
         there = ", ".join(known) or "none"
         return f"`hags {self.command}` has no option `{name}`.{guess} It has: {there}."
 
-    def _good(self, name):
+    def _good(self, name: str) -> str:
         if name == "--kinds":
             return f"kinds of lines joined by commas, each once, of {', '.join(KINDS)}"
         low, high = RANGES[name]
         return f"a number from {low} to {high:,}, digits without a zero in front"
 
-    def _of_value(self, name, value):
+    def _of_value(self, name: str, value: str) -> str:
         if name == "--kinds":
             kinds = value.split(",")
             good = set(kinds) <= set(KINDS) and len(set(kinds)) == len(kinds)
@@ -117,7 +123,7 @@ class Words:
             self.node = int(value) if good and name == "--node" else self.node
         return "" if good else f"`{value}` is not good for `{name}`: it is to be {self._good(name)}."
 
-    def _of_operands(self, operands):
+    def _of_operands(self, operands: list[str]) -> str:
         most = 1 if self.command in ("load", "status", "table") else 0
         if len(operands) > most:
             word = operands[most]
@@ -137,7 +143,7 @@ class Words:
             return "Behind `table` comes a group's name: 1 to 32 letters, digits, `_`, `-` and `.`."
         return ""
 
-    def _of_missing(self):
+    def _of_missing(self) -> str:
         if self.command in ("daemon", "status", "client") and "--node" not in self.given:
             return f"The node is not said. Write `--node N`, N being its number in the settings, from 1 to 32."
         if {"--lasting", "--turns"} <= self.given.keys():
@@ -148,7 +154,7 @@ class Words:
         return ""
 
 
-def of_standard_input(seconds=PATIENCE):
+def of_standard_input(seconds: float = PATIENCE) -> tuple[bytes | None, str]:
     """The bytes on standard input, or a sentence that says why there are none."""
     try:
         mode = os.fstat(0).st_mode
@@ -170,7 +176,7 @@ def of_standard_input(seconds=PATIENCE):
         data += block
 
 
-def of_settings(data, aim, node):
+def of_settings(data: bytes, aim: str, node: int | None) -> tuple[reading.Settings, str]:
     """A line for the first bad line of an input, empty where there is none; and what was read."""
     settings, fault = reading.read(data, aim, node)
     if not fault:
@@ -180,7 +186,7 @@ def of_settings(data, aim, node):
     return settings, f"line {fault.number}: {fault.reason}" + (f": `{line}`" if line else "") + f"\n  {fault.advice}"
 
 
-def of_port(settings, node):
+def of_port(settings: reading.Settings, node: int) -> Iterator[str]:
     """Whether this daemon can have its port, and its addresses are this machine's."""
     port = settings.port + node
     if sockets.at_port(port):
@@ -197,7 +203,7 @@ def of_port(settings, node):
             yield f"Node {node} is to have {address} on network {network}, which is no address of this machine; it has: {own}."
 
 
-def of_incarnation(given):
+def of_incarnation(given: str | None) -> Iterator[str]:
     """Whether the incarnation that is given is one that a start without it has passed."""
     now = int(time.time())
     if given and int(given) < now:
@@ -207,7 +213,7 @@ def of_incarnation(given):
         )
 
 
-def of_standard_output():
+def of_standard_output() -> Iterator[str]:
     """What will keep a daemon from writing."""
     try:
         about = os.fstat(1)
@@ -228,14 +234,14 @@ def of_standard_output():
         yield f"Files may grow to {limit:,} bytes here (ulimit -f), and a daemon that passes that is killed (SIGXFSZ). Raise it."
 
 
-def of_limits():
+def of_limits() -> Iterator[str]:
     """What keeps a daemon from its memory."""
     memory = resource.getrlimit(resource.RLIMIT_AS)[0]
     if memory != resource.RLIM_INFINITY and memory < 16 << 20:
         yield f"The memory is limited to {memory:,} bytes (ulimit -v). A daemon starts with some 4,000,000; give it 64,000,000."
 
 
-def of_daemon(program, settings, data, node, is_client):
+def of_daemon(program: Program, settings: reading.Settings, data: bytes, node: int, is_client: bool) -> Iterator[str]:
     """Why the daemon of a node does not answer, as far as this machine shows."""
     port = settings.port + node
     addresses = [address for address, _ in settings.places(node).values()]
@@ -259,13 +265,13 @@ def of_daemon(program, settings, data, node, is_client):
         yield f"The daemon of node {node} answers `hags status`. If it takes no clients, start it with `--remote`."
 
 
-def until_begin(data):
+def until_begin(data: bytes) -> bytes:
     """The settings of an input, without the calls behind them."""
     found = re.search(rb"^begin *$", data, re.MULTILINE)
     return data[: found.end()] + b"\n" if found else data
 
 
-def differences(named):
+def differences(named: dict[str, reading.Settings]) -> Iterator[str]:
     """What settings that were read from several files say otherwise, as sentences; by name the settings."""
     (first, one), *others = named.items()
     for name, other in others:
@@ -286,12 +292,12 @@ def differences(named):
                     yield f"adapter of node {node} on network {network}: {first} has {pair[0]}, and {name} has {pair[1]}"
 
 
-def shown(value):
+def shown(value: object) -> str:
     if isinstance(value, (tuple, list)):
         return " ".join(shown(it) for it in value) or "none"
     return str(value)
 
 
-def is_node(word):
+def is_node(word: str) -> bool:
     low, high = RANGES["--node"]
     return bool(reading.NUMBER.fullmatch(word)) and low <= int(word) <= high

@@ -10,15 +10,18 @@ import socket
 import subprocess
 import time
 from collections import Counter
+from collections.abc import Callable, Collection, Iterable
 from dataclasses import dataclass
+from typing import TypeVar
 
 from hags_tools import records
-from hags_tools.programs import TOP
+from hags_tools.programs import TOP, Program
 
 LAST_PORT = 65_000
 LINK_FAULT, NO_REPLY = 6, 9
 STARTS = 5
 DIE_WITH_PARENT = 1  # PR_SET_PDEATHSIG of Linux
+T = TypeVar("T")
 libc = ctypes.CDLL(None)
 
 
@@ -26,7 +29,7 @@ class DaemonError(Exception):
     """A daemon did what it should not."""
 
 
-def bound(port):
+def bound(port: int) -> socket.socket:
     """A UDP socket at this port on all addresses; at any free one for 0."""
     opened = socket.socket(socket.AF_INET, socket.SOCK_DGRAM)
     try:
@@ -37,7 +40,7 @@ def bound(port):
     return opened
 
 
-def row_of_sockets(count):
+def row_of_sockets(count: int) -> list[socket.socket]:
     """Sockets at so many ports in a row that are free."""
     for _ in range(1000):
         row = [bound(0)]
@@ -53,10 +56,10 @@ def row_of_sockets(count):
     raise DaemonError(f"the system has no {count} free ports in a row")
 
 
-def free_port(nodes):
+def free_port(nodes: int) -> int:
     """What the settings can have as `port`, so that the ports of nodes 1 to so many are free."""
     row = row_of_sockets(nodes)
-    port = row[0].getsockname()[1] - 1
+    port: int = row[0].getsockname()[1] - 1
     for one in row:
         one.close()
     return port
@@ -68,11 +71,11 @@ class Plan:
 
     nodes: int
     networks: int = 1
-    heartbeat: tuple = (1, 4)
-    levels: tuple = ()
-    calls: tuple = ()
+    heartbeat: tuple[int, int] = (1, 4)
+    levels: tuple[int, ...] = ()
+    calls: tuple[str, ...] = ()
 
-    def settings(self, port):
+    def settings(self, port: int) -> str:
         numbers = range(1, self.nodes + 1)
         lines = [f"node {node}" for node in numbers]
         for network in range(1, self.networks + 1):
@@ -88,70 +91,78 @@ class Daemon:
 
     STARTED = ("--plain",)  # how tools/hags-daemon starts it
 
-    def __init__(self, program, node, settings, folder, turns=None, words=()):
+    def __init__(
+        self, program: Program, node: int, settings: str, folder: pathlib.Path, turns: int | None = None, words: Iterable[str] = ()
+    ) -> None:
         self.program, self.node, self.folder = str(program), node, folder
         self.settings = folder / f"settings-{node}"
         self.settings.write_text(settings)
         self.turns, self.words = turns, words
-        self.process = None
-        self.lives = []
+        self.started: subprocess.Popen[bytes] | None = None
+        self.lives: list[pathlib.Path] = []
 
-    def start(self):
+    def start(self) -> None:
         """Starts it by tools/hags-daemon, which raises its incarnation. It ends where this process ends."""
         life = len(self.lives) + 1
         transcript = self.folder / f"node-{self.node}-life-{life}"
         kept = self.folder / f"incarnation-{self.node}"
-        words = [TOP / "tools" / "hags-daemon", *self.STARTED, "--kept", kept, "--program", self.program, "--node", str(self.node)]
+        words: list[Program] = [TOP / "tools" / "hags-daemon", *self.STARTED, "--kept", kept, "--program", self.program, "--node", str(self.node)]
         words += [*self.words, *(["--turns", str(self.turns)] if self.turns else [])]
         said = transcript.with_suffix(".said")
         with self.settings.open() as settings, transcript.open("w") as out, said.open("w") as err:
-            self.process = subprocess.Popen(words, stdin=settings, stdout=out, stderr=err, preexec_fn=die_with_parent)
+            self.started = subprocess.Popen(words, stdin=settings, stdout=out, stderr=err, preexec_fn=die_with_parent)
         self.lives.append(transcript)
 
-    def end(self):
+    @property
+    def process(self) -> "subprocess.Popen[bytes]":
+        if self.started is None:
+            raise DaemonError(f"the daemon of node {self.node} was never started")
+        return self.started
+
+    def end(self) -> str:
         """How its last life ended."""
         said = self.lives[-1].with_suffix(".said").read_text(errors="replace").strip()
         return f"the daemon of node {self.node} has ended with status {self.process.returncode}: {said}"
 
-    def is_alive(self):
-        return self.process is not None and self.process.poll() is None
+    def is_alive(self) -> bool:
+        return self.started is not None and self.started.poll() is None
 
-    def lines(self):
+    def lines(self) -> list[str]:
         """What its last life has written so far, but for a line that has no end yet."""
         return self.lives[-1].read_text(encoding="ascii").split("\n")[:-1]
 
-    def member(self):
+    def member(self) -> str | None:
         """The node with its incarnation, once its last life has written it."""
         with self.lives[-1].open() as transcript:
             first = transcript.readline()
         words = first.split()
         return f"{words[1]}.{words[2]}" if first.endswith("\n") and words[0] == "up" else None
 
-    def signal(self, number):
+    def signal(self, number: int) -> None:
         self.process.send_signal(number)
 
-    def memory(self):
+    def memory(self) -> int:
         """How many bytes of memory it has now."""
         return memory_of(self.process.pid)
 
-    def kill(self):
-        if self.process is not None:
-            self.process.kill()
-            self.process.wait()
+    def kill(self) -> None:
+        if self.started is not None:
+            self.started.kill()
+            self.started.wait()
 
-    def ask(self, what, turns=50):
+    def ask(self, what: str, turns: int = 50) -> "subprocess.Popen[bytes]":
         """Begins to ask it, by `hags status`, and waits so many turns of 20 milliseconds for what it answers."""
         words = [self.program, "status", what, "--node", str(self.node), "--turns", str(turns)]
         pipe = subprocess.PIPE
         with self.settings.open() as settings:
             return subprocess.Popen(words, stdin=settings, stdout=pipe, stderr=pipe, preexec_fn=die_with_parent)
 
-    def answer(self, asking):
+    def answer(self, asking: "subprocess.Popen[bytes]") -> list[str] | None:
         """The lines of its answer to a question that has ended; None where there was no reply."""
         lines, said = asking.communicate()
         if asking.returncode not in (0, NO_REPLY):
-            said = said.decode(errors="replace").strip()
-            raise DaemonError(f"hags status of node {self.node}: status {asking.returncode}: {said}")
+            why = said.decode(errors="replace").strip()
+            raise DaemonError(f"hags status of node {self.node}: status {asking.returncode}: {why}")
         return None if asking.returncode else lines.decode("ascii").splitlines()
 
 
@@ -161,11 +172,11 @@ class Supervised(Daemon):
 
     STARTED = ("--supervise",)
 
-    def member(self):
+    def member(self) -> str | None:
         last = next((line.split() for line in reversed(self.lines()) if line.startswith("up ")), None)
-        return last and f"{last[1]}.{last[2]}"
+        return f"{last[1]}.{last[2]}" if last else None
 
-    def child(self):
+    def child(self) -> int:
         """The process of the daemon itself. It is waited for where the supervisor starts another one just now."""
         while not (process := daemon_of(self.process.pid)):
             if not self.is_alive():
@@ -173,10 +184,10 @@ class Supervised(Daemon):
             time.sleep(0.01)
         return process
 
-    def memory(self):
+    def memory(self) -> int:
         return memory_of(self.child())
 
-    def pause(self, seconds, with_supervisor):
+    def pause(self, seconds: float, with_supervisor: bool) -> None:
         """Stops the daemon for so long, alone or with its supervisor, and lets it go on."""
         stopped = [self.child(), *([self.process.pid] if with_supervisor else [])]
         for process in stopped:
@@ -186,17 +197,17 @@ class Supervised(Daemon):
             os.kill(process, signal.SIGCONT)
 
 
-def memory_of(process):
+def memory_of(process: int) -> int:
     return int(pathlib.Path(f"/proc/{process}/statm").read_text().split()[1]) * resource.getpagesize()
 
 
-def daemon_of(supervisor):
+def daemon_of(supervisor: int) -> int:
     """The process of the daemon beside which this process stands; 0 where there is none now."""
     children = pathlib.Path(f"/proc/{supervisor}/task/{supervisor}/children").read_text().split()
     return next((int(it) for it in children if b"\0daemon\0" in pathlib.Path(f"/proc/{it}/cmdline").read_bytes()), 0)
 
 
-def die_with_parent():
+def die_with_parent() -> None:
     libc.prctl(DIE_WITH_PARENT, signal.SIGKILL)
 
 
@@ -204,25 +215,25 @@ class Cluster:
     """Daemons by their nodes, ended at the end of a `with`. Whatever is waited for is waited for by `pause`, which is a
     function of seconds as time.sleep."""
 
-    def __init__(self, daemons, pause=time.sleep):
+    def __init__(self, daemons: Iterable[Daemon], pause: Callable[[float], object] = time.sleep) -> None:
         self.daemons = {daemon.node: daemon for daemon in daemons}
         self.pause = pause
 
-    def __enter__(self):
+    def __enter__(self) -> "Cluster":
         return self
 
-    def __exit__(self, *_):
+    def __exit__(self, *_: object) -> None:
         for daemon in self.daemons.values():
             daemon.kill()
 
-    def start(self, nodes=None, seconds=120):
+    def start(self, nodes: Iterable[int] | None = None, seconds: float = 120) -> None:
         """Starts these daemons, all where none is named, and waits until each has written that it is up."""
         starting = [self.daemons[node] for node in nodes or self.daemons]
         tries = dict.fromkeys(starting, 1)
         for daemon in starting:
             daemon.start()
 
-        def are_up():
+        def are_up() -> bool:
             for daemon in starting:
                 if not daemon.is_alive():
                     # Another program may have got its port between two of its lives.
@@ -234,14 +245,14 @@ class Cluster:
 
         self.wait_for("the first lines", seconds, are_up)
 
-    def ask(self, what, nodes):
+    def ask(self, what: str, nodes: Iterable[int]) -> dict[int, list[str] | None]:
         """What each of these nodes answers, None where it does not."""
         askings = {node: self.daemons[node].ask(what) for node in nodes}
         while any(asking.poll() is None for asking in askings.values()):
             self.pause(0.001)
         return {node: self.daemons[node].answer(asking) for node, asking in askings.items()}
 
-    def wait_for(self, what, seconds, found):
+    def wait_for(self, what: str, seconds: float, found: Callable[[], T | None]) -> T:
         """Waits until this function finds something, and answers that. `what` says for what is waited."""
         end = time.monotonic() + seconds
         while True:
@@ -252,11 +263,11 @@ class Cluster:
                 raise DaemonError(f"waited {seconds} s for {what}")
             self.pause(0.01)
 
-    def views(self, nodes):
+    def views(self, nodes: Iterable[int]) -> list[records.ViewStatus | None]:
         """The view of each of these nodes, None where it does not answer."""
-        return [records.read_status(lines[0]) if lines else None for lines in self.ask("hagsns", nodes).values()]
+        return [records.read_view(lines[0]) if lines else None for lines in self.ask("hagsns", nodes).values()]
 
-    def view_of(self, nodes):
+    def view_of(self, nodes: Collection[int]) -> records.ViewStatus | None:
         """The view in which these nodes are, they alone, each in its last incarnation and none frozen; None where there
         is no such view."""
         for node in nodes:
@@ -268,28 +279,28 @@ class Cluster:
             return None
         return view if view.members == tuple(self.daemons[node].member() for node in sorted(nodes)) else None
 
-    def rings_of(self, nodes):
+    def rings_of(self, nodes: Collection[int]) -> set[int]:
         """The networks on which each of these nodes says that they, and they alone, are its ring."""
-        answers = self.ask("hats", nodes).values()
-        if None in answers:
+        answers = [lines for lines in self.ask("hats", nodes).values() if lines is not None]
+        if len(answers) < len(nodes):
             return set()
         wanted = f"members={','.join(map(str, sorted(nodes)))}"
         are_whole = zip(*([line.split()[3] == wanted for line in lines] for lines in answers))
         return {network for network, said in enumerate(are_whole, 1) if all(said)}
 
-    def left_behind(self, nodes):
+    def left_behind(self, nodes: Collection[int]) -> int | None:
         """One of the fewest of these nodes with a view of their own, where all are in one ring of a network, and the least
         node is in a view of all: then it asks for no other view, and nobody else does. None elsewhere."""
         nodes = sorted(nodes)
-        views = self.views(nodes)
-        if None in views or views[0].members != tuple(self.daemons[node].member() for node in nodes):
+        views = [view for view in self.views(nodes) if view]
+        if len(views) < len(nodes) or views[0].members != tuple(self.daemons[node].member() for node in nodes):
             return None
         holders = Counter(views)
         if len(holders) == 1 or not self.rings_of(nodes):
             return None
         return min(zip(nodes, views), key=lambda pair: holders[pair[1]])[0]
 
-    def help_left_behind(self, nodes):
+    def help_left_behind(self, nodes: Collection[int]) -> int | None:
         """Does what docs/operating.md tells the operator to do where views stay apart: starts the daemon anew that was left
         behind. Answers its node; None where there is none."""
         node = self.left_behind(nodes)
@@ -298,12 +309,12 @@ class Cluster:
             self.start([node])
         return node
 
-    def wait_for_view(self, nodes, seconds=120):
+    def wait_for_view(self, nodes: Collection[int], seconds: float = 120) -> records.ViewStatus:
         names = ", ".join(map(str, sorted(nodes)))
         return self.wait_for(f"one view of nodes {names}", seconds, lambda: self.view_of(nodes))
 
 
-def call(daemon, calls, turns=5_000):
+def call(daemon: Daemon, calls: Iterable[str], turns: int = 5_000) -> tuple[int, list[str]]:
     """Makes these calls at a daemon with --remote, by `hags client`, and answers its status and what it wrote. The client, and
     what it joined, stays there when the program has ended."""
     settings = daemon.settings.read_text().split("begin\n")[0]

@@ -1,26 +1,27 @@
 """Plain sentences for refusals, `told` records and the end of a play, which `tools/annotate --explain` prints."""
 from hags_tools import playing, reading, records
 
+
 class Names:
     """What is known of the providers and requests of a run, so that a sentence can name them."""
 
-    def __init__(self):
-        self.client_of = {}
-        self.group_of = {}
-        self.kind_of = {}
+    def __init__(self) -> None:
+        self.client_of: dict[str, str] = {}
+        self.group_of: dict[str, str] = {}
+        self.kind_of: dict[tuple[str, int], str] = {}
 
-    def learn(self, step, record):
+    def learn(self, step: playing.Step, record: records.Record) -> None:
         if isinstance(record, records.Asked):
             self.kind_of[record.provider, record.request] = record.kind
             self.group_of[record.provider] = record.group
             if record.kind == "join":
                 self.client_of[record.provider] = step.words()[1]
 
-    def client(self, provider):
+    def client(self, provider: str) -> str:
         return self.client_of.get(provider, provider)
 
 
-def of_record(step, record, names):
+def of_record(step: playing.Step, record: records.Record, names: Names) -> str:
     """The sentence for a record of a step, empty for one that needs none."""
     if isinstance(record, records.Refused):
         return _of_refusal(step.words(), record)
@@ -29,7 +30,7 @@ def of_record(step, record, names):
     return ""
 
 
-def _of_refusal(call, record):
+def _of_refusal(call: list[str], record: records.Refused) -> str:
     node, name, code, rest = record.node, record.name, record.code, record.detail
     group = call[2] if len(call) > 2 else ""
     if code == "NO_INIT":
@@ -77,7 +78,7 @@ def _of_refusal(call, record):
     return ""
 
 
-def _of_parameter(name, group, field):
+def _of_parameter(name: str, group: str, field: str) -> str:
     return {
         "name": "HostMembership is the name of the hosts of the view, which nobody can join.",
         "value": "A value has at most 256 bytes in a view of level 1, and 1024 in one of level 2.",
@@ -87,7 +88,7 @@ def _of_parameter(name, group, field):
     }[field]
 
 
-def _of_telling(record, names):
+def _of_telling(record: records.Told, names: Names) -> str:
     provider, request, code, rest = record
     name = names.client(provider)
     group = names.group_of.get(provider, "its group")
@@ -128,7 +129,7 @@ def _of_telling(record, names):
     return ""
 
 
-def of_failure(played, script):
+def of_failure(played: playing.Steps, script: bytes) -> str:
     """The sentence for the line of a script at which its play ended."""
     if played.status != playing.BAD_LINE:
         return {
@@ -137,4 +138,5 @@ def of_failure(played, script):
             5: "The transcript could not be written to its end.",
             7: "The packets of a run have at most 536870912 bytes, and pass that here. Play a shorter script.",
         }[played.status]
-    return reading.read(script, reading.SCRIPT)[1].advice
+    _, fault = reading.read(script, reading.SCRIPT)
+    return fault.advice if fault else ""

@@ -6,10 +6,14 @@ and it is not asked again until it was started anew."""
 import os
 import pathlib
 import time
-from typing import NamedTuple
+from collections.abc import Hashable, Iterable, Iterator
+from typing import Any, NamedTuple
 
-from hags_tools import asking, records, sockets
+from hags_tools import asking, reading, records, sockets
+from hags_tools.programs import Program
 
+Sample = tuple[str, dict[str, str], float]  # a name, labels and a number
+Thing = Hashable  # what lasts, by its name
 TURNS = 50  # of 20 milliseconds, for an answer
 PROC = pathlib.Path("/proc")
 TICKS, PAGE = os.sysconf("SC_CLK_TCK"), os.sysconf("SC_PAGE_SIZE")
@@ -69,10 +73,10 @@ METRICS = (
 class Lasting:
     """Since when a thing is as it is, by its name."""
 
-    def __init__(self):
-        self.since = {}
+    def __init__(self) -> None:
+        self.since: dict[Thing, float] = {}
 
-    def seconds(self, names, now):
+    def seconds(self, names: set[Thing], now: float) -> dict[Thing, float]:
         """For how long each of these has been there without a break."""
         self.since = {name: self.since.get(name, now) for name in names}
         return {name: now - since for name, since in self.since.items()}
@@ -81,42 +85,46 @@ class Lasting:
 class Watch:
     """Looks at the daemon of a node on this machine."""
 
-    def __init__(self, program, settings, data, node):
+    def __init__(self, program: Program, settings: reading.Settings, data: bytes, node: int) -> None:
         self.program, self.settings, self.data, self.node = program, settings, data, node
-        self.view, self.entered = None, 0
-        self.rings, self.formed = {}, {}
+        self.view: str | None = None
+        self.entered = 0
+        self.rings: dict[int, tuple[str, int]] = {}
+        self.formed: dict[int, int] = {}
         self.lasting = Lasting()
-        self.process, self.pauses = None, 0
-        self.mute = None  # the daemon, as NODE.INC, that did not answer what it was asked of itself
-        self.samples = []
+        self.process: tuple[str, str] | None = None
+        self.pauses = 0
+        self.mute: str | None = None  # the daemon, as NODE.INC, that did not answer what it was asked of itself
+        self.samples: list[Sample] = []
 
-    def look(self):
+    def look(self) -> None:
         """Looks once, and keeps what is told: a name, labels and a number each."""
         began = time.monotonic()
-        answers = {what: self.ask(what) for what in ("hagsns", "hats")}
-        is_up = None not in answers.values() and bool(answers["hagsns"])
+        views, rings = self.ask("hagsns"), self.ask("hats")
+        is_up = bool(views) and rings is not None
+        answers = {"hagsns": views or [], "hats": rings or []}
         if is_up:
             answers |= {what: self.ask(what) or [] for what in ("hagsgr", "hagsvote")}
             answers |= self.of_itself(answers["hagsns"][0])
         now = time.monotonic()
-        found = [("hags_up", {}, int(is_up)), ("hags_nodes", {}, len(self.settings.nodes))]
+        found: list[Sample] = [("hags_up", {}, int(is_up)), ("hags_nodes", {}, len(self.settings.nodes))]
         found += self.of_machine()
         if is_up:
             found.append(("hags_answer_seconds", {}, now - began))
             found += self.of_daemon(answers, now)
         self.samples = [(name, {"node": str(self.node), **labels}, number) for name, labels, number in found]
 
-    def ask(self, what):
+    def ask(self, what: str) -> list[Any] | None:
         return asking.ask(self.program, what, self.node, self.data, TURNS)
 
-    def of_itself(self, view):
+    def of_itself(self, view: records.ViewStatus) -> dict[str, list[Any]]:
         """What the daemon says of itself, where it does."""
         member = next((it for it in view.members if records.node_of(it) == self.node), None)
         said = None if member == self.mute else self.ask("hagsd")
         self.mute = None if said else member
         return {"hagsd": said, "hagscl": self.ask("hagscl") or []} if said else {}
 
-    def of_daemon(self, answers, now):
+    def of_daemon(self, answers: dict[str, list[Any]], now: float) -> Iterator[Sample]:
         view, rings = answers["hagsns"][0], answers["hats"]
         self.entered += view.view != self.view
         self.view = view.view
@@ -149,7 +157,7 @@ class Watch:
                 yield "hags_client_silent_seconds", {"client": client.name}, client.silent / TICKS_OF_A_SECOND
                 yield "hags_client_unread_events", {"client": client.name}, client.unread
 
-    def turns_told(self):
+    def turns_told(self) -> int | None:
         """How many turns the daemon was started for; None where that is not seen."""
         process = process_of(self.settings.port + self.node, self.node)
         words = words_of(process) if process else []
@@ -158,7 +166,7 @@ class Watch:
         told = [int(after) for word, after in zip(words, words[1:]) if word == b"--turns" and after.isdigit()]
         return told[0] if told else TURNS_UNTOLD if words else None
 
-    def note_ring(self, ring):
+    def note_ring(self, ring: records.RingStatus) -> None:
         """Counts the rings since the last look: those of one leader are numbered one after another."""
         leader, number = ring.ring.rsplit(".", 1)
         before = self.rings.get(ring.network)
@@ -166,7 +174,7 @@ class Watch:
         self.formed[ring.network] = self.formed.get(ring.network, 0) + max(more, 0)
         self.rings[ring.network] = leader, int(number)
 
-    def of_machine(self):
+    def of_machine(self) -> Iterator[Sample]:
         port = self.settings.port + self.node
         for socket in sockets.at_port(port)[:1]:
             yield "hags_socket_dropped_total", {}, socket.dropped
@@ -179,7 +187,7 @@ class Watch:
         if words:
             yield from of_process(words)
 
-    def note_process(self, words):
+    def note_process(self, words: list[str]) -> None:
         """Counts another daemon of the same supervisor: that one starts it anew after a pause alone, else it ends too."""
         if not words:
             return
@@ -189,7 +197,7 @@ class Watch:
             self.pauses += 1
 
 
-def of_counts(said, turns):
+def of_counts(said: records.DaemonStatus, turns: int | None) -> Iterator[Sample]:
     """What a daemon has counted, of so many turns for which it was started."""
     yield "hags_daemon_info", {"version": said.version, "settings": said.settings}, 1
     yield "hags_sessions", {}, said.keys
@@ -204,7 +212,7 @@ def of_counts(said, turns):
     yield "hags_datagrams_sent_total", {}, said.sent
 
 
-def process_of(port, node):
+def process_of(port: int, node: int) -> pathlib.Path | None:
     """The folder under /proc of the process that has the port; where one may not see whose that is, of one that was started as
     the daemon of the node."""
     if not sockets.at_port(port):
@@ -218,7 +226,7 @@ def process_of(port, node):
     return None
 
 
-def words_of(folder):
+def words_of(folder: pathlib.Path) -> list[bytes]:
     """The words that started the process of this folder."""
     try:
         return (folder / "cmdline").read_bytes().split(b"\0")
@@ -226,12 +234,12 @@ def words_of(folder):
         return []
 
 
-def is_daemon(folder, node):
+def is_daemon(folder: pathlib.Path, node: int) -> bool:
     words = words_of(folder)
     return words[1:2] == [b"daemon"] and any(pair == (b"--node", b"%d" % node) for pair in zip(words, words[1:]))
 
 
-def stat_of(folder):
+def stat_of(folder: pathlib.Path) -> list[str]:
     """What the system says of the process of this folder, in words from its state on; none where it has ended."""
     try:
         return (folder / "stat").read_text().rsplit(")", 1)[1].split()
@@ -239,19 +247,19 @@ def stat_of(folder):
         return []
 
 
-def of_process(words):
+def of_process(words: list[str]) -> Iterator[Sample]:
     booted = next(int(line.split()[1]) for line in (PROC / "stat").read_text().splitlines() if line.startswith("btime"))
     yield "hags_process_cpu_seconds_total", {}, (int(words[USER_TIME]) + int(words[SYSTEM_TIME])) / TICKS
     yield "hags_process_resident_bytes", {}, int(words[RESIDENT]) * PAGE
     yield "hags_process_start_seconds", {}, booted + int(words[BEGAN]) / TICKS
 
 
-def receive_buffer_errors():
+def receive_buffer_errors() -> int:
     names, numbers = [line.split() for line in (PROC / "net" / "snmp").read_text().splitlines() if line.startswith("Udp:")]
     return int(dict(zip(names, numbers))["RcvbufErrors"])
 
 
-def text_of(samples):
+def text_of(samples: Iterable[Sample]) -> str:
     """The text of Prometheus: each metric with what it is, and its samples."""
     lines = []
     for metric in METRICS:

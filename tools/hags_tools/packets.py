@@ -3,7 +3,12 @@
 `is_packet` and `is_piece` say whether bytes are one. `samples` has a packet of each kind, at both levels where there are
 two. Whatever is read raises NotSpelled where the bytes are no spelling."""
 import struct
+from collections.abc import Callable, Container, Sequence
+from typing import Any, TypeVar
 
+T = TypeVar("T")
+View = tuple[int, int, int]
+Provider = tuple[int, int, int, int]
 KINDS = {
     1: "HEARTBEAT", 2: "PROCLAIM", 3: "JOIN", 4: "PTC", 5: "PTC_ACK", 6: "COMMIT", 7: "DEATH", 8: "REPORT",
     9: "PREPARE", 10: "ANSWER", 11: "REFUSE", 12: "INSTALL", 13: "TAKEN", 14: "LOOKUP", 15: "NAME", 16: "REQUEST",
@@ -21,7 +26,7 @@ class NotSpelled(Exception):
     """The bytes are no spelling of what is read."""
 
 
-def need(holds):
+def need(holds: bool) -> None:
     if not holds:
         raise NotSpelled
 
@@ -29,60 +34,60 @@ def need(holds):
 class Fields:
     """What is left of bytes that are read field by field."""
 
-    def __init__(self, left):
+    def __init__(self, left: bytes) -> None:
         self.left = left
 
-    def part(self, length):
+    def part(self, length: int) -> bytes:
         need(len(self.left) >= length)
         part, self.left = self.left[:length], self.left[length:]
         return part
 
-    def number(self, size):
+    def number(self, size: int) -> int:
         return int.from_bytes(self.part(size), "big")
 
-    def one_of(self, numbers):
+    def one_of(self, numbers: Container[int]) -> int:
         number = self.number(1)
         need(number in numbers)
         return number
 
-    def node(self):
+    def node(self) -> int:
         return self.one_of(range(1, 33))
 
-    def bytes(self):
+    def data(self) -> bytes:
         return self.part(self.number(2))
 
-    def name(self):
+    def name(self) -> bytes:
         name = self.part(self.number(1))
         need(1 <= len(name) <= 32 and NAME_BYTES.issuperset(name))
         return name
 
-    def optional(self, read):
+    def optional(self, read: Callable[[], T]) -> T | None:
         return read() if self.one_of((0, 1)) else None
 
-    def view(self):
+    def view(self) -> View:
         return self.number(4), self.node(), self.number(4)
 
     ring = view
 
-    def member(self):
+    def member(self) -> tuple[int, int]:
         return self.node(), self.number(4)
 
-    def provider(self):
+    def provider(self) -> Provider:
         return self.node(), self.number(4), self.number(2), self.number(4)
 
-    def proto(self):
+    def proto(self) -> tuple[View, int]:
         return self.view(), self.number(4)
 
-    def items(self, read):
+    def items(self, read: Callable[[], T]) -> list[T]:
         return [read() for _ in range(self.number(1))]
 
-    def different(self, read, fewest=1):
+    def different(self, read: Callable[[], T], fewest: int = 1) -> list[T]:
         """A list of so many to 64 items that differ."""
         items = self.items(read)
         need(fewest <= len(items) <= 64 and len(set(items)) == len(items))
         return items
 
-    def attributes(self):
+    def attributes(self) -> None:
         self.one_of((1, 2)), self.one_of(range(4)), self.one_of((1, 3)), self.number(2)
         self.one_of((1, 2)), self.number(2), self.one_of((0,))
         if self.left[:1] == b"\0":
@@ -90,10 +95,10 @@ class Fields:
         else:
             self.name()
 
-    def proposal(self):
+    def proposal(self) -> tuple[int, list[Provider]]:
         """The proposal's kind, and who joins by it."""
         kind = self.one_of(range(1, 9))
-        joiners = []
+        joiners: list[Provider] = []
         if kind == JOIN:
             joiners = self.different(self.provider)
             self.attributes()
@@ -101,18 +106,18 @@ class Fields:
         elif kind == FAIL:
             self.different(lambda: (self.provider(), self.one_of((1, 2, 3))))
         elif kind == 8:
-            self.view(), self.number(4), self.bytes()
+            self.view(), self.number(4), self.data()
         else:
             self.provider(), self.number(4)
             if kind == EXPEL:
                 self.different(self.provider)
             elif kind in (5, 6):
-                self.bytes()
+                self.data()
             elif kind == 7:
                 self.attributes()
         return kind, joiners
 
-    def entry(self):
+    def entry(self) -> None:
         kind = self.one_of(range(1, 7))
         if kind <= 2:
             self.proposal()
@@ -122,21 +127,21 @@ class Fields:
             self.different(self.provider)
             return
         self.items(lambda: (self.provider(), self.one_of(range(1, 8))))
-        value = self.optional(self.bytes)
+        value = self.optional(self.data)
         need(kind != REJECT or value is None)
-        self.optional(self.bytes)
+        self.optional(self.data)
 
-    def running(self):
+    def running(self) -> list[Provider]:
         """Who joins by what runs."""
         self.proto()
         need(1 <= self.number(2) <= 200)
         _, joiners = self.proposal()
-        self.optional(self.bytes)
+        self.optional(self.data)
         return joiners
 
-    def state(self):
+    def state(self) -> None:
         members = self.different(self.provider, fewest=0)
-        self.bytes()
+        self.data()
         self.attributes()
         failed = self.different(self.provider, fewest=0)
         self.optional(self.proto), self.optional(self.proto)
@@ -144,7 +149,7 @@ class Fields:
         need(not set(members) & set(joiners) and len(members) + len(joiners) <= 64)
         need(set(failed) <= set(members) | set(joiners))
 
-    def part_of_group(self):
+    def part_of_group(self) -> bytes:
         name, start = self.name(), self.number(4)
         self.state()
         count = self.number(4)
@@ -155,15 +160,23 @@ class Fields:
             need(not entry.left)
         return name
 
-    def groups(self):
+    def groups(self) -> None:
         need_ascending(self.items(self.part_of_group))
 
-    def source(self):
+    def source(self) -> tuple[View, int]:
         view, mask = self.view(), self.number(4)
         self.groups()
         return view, mask
 
-    def install(self):
+    def answer(self) -> None:
+        self.view(), self.view()
+        self.groups()
+
+    def appended(self) -> None:
+        self.view(), self.name(), self.number(8)
+        self.entry()
+
+    def install(self) -> None:
         self.view()
         members = self.items(self.member)
         need_ascending([node for node, _ in members])
@@ -173,25 +186,25 @@ class Fields:
         need(masks == sum(1 << node - 1 for node, _ in members))
         need(sum(mask.bit_count() for _, mask in sources) == len(members))
 
-    def request(self):
+    def request(self) -> None:
         self.view(), self.name(), self.provider(), self.number(4)
         phases = self.one_of((1, 2))
         kind, _ = self.proposal()
         need(phases == 1 or kind != JOIN)
 
-    def tell(self):
+    def tell(self) -> None:
         self.view(), self.name(), self.provider(), self.number(4)
         code = self.one_of((7, 9, 10, 12, 13, 15, 16))
         if code == 12:
             self.proto()
         self.part({13: 4, 15: 8, 16: 4}.get(code, 0))
 
-    def vote(self):
+    def vote(self) -> None:
         self.view(), self.name(), self.proto(), self.number(2), self.provider(), self.one_of((1, 2, 3))
-        self.optional(self.bytes), self.optional(self.bytes)
+        self.optional(self.data), self.optional(self.data)
 
-    def body(self, kind):
-        readers = {
+    def body(self, kind: int) -> None:
+        readers: dict[int, Callable[[], object]] = {
             1: self.ring, 2: self.ring, 5: self.ring, 13: self.view, 12: self.install,
             16: self.request, 17: self.tell, 20: self.vote,
             3: lambda: self.number(4),
@@ -200,11 +213,11 @@ class Fields:
             7: lambda: (self.ring(), self.node()),
             8: lambda: need_ascending([row[0] for row in self.items(lambda: (self.node(), self.part(12)))]),
             9: lambda: (self.view(), self.number(4)),
-            10: lambda: (self.view(), self.view(), self.groups()),
+            10: self.answer,
             11: lambda: (self.view(), self.number(4)),
             14: lambda: (self.view(), self.name()),
             15: lambda: (self.view(), self.name(), self.one_of(range(33))),
-            18: lambda: (self.view(), self.name(), self.number(8), self.entry()),
+            18: self.appended,
             19: lambda: (self.view(), self.name(), self.number(4)),
             21: lambda: (self.view(), self.name(), self.provider()),
             22: lambda: (self.number(4), self.one_of((1, 2, 3, 4))),
@@ -213,11 +226,11 @@ class Fields:
         readers[kind]()
 
 
-def need_ascending(keys):
+def need_ascending(keys: Sequence[Any]) -> None:
     need(all(before < after for before, after in zip(keys, keys[1:])))
 
 
-def read_packet(data):
+def read_packet(data: bytes) -> None:
     fields = Fields(data)
     need(fields.part(2) == b"RG")
     level, kind = fields.one_of((1, 2)), fields.one_of(KINDS)
@@ -233,7 +246,7 @@ def read_packet(data):
     need(not fields.left)
 
 
-def is_packet(data):
+def is_packet(data: bytes) -> bool:
     try:
         read_packet(data)
     except NotSpelled:
@@ -241,7 +254,7 @@ def is_packet(data):
     return True
 
 
-def is_piece(data):
+def is_piece(data: bytes) -> bool:
     if len(data) < 25 or data[:2] != b"RP" or data[2] > 32 or data[3]:
         return False
     index, count = struct.unpack(">II", data[16:24])
@@ -254,56 +267,58 @@ def is_piece(data):
 # ---- what is written
 
 
-def packet(kind, body, sender, receiver, incarnation, network=1, domain=None):
+def packet(
+    kind: int, body: bytes, sender: int, receiver: int, incarnation: int, network: int = 1, domain: int | None = None
+) -> bytes:
     """A packet of level 2 where a domain is named, else of level 1."""
     level = 1 if domain is None else 2
     head = struct.pack(">2sBBBBBBII", b"RG", level, kind, network, sender, receiver, 0, incarnation, len(body))
     return head + (b"" if domain is None else struct.pack(">I", domain)) + body
 
 
-def pieces(sender, incarnation, number, message):
+def pieces(sender: int, incarnation: int, number: int, message: bytes) -> list[bytes]:
     """The pieces of a message that is not empty."""
     parts = [message[at : at + PIECE_DATA] for at in range(0, len(message), PIECE_DATA)]
     head = struct.pack(">2sBBIQ", b"RP", sender, 0, incarnation, number)
     return [head + struct.pack(">II", index, len(parts)) + part for index, part in enumerate(parts)]
 
 
-def datagram(piece, network=1):
+def datagram(piece: bytes, network: int = 1) -> bytes:
     """What is on the wire: a byte for the network goes before."""
     return bytes([network]) + piece
 
 
-def view(number, node, incarnation):
+def view(number: int, node: int, incarnation: int) -> bytes:
     """Of a view and of a ring."""
     return struct.pack(">IBI", number, node, incarnation)
 
 
-def provider(node, incarnation, instance, join):
+def provider(node: int, incarnation: int, instance: int, join: int) -> bytes:
     return struct.pack(">BIHI", node, incarnation, instance, join)
 
 
-def name(word):
+def name(word: bytes) -> bytes:
     return bytes([len(word)]) + word
 
 
-def text(value):
+def text(value: bytes) -> bytes:
     return struct.pack(">H", len(value)) + value
 
 
-def question(number, what, node):
+def question(number: int, what: int, node: int) -> bytes:
     """The datagram by which a status client asks a node."""
     asked = packet(22, struct.pack(">IB", number, what), 0, node, 0)
-    return datagram(*pieces(0, 0, 1, asked))
+    return datagram(pieces(0, 0, 1, asked)[0])
 
 
-def session(node, key):
+def session(node: int, key: int) -> bytes:
     """The datagram by which a client on another machine begins at a node."""
     line = b"client %d n%d -" % (node, key)
     up = b"RS\1\0" + struct.pack(">IIIH", key, 1, 0, len(line)) + line
-    return datagram(*pieces(0, 0, key, up))
+    return datagram(pieces(0, 0, key, up)[0])
 
 
-def samples(sender, incarnation, receiver, peer, of_view=None):
+def samples(sender: int, incarnation: int, receiver: int, peer: int, of_view: bytes | None = None) -> dict[str, bytes]:
     """A packet of each kind from a node to another, named by kind and level. `peer` is the receiver's incarnation. What
     they say is of a group db in this view, which is 2.S.I of the sender where none is named, and of a ring that it
     leads."""

@@ -4,15 +4,16 @@ import gzip
 import html
 import json
 import pathlib
-from collections import Counter
+from collections.abc import Iterable
 
 from hags_tools import comparing, records
 
+Fault = tuple[str, list[int]]  # a text, and the places of its lines from 0
 TEMPLATE = pathlib.Path(__file__).with_name("page.html")
 SCRIPT_MARK = "> "  # before a line of the script, which is no record
 
 
-def page(title, lines, faults):
+def page(title: str, lines: Iterable[str], faults: Iterable[Fault]) -> str:
     """The page. Lines of the script have their mark; a fault is a text and the places of its lines, from 0."""
     packed = gzip.compress("".join(f"{line}\n" for line in lines).encode("ascii", "replace"), mtime=0)
     facts = {"faults": [{"text": text, "lines": places} for text, places in faults]}
@@ -27,12 +28,12 @@ def page(title, lines, faults):
     return text
 
 
-def faults_of(lines):
+def faults_of(lines: list[str]) -> list[Fault]:
     """What is wrong with the records among these lines: where the comparison ends, as a text with the line and, where that
     contradicts another one, that line too."""
     own = [(place, line) for place, line in enumerate(lines) if not line.startswith(SCRIPT_MARK)]
-    places = {}  # by life, the places of its lines
-    incarnations, numbers = {}, Counter()
+    places: dict[str, list[int]] = {}  # by life, the places of its lines
+    incarnations: dict[int, str] = {}
     for place, line in own:
         record = records.read(line)
         if isinstance(record, records.Up):
@@ -55,18 +56,19 @@ class Wants:
     """What must come before a line in an order of all nodes' lines: a request is asked before it is put, and a vote is cast
     before it is counted."""
 
-    def __init__(self, files):
-        self.there, self.come = set(), set()
+    def __init__(self, files: Iterable[list[str]]) -> None:
+        self.there: set[tuple[str, ...]] = set()
+        self.come: set[tuple[str, ...]] = set()
         for lines in files:
             for line in lines:
                 self.there |= set(self.brings(line.split(" ")))
 
-    def brings(self, words):
+    def brings(self, words: list[str]) -> list[tuple[str, ...]]:
         if words[0] == "asked":
             return [("asked", f"{words[1]}/{words[2]}")]
         return [("cast", *words[1:4])] if words[0] == "cast" else []
 
-    def needs(self, words):
+    def needs(self, words: list[str]) -> list[tuple[str, ...]]:
         if words[0] != "put":
             return []
         if words[5] in ("once", "begin"):
@@ -76,18 +78,19 @@ class Wants:
             return [("cast", row.split("=")[0], words[6], words[7]) for row in words[8].split(",")]
         return []
 
-    def may_come(self, words):
+    def may_come(self, words: list[str]) -> bool:
         return all(need in self.come or need not in self.there for need in self.needs(words))
 
-    def take(self, words):
+    def take(self, words: list[str]) -> None:
         self.come |= set(self.brings(words))
 
 
-def merged(files):
+def merged(files: list[list[str]]) -> list[str]:
     """The lines of several daemons in one order, each daemon's as they are: what was asked and cast stands before what came
     of it, a view's lines before those of a later view, and else the daemon goes on that has come least far."""
     wants = Wants(files)
-    at, views = [0] * len(files), [(0, 0, 0)] * len(files)
+    at = [0] * len(files)
+    views: list[tuple[int, ...]] = [(0, 0, 0)] * len(files)
     lines = []
     while any(at[one] < len(files[one]) for one in range(len(files))):
         left = [one for one in range(len(files)) if at[one] < len(files[one])]

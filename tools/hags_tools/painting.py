@@ -4,6 +4,7 @@ No label lies on an arrow: each row holds the labels of one node alone, arrows r
 rows, and come down to their node in a gutter at the left of its line, where no label stands."""
 import math
 import textwrap
+from collections.abc import Iterable
 from dataclasses import dataclass
 
 from hags_tools import chart as model
@@ -81,21 +82,22 @@ class Column:
 class Band:
     """What a part takes of the height, with its script line broken up."""
 
-    part: object
-    lines: list
+    part: model.Part
+    lines: list[str]
     top: float = 0
     bottom: float = 0
 
 
-def shades_of(stays):
+def shades_of(stays: Iterable[model.Stay]) -> dict[str, str]:
     """A colour for each view. A view lives from when its first node enters it until its last one leaves it; views that
     live at once have different colours, as long as there are no more of them than colours."""
-    lives = {}
+    lives: dict[str, tuple[float, float]] = {}
     for stay in stays:
         leaves = stay.last.order if stay.last else float("inf")
         first, last = lives.get(stay.view, (stay.first.order, leaves))
         lives[stay.view] = first, max(last, leaves)
-    shades, turn = {}, 0
+    shades: dict[str, str] = {}
+    turn = 0
     for view, (first, _) in lives.items():
         taken = {shades[other] for other in shades if lives[other][1] >= first}
         order = SHADES[turn:] + SHADES[:turn]
@@ -104,12 +106,13 @@ def shades_of(stays):
     return shades
 
 
-def title_of(parts):
+def title_of(parts: Iterable[model.Part]) -> tuple[str, str]:
     """The comments before the first other line, and the settings but for the nodes, each as one text."""
-    comments, settings = [], []
+    comments: list[str] = []
+    settings: list[str] = []
     for part in parts:
-        words = part.step.words() if part.step else ["begin"]
-        if words[:1] == ["begin"]:
+        words = part.step.words() if part.step else []
+        if not part.step or words[:1] == ["begin"]:
             break
         if words and words[0].startswith("#") and not settings:
             comments.append(part.step.text().strip("# "))
@@ -118,7 +121,7 @@ def title_of(parts):
     return " ".join(comments), ", ".join(settings)
 
 
-def is_shown(part, begun):
+def is_shown(part: model.Part, begun: bool) -> bool:
     """Has the part a place of its own? Blank lines, what stands before `begin`, and a `begin` that causes nothing have
     none."""
     if part.step is None or part.step.words() == ["begin"]:
@@ -126,7 +129,7 @@ def is_shown(part, begun):
     return begun and bool(part.step.words())
 
 
-def first_word(band):
+def first_word(band: Band) -> str:
     """The first word of the band's script line, empty in a transcript alone."""
     return band.part.step.words()[0] if band.part.step else ""
 
@@ -134,19 +137,21 @@ def first_word(band):
 class Painting:
     """The picture of a chart."""
 
-    def __init__(self, chart, window):
+    def __init__(self, chart: model.Chart, window: Window) -> None:
         self.chart = chart
         self.window = window
         self.nodes = sorted(chart.nodes)
         self.shades = shades_of(chart.stays)
-        self.columns = {}
-        self.bands = []
-        self.headers = []
-        self.top = self.bottom = self.width = 0
-        self.back, self.arrows, self.front = [], [], []
-        self.kinds = set()
+        self.columns: dict[int, Column] = {}
+        self.bands: list[Band] = []
+        self.headers: list[float] = []
+        self.top = self.bottom = self.width = 0.0
+        self.back: list[str] = []
+        self.arrows: list[str] = []
+        self.front: list[str] = []
+        self.kinds: set[str] = set()
 
-    def svg(self):
+    def svg(self) -> str:
         title, settings = title_of(self.chart.parts)
         self._break_lines()
         self._place_columns()
@@ -163,7 +168,7 @@ class Painting:
 
     # The layout.
 
-    def _break_lines(self):
+    def _break_lines(self) -> None:
         """Breaks the script lines and the labels that are shown into lines that fit."""
         limit = max(150, min(250, 700 / max(1, len(self.nodes))))
         begun = False
@@ -182,7 +187,7 @@ class Painting:
                 lines = textwrap.wrap(text, SCRIPT_WIDTH, break_on_hyphens=False, subsequent_indent="  ")
                 self.bands.append(Band(part, lines))
 
-    def _place_columns(self):
+    def _place_columns(self) -> None:
         longest = max((len(line) for band in self.bands for line in band.lines), default=0)
         left = MARGIN + (longest * SCRIPT_SIZE * svg.SPACED + 16 if longest else 0)
         for node in self.nodes:
@@ -193,7 +198,7 @@ class Painting:
             left = self.columns[node].right
         self.width = max(left + MARGIN, 420)
 
-    def _place_rows(self, top):
+    def _place_rows(self, top: float) -> None:
         self.top = y = top
         sources = {id(arrow.source) for arrow in self.chart.arrows if arrow.source.node != arrow.target.node}
         before = None
@@ -216,15 +221,15 @@ class Painting:
 
     # The parts of the picture.
 
-    def _paint_title(self, title, settings):
-        y = MARGIN
+    def _paint_title(self, title: str, settings: str) -> float:
+        y: float = MARGIN
         for text, size, fill, bold in ((title, 13, "#000000", True), (settings, 10, model.GREY, False)):
             for piece in svg.wrapped(text, size, self.width - 2 * MARGIN, bold) if text else []:
                 y += size * 1.4
                 self.front.append(svg.text(MARGIN, y - size * 0.3, piece, size, fill, bold))
         return y + 6
 
-    def _paint_columns(self):
+    def _paint_columns(self) -> None:
         for stay in self.chart.stays:
             column = self.columns[stay.node]
             top, bottom = stay.first.top, stay.last.top if stay.last else self.bottom
@@ -239,7 +244,7 @@ class Painting:
         for y in self.headers:
             self._paint_header(y)
 
-    def _paint_header(self, y):
+    def _paint_header(self, y: float) -> None:
         """The names of the nodes, each with the view that it is in at this height."""
         stays = [stay for stay in self.chart.stays if stay.first.top <= y and (not stay.last or y < stay.last.top)]
         views = {stay.node: stay.view for stay in stays}
@@ -250,7 +255,7 @@ class Painting:
                 x += svg.text_width(name, 12, bold=True) + 8
                 self.front.append(svg.text(x, y + 16, views[node], 9.5, model.NAVY))
 
-    def _paint_band(self, band):
+    def _paint_band(self, band: Band) -> None:
         if band.lines:
             self.back.append(svg.line(MARGIN, band.top, self.width - MARGIN, band.top, "#e4e4e4", 0.8))
         colour = LINE_COLOURS.get(first_word(band), "#333333")
@@ -258,12 +263,12 @@ class Painting:
         for index, piece in enumerate(band.lines):
             y = band.top + 12.5 + index * SCRIPT_LINE
             self.front.append(svg.text(MARGIN, y, piece, SCRIPT_SIZE, colour, italic=is_comment, spaced=True))
-        if first_word(band) in LINKS:
+        if band.part.step and first_word(band) in LINKS:
             self._paint_link(band.part.step.words(), colour, band.top + 9)
         for row in band.part.rows:
             self._paint_row(row)
 
-    def _paint_link(self, words, colour, y):
+    def _paint_link(self, words: list[str], colour: str, y: float) -> None:
         """A line between the two nodes of a cut, a heal or a drop."""
         start, end = self.columns[int(words[1])].line, self.columns[int(words[2])].line
         self.kinds.add(words[0])
@@ -274,7 +279,7 @@ class Painting:
             else:
                 self.front.append(cross(x, y, 3.5, colour))
 
-    def _paint_row(self, row):
+    def _paint_row(self, row: model.Row) -> None:
         x = self.columns[row.node].line
         self.kinds.add(row.mark)
         self.front += mark_of(row, x, self.shades)
@@ -286,7 +291,7 @@ class Painting:
             base = y - label.size * 0.25
             self.front.append(svg.text(x + BESIDE, base, label.text, label.size, label.colour, label.bold))
 
-    def _paint_arrow(self, arrow):
+    def _paint_arrow(self, arrow: model.Arrow) -> None:
         """Down the line of the source to the seam below its row, sideways, and down the gutter to the target."""
         source, target = arrow.source, arrow.target
         if source.node == target.node or not (source.shown and target.shown):
@@ -298,16 +303,17 @@ class Painting:
         steep = math.sqrt((end - turn) ** 2 + (y - seam) ** 2)
         across, down = (end - turn) / steep, (y - seam) / steep
         colour = ARROW_COLOURS[arrow.kind]
-        steps = ["M", start, source.centre, "V", seam - 3, "Q", start, seam, start + way, seam, "H", turn - way]
+        steps: list[str | float] = ["M", start, source.centre, "V", seam - 3, "Q", start, seam, start + way, seam, "H", turn - way]
         steps += ["Q", turn, seam, turn + 3 * across, seam + 3 * down, "L", end - 5 * across, y - 5 * down]
         self.arrows.append(svg.path(steps, stroke=colour, width=1.1, dashes=ARROW_DASHES[arrow.kind]))
-        head = ["M", end, y, "L", end - 7 * across - 3 * down, y - 7 * down + 3 * across]
+        head: list[str | float] = ["M", end, y, "L", end - 7 * across - 3 * down, y - 7 * down + 3 * across]
         head += ["L", end - 7 * across + 3 * down, y - 7 * down - 3 * across, "Z"]
         self.arrows.append(svg.path(head, fill=colour))
 
-    def _paint_legend(self, top):
+    def _paint_legend(self, top: float) -> float:
         """What the marks and arrows of this picture mean, in as many lines as that needs; answers the whole height."""
-        x, y = MARGIN, top
+        x: float = MARGIN
+        y = top
         self.front.append(svg.line(MARGIN, top - 14, self.width - MARGIN, top - 14, "#bbbbbb", 0.8))
         for kind, meaning in MEANINGS.items():
             if kind not in self.kinds:
@@ -326,7 +332,7 @@ class Painting:
         return y + MARGIN
 
 
-def place_row(row, y, gap):
+def place_row(row: model.Row, y: float, gap: float) -> float:
     """Places a row at this height, and answers where it ends: this gap below its lines."""
     row.top = y
     row.centre = y + row.lines[0].size * LINE_HEIGHT * 0.55
@@ -334,12 +340,12 @@ def place_row(row, y, gap):
     return row.bottom
 
 
-def cross(x, y, size, colour, width=1.8):
-    strokes = ["M", x - size, y - size, "L", x + size, y + size, "M", x - size, y + size, "L", x + size, y - size]
+def cross(x: float, y: float, size: float, colour: str, width: float = 1.8) -> str:
+    strokes: list[str | float] = ["M", x - size, y - size, "L", x + size, y + size, "M", x - size, y + size, "L", x + size, y - size]
     return svg.path(strokes, stroke=colour, width=width)
 
 
-def mark_of(row, x, shades):
+def mark_of(row: model.Row, x: float, shades: dict[str, str]) -> list[str]:
     """The mark of a row on its node's line."""
     y, colour = row.centre, row.colour
     if row.mark == "up":
@@ -362,7 +368,7 @@ def mark_of(row, x, shades):
     return []
 
 
-def sample_of(kind, x, y, shades):
+def sample_of(kind: str, x: float, y: float, shades: dict[str, str]) -> list[str]:
     """The mark, line or arrow of the legend."""
     if kind in ARROW_COLOURS:
         colour = ARROW_COLOURS[kind]

@@ -9,6 +9,8 @@ import sys
 from concurrent.futures import ThreadPoolExecutor
 from dataclasses import dataclass, field
 
+from hags_tools.programs import Program
+
 SETTINGS = {"mode", "node", "adapter", "hb", "port", "level", "domain"}
 DONE, BAD_LINE = 0, 2
 
@@ -22,7 +24,7 @@ class Played:
     """One play of a script: the exit status, the records, and what was said on standard error of a failure."""
 
     status: int
-    records: list
+    records: list[str]
     said: str
 
 
@@ -32,16 +34,16 @@ class Step:
 
     number: int
     line: bytes
-    records: list = field(default_factory=list)
+    records: list[str] = field(default_factory=list)
 
-    def text(self):
+    def text(self) -> str:
         """The line to be shown; a byte that is not printed is shown as \\xNN."""
         return "".join(chr(byte) if 0x20 <= byte < 0x7F else f"\\x{byte:02x}" for byte in self.line)
 
-    def words(self):
+    def words(self) -> list[str]:
         return self.text().split()
 
-    def is_event(self):
+    def is_event(self) -> bool:
         """Can the line cause records? A blank line, a comment and a setting cause none."""
         words = self.words()
         return bool(words) and not words[0].startswith("#") and words[0] not in SETTINGS
@@ -52,13 +54,13 @@ class Steps:
     """The lines of a script that were played, and why the play ended before the last one, if it did. `failed` is the
     line that is in no script, or that was played last; `said` is what the program said of it, with its `status`."""
 
-    steps: list
-    failed: Step = None
+    steps: list[Step]
+    failed: Step | None = None
     said: str = ""
     status: int = DONE
 
 
-def wake(program):
+def wake(program: Program) -> None:
     """Plays the empty script, so that a start script builds its program now, and says so on standard error."""
     try:
         ran = subprocess.run([str(program), "run"], stdin=subprocess.DEVNULL, stdout=subprocess.DEVNULL, check=False)
@@ -68,7 +70,7 @@ def wake(program):
         raise PlayError(f"{program} ended with status {ran.returncode}")
 
 
-def play(program, script):
+def play(program: Program, script: bytes) -> Played:
     """Plays a script, given as bytes."""
     try:
         ran = subprocess.run([str(program), "run"], input=script, capture_output=True, check=False)
@@ -81,7 +83,7 @@ def play(program, script):
     return Played(ran.returncode, records, said[-1] if ran.returncode and said else "")
 
 
-def lines_of(script):
+def lines_of(script: bytes) -> list[Step]:
     """The lines of a script as steps without records."""
     lines = script.split(b"\n")
     if lines[-1] == b"":
@@ -89,17 +91,17 @@ def lines_of(script):
     return [Step(number, line) for number, line in enumerate(lines, 1)]
 
 
-def prefix(steps, length):
+def prefix(steps: list[Step], length: int) -> bytes:
     """The script of the first lines."""
     return b"".join(step.line + b"\n" for step in steps[:length])
 
 
-def bad_line_number(said):
+def bad_line_number(said: str) -> int:
     """The L of `hags: line L: WHY`."""
     return int(said.split(":")[1].split()[1])
 
 
-def play_steps(program, script):
+def play_steps(program: Program, script: bytes) -> Steps:
     """Plays a script and each of its prefixes, and answers its lines with their records."""
     wake(program)
     steps = lines_of(script)
@@ -114,7 +116,7 @@ def play_steps(program, script):
     return result
 
 
-def _share_out(program, whole, result):
+def _share_out(program: Program, whole: Played, result: Steps) -> None:
     """Gives each step its records of the whole play, and ends the steps with the one where that play failed."""
     events = [step for step in result.steps if step.is_event()]
     with ThreadPoolExecutor(os.cpu_count()) as pool:
@@ -132,7 +134,7 @@ def _share_out(program, whole, result):
                 break
 
 
-def read_script(name):
+def read_script(name: str) -> bytes:
     """The bytes of the script of this name, `-` for standard input."""
     if name == "-":
         return sys.stdin.buffer.read()

@@ -3,11 +3,15 @@ come from a generator of its own, and nothing depends on a library's.
 
 A script begins with its settings, brings its nodes up and most of them together, and goes on at random. What a call names
 is mostly there and sometimes not, so that calls are taken, refused and told; no line is outside the grammar."""
+import argparse
+from collections.abc import Callable, Iterable, Sequence
 from dataclasses import dataclass, field
+from typing import TypeVar
 
+T = TypeVar("T")
 NAMES = ("ann", "bob", "cat", "dan", "eve", "fay", "gus", "hal", "ida", "jo-1", "k.2", "a_name_of_16byte")
 # The groups, and the attributes that most of their joins have.
-GROUPS = {
+GROUPS: dict[str, list[str]] = {
     "db": [],
     "disk": ["default=reject", "limit=3"],
     "a": ["phases=n", "limit=3"],
@@ -25,10 +29,10 @@ MASK = (1 << 64) - 1
 class Chance:
     """Random numbers by splitmix64."""
 
-    def __init__(self, seed):
+    def __init__(self, seed: int) -> None:
         self.state = seed & MASK
 
-    def below(self, limit):
+    def below(self, limit: int) -> int:
         """A number below this one, which is at least 1."""
         self.state = (self.state + 0x9E3779B97F4A7C15) & MASK
         mixed = self.state
@@ -36,19 +40,19 @@ class Chance:
         mixed = ((mixed ^ (mixed >> 27)) * 0x94D049BB133111EB) & MASK
         return (mixed ^ (mixed >> 31)) % limit
 
-    def between(self, low, high):
+    def between(self, low: int, high: int) -> int:
         return low + self.below(high - low + 1)
 
-    def happens(self, percent):
+    def happens(self, percent: int) -> bool:
         return self.below(100) < percent
 
-    def one_of(self, items):
+    def one_of(self, items: Sequence[T]) -> T:
         return items[self.below(len(items))]
 
-    def some_of(self, items, percent):
+    def some_of(self, items: Iterable[T], percent: int) -> list[T]:
         return [item for item in items if self.happens(percent)]
 
-    def weighted(self, weights):
+    def weighted(self, weights: dict[T, int]) -> T:
         """A key of a dict, as often as its weight says."""
         at = self.below(sum(weights.values()))
         for key, weight in weights.items():
@@ -63,10 +67,10 @@ class Wanted:
     """What is asked of a script; what is None is left to the seed. A fault is one line that is outside the grammar. With
     tables the messages to one group put pairs into a map and take them out, and newcomers are sent the map in phases."""
 
-    mode: str = None
-    nodes: int = None
-    level: int = None
-    lines: int = None
+    mode: str | None = None
+    nodes: int | None = None
+    level: int | None = None
+    lines: int | None = None
     fault: bool = False
     table: bool = False
 
@@ -86,26 +90,26 @@ class Script:
 
     chance: Chance
     mode: str
-    nodes: list
-    lines: list = field(default_factory=list)
-    up: set = field(default_factory=set)
-    incarnations: dict = field(default_factory=dict)
-    requests: dict = field(default_factory=dict)
-    clients: dict = field(default_factory=dict)
-    sessions: set = field(default_factory=set)
-    providers: list = field(default_factory=list)
+    nodes: list[int]
+    lines: list[str] = field(default_factory=list)
+    up: set[int] = field(default_factory=set)
+    incarnations: dict[int, int] = field(default_factory=dict)
+    requests: dict[int, int] = field(default_factory=dict)
+    clients: dict[str, int] = field(default_factory=dict)
+    sessions: set[str] = field(default_factory=set)
+    providers: list[Provider] = field(default_factory=list)
     table: bool = False
 
-    def add(self, *words):
+    def add(self, *words: object) -> None:
         self.lines.append(" ".join(str(word) for word in words))
 
-    def node(self):
+    def node(self) -> int:
         """A node, mostly one that is up."""
         if self.up and self.chance.happens(90):
             return self.chance.one_of(sorted(self.up))
         return self.chance.one_of(self.nodes)
 
-    def two_nodes(self):
+    def two_nodes(self) -> tuple[int, int]:
         """Two nodes, mostly different ones."""
         first, second = self.node(), self.chance.one_of(self.nodes)
         if first == second and len(self.nodes) > 1 and self.chance.happens(95):
@@ -113,7 +117,7 @@ class Script:
         return first, second
 
 
-def add_words(parser):
+def add_words(parser: argparse.ArgumentParser) -> None:
     """Adds the words of a command that say what is asked of a script."""
     parser.add_argument("--mode", choices=("fixed", "asked", "rings"), help="the mode")
     parser.add_argument("--nodes", type=int, choices=range(1, 33), metavar="N", help="how many nodes, from 1 to 32")
@@ -123,11 +127,11 @@ def add_words(parser):
     parser.add_argument("--table", action="store_true", help=f"messages to the group {TABLE_GROUP} write a table")
 
 
-def wanted_of(options):
+def wanted_of(options: argparse.Namespace) -> Wanted:
     return Wanted(options.mode, options.nodes, options.level, options.lines, options.fault, options.table)
 
 
-def random_script(seed, wanted=Wanted()):
+def random_script(seed: int, wanted: Wanted = Wanted()) -> str:
     """The script of a seed, as a text."""
     chance = Chance(seed)
     count = chance.between(1, 5)
@@ -150,7 +154,7 @@ def random_script(seed, wanted=Wanted()):
 # Settings and the beginning.
 
 
-def _settings(script, level):
+def _settings(script: Script, level: int | None) -> None:
     chance, nodes = script.chance, script.nodes
     if chance.happens(20):
         script.add("# a comment")
@@ -172,12 +176,12 @@ def _settings(script, level):
         script.add("")
 
 
-def _adapters(script):
+def _adapters(script: Script) -> None:
     """Adapters by which each two nodes share a network: all on one network and some on others, or each of three nodes
     with each other on a network of their own."""
     chance, nodes = script.chance, script.nodes
     if len(nodes) == 3 and chance.happens(30):
-        pairs = ((1, 1), (2, 1), (2, 2), (3, 2), (1, 3), (3, 3))
+        pairs = [(1, 1), (2, 1), (2, 2), (3, 2), (1, 3), (3, 3)]
     else:
         common = chance.between(1, 4)
         pairs = [(node, net) for net in (1, 2, 3, 4) for node in nodes if net == common or chance.happens(30)]
@@ -186,7 +190,7 @@ def _adapters(script):
         script.add("adapter", node, net, f"10.{net}.0.{1 + (turn + 7 * node) % 250}")
 
 
-def _levels(script, level):
+def _levels(script: Script, level: int | None) -> None:
     for node in script.nodes:
         if level == 2:
             script.add("level", node, 1)
@@ -194,7 +198,7 @@ def _levels(script, level):
             script.add("level", node, script.chance.between(1, 2))
 
 
-def _beginning(script):
+def _beginning(script: Script) -> None:
     """Brings most nodes up, and together."""
     if script.mode == "fixed":
         script.up = set(script.nodes)
@@ -210,7 +214,7 @@ def _beginning(script):
         script.add("run", script.chance.between(6, 14))
 
 
-def _start(script, node):
+def _start(script: Script, node: int) -> None:
     script.add("start", node)
     if node not in script.up:
         script.up.add(node)
@@ -218,7 +222,7 @@ def _start(script, node):
         script.requests[node] = 0
 
 
-def _ask(script, members):
+def _ask(script: Script, members: list[int]) -> None:
     if members:
         script.add("ask", script.chance.one_of(members), *members)
 
@@ -226,11 +230,11 @@ def _ask(script, members):
 # Lines.
 
 
-def _random_line(script):
+def _random_line(script: Script) -> None:
     weights = {"flow": 22, "call": 40, "network": 14, "time": 8, "deliver": 8, "show": 4, "rest": 4}
     if script.mode == "fixed":
         weights["call"] = 50
-    {
+    lines: dict[str, Callable[[], None]] = {
         "flow": lambda: script.add("flow"),
         "call": lambda: _call(script),
         "network": lambda: _network(script),
@@ -238,23 +242,24 @@ def _random_line(script):
         "deliver": lambda: _deliver(script),
         "show": lambda: script.add("show", script.node(), script.chance.one_of(STATUSES)),
         "rest": lambda: _rest(script),
-    }[script.chance.weighted(weights)]()
+    }
+    lines[script.chance.weighted(weights)]()
 
 
-def _time(script):
+def _time(script: Script) -> None:
     if script.chance.happens(40):
         script.add("tick", script.node())
     else:
         script.add("run", script.chance.between(1, 8 if script.mode == "rings" else 3))
 
 
-def _deliver(script):
+def _deliver(script: Script) -> None:
     first, second = script.two_nodes()
     for _ in range(script.chance.between(1, 3)):
         script.add("deliver", first, second, script.chance.between(0 if script.chance.happens(5) else 1, 30))
 
 
-def _network(script):
+def _network(script: Script) -> None:
     chance = script.chance
     weights = {"cut": 3, "heal": 4, "drop": 3}
     if script.mode != "fixed":
@@ -271,7 +276,7 @@ def _network(script):
         script.add(kind, *script.two_nodes(), *net)
 
 
-def _split(script):
+def _split(script: Script) -> None:
     """Parts the nodes, or brings them together, by orders or by cuts."""
     chance = script.chance
     side = chance.some_of(script.nodes, 50)
@@ -288,7 +293,7 @@ def _split(script):
         script.add("run", chance.between(6, 14))
 
 
-def _nodes(script):
+def _nodes(script: Script) -> None:
     """A node stops or starts, or asks for a view."""
     chance = script.chance
     if script.mode == "asked" and chance.happens(60):
@@ -303,7 +308,7 @@ def _nodes(script):
         _start(script, chance.one_of(script.nodes))
 
 
-def _rest(script):
+def _rest(script: Script) -> None:
     chance = script.chance
     if chance.happens(30):
         script.add(chance.one_of(("", "   ", "# nothing")))
@@ -316,13 +321,13 @@ def _rest(script):
 # Calls.
 
 
-def _forget(script, names):
+def _forget(script: Script, names: list[str]) -> None:
     """These clients have no session any more, and so no providers."""
     script.sessions -= set(names)
     script.providers = [provider for provider in script.providers if provider.client not in names]
 
 
-def _call(script):
+def _call(script: Script) -> None:
     """A call, mostly of a client that has a session, and of a provider that is there where it needs one."""
     chance = script.chance
     if not script.sessions or chance.happens(12):
@@ -333,7 +338,7 @@ def _call(script):
         _provider_call(script)
 
 
-def _client(script):
+def _client(script: Script) -> None:
     """A new client, or one that had a session before, or one that has one."""
     chance = script.chance
     without = [name for name in sorted(script.clients) if name not in script.sessions]
@@ -352,14 +357,14 @@ def _client(script):
         script.sessions.add(name)
 
 
-def _vote_item(chance):
+def _vote_item(chance: Chance) -> str:
     if chance.happens(12):
         return "-"
     vote = chance.weighted({"A": 6, "C": 3, "R": 2})
     return vote + ("=" + chance.one_of(TEXTS) if chance.happens(25) else "")
 
 
-def _join(script):
+def _join(script: Script) -> None:
     chance = script.chance
     name = chance.one_of(sorted(script.sessions if chance.happens(90) else script.clients))
     group = chance.weighted({"db": 40, "disk": 30, "a": 20, "log.x-1_y": 15, LONG_GROUP: 1, "HostMembership": 1})
@@ -373,14 +378,14 @@ def _join(script):
     script.providers.append(Provider(name, group, word))
 
 
-def _attributes_in(script, group):
+def _attributes_in(script: Script, group: str) -> list[str]:
     """Joins of the group of tables are mostly voted on: else nobody is sent the map."""
     if script.table and group == TABLE_GROUP and script.chance.happens(95):
         return ["phases=n"]
     return _attributes(script.chance, group)
 
 
-def _attributes(chance, group):
+def _attributes(chance: Chance, group: str) -> list[str]:
     """Attributes that are mostly the same for a group, so that joins are taken."""
     if chance.happens(75):
         return GROUPS.get(group, [])
@@ -397,13 +402,13 @@ def _attributes(chance, group):
     return chance.some_of(choices, 35)
 
 
-def _text(chance):
+def _text(chance: Chance) -> str:
     if chance.happens(95):
         return chance.one_of(TEXTS)
     return "v" * chance.one_of((255, 256, 257, 1024, 1025))
 
 
-def _write(chance):
+def _write(chance: Chance) -> str:
     """A message to a table: a pair, mostly with a long value, so that the map goes in several pieces; a key that is taken
     out; or a text as another group has it."""
     kind = chance.weighted({"long": 8, "short": 4, "out": 2, "text": 1})
@@ -421,7 +426,7 @@ PROVIDER_CALLS = {
 }
 
 
-def _provider_call(script):
+def _provider_call(script: Script) -> None:
     chance = script.chance
     provider = chance.one_of(script.providers)
     name, group = provider.client, provider.group
@@ -453,7 +458,7 @@ def _provider_call(script):
         script.requests[script.clients[name]] = script.requests.get(script.clients[name], 0) + 1
 
 
-def _targets(script, group):
+def _targets(script: Script, group: str) -> list[str]:
     """Providers to be expelled: one or two of the group, or one by chance."""
     there = [provider.word for provider in script.providers if provider.group == group]
     if there and script.chance.happens(85):
@@ -465,7 +470,7 @@ def _targets(script, group):
 # Faults.
 
 
-def _with_fault(script):
+def _with_fault(script: Script) -> str:
     """The script with one line behind `begin` that is outside the grammar."""
     chance = script.chance
     unknown = 32 if 32 not in script.nodes else None

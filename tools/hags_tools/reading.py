@@ -5,8 +5,9 @@ ask it, or to be its client. tests/wrong-inputs compares what is said here with 
 import difflib
 import itertools
 import re
+from collections.abc import Callable
 from dataclasses import dataclass, field
-from typing import Callable, NamedTuple
+from typing import NamedTuple, NoReturn
 
 from hags_tools import packets
 
@@ -22,37 +23,37 @@ class Word(NamedTuple):
 
     name: str
     good: str
-    takes: Callable
+    takes: Callable[[str], object]
 
 
-def _number(name, low, high, what="a number"):
-    def takes(word):
+def _number(name: str, low: int, high: int, what: str = "a number") -> Word:
+    def takes(word: str) -> bool:
         return bool(NUMBER.fullmatch(word)) and low <= int(word) <= high
 
     return Word(name, f"{what} from {low} to {high:,}, digits without a zero in front", takes)
 
 
-def _one_of(name, *words):
+def _one_of(name: str, *words: str) -> Word:
     return Word(name, " or ".join(filter(None, [", ".join(words[:-1]), words[-1]])), lambda word: word in words)
 
 
-def _is_address(word):
+def _is_address(word: str) -> bool:
     parts = word.split(".")
     in_range = [bool(NUMBER.fullmatch(part)) and int(part) <= 255 for part in parts]
     return len(parts) == 4 and all(in_range) and word != "0.0.0.0"
 
 
-def _is_provider(word):
+def _is_provider(word: str) -> bool:
     parts = word.split(".")
     most = ((1, 32), (0, LAST_U32), (0, 65535), (0, LAST_U32))
     return len(parts) == 4 and all(NUMBER.fullmatch(part) and low <= int(part) <= high for part, (low, high) in zip(parts, most))
 
 
-def _name(name, most):
+def _name(name: str, most: int) -> Word:
     return Word(name, f"1 to {most} letters, digits, `_`, `-` and `.`", re.compile(rf"[A-Za-z0-9_.-]{{1,{most}}}").fullmatch)
 
 
-def _are_votes(word):
+def _are_votes(word: str) -> bool:
     return word == "boxed" or all(item == "-" or VOTE.fullmatch(item) for item in word.split(","))
 
 
@@ -65,7 +66,7 @@ ATTRIBUTES = {
 ATTRIBUTE_FORMS = "phases=1|n, batch=none|joins|failures|both, default=approve|reject, limit=T, source=GROUP, sphases=1|n or slimit=T"
 
 
-def _is_attribute(word):
+def _is_attribute(word: str) -> bool:
     key, equals, value = word.partition("=")
     return bool(equals) and key in ATTRIBUTES and bool(ATTRIBUTES[key].takes(value))
 
@@ -77,7 +78,7 @@ VALUE = Word("TEXT", "a text, in which %XX stands for any byte and ~ alone is th
 ATTRS = Word("ATTR..", f"one of {ATTRIBUTE_FORMS}, each at most once", _is_attribute)
 WHAT = _one_of("WHAT", "hats", "hagsns", "hagsgr", "hagsvote")
 # The words behind each head; a word whose name ends with `..` stands any number of times, one in brackets once or not.
-FORMS = {
+FORMS: dict[str, tuple[Word, ...]] = {
     "mode": (_one_of("fixed|asked|rings", "fixed", "asked", "rings"),),
     "node": (N,),
     "adapter": (N, NET, Word("A.B.C.D", "an IPv4 address as 10.1.0.3, not 0.0.0.0", _is_address)),
@@ -113,25 +114,25 @@ FORMS = {
 SETTINGS = ("mode", "node", "adapter", "hb", "port", "level", "domain")
 CALLS = ("client", "join", "leave", "expel", "state", "message", "attrs", "vote", "subscribe", "unsubscribe", "goodbye")
 CARRIED = ("client", "join", "subscribe")  # of a daemon's own clients
-NODES_OF = {"start": 1, "stop": 1, "tick": 1, "ask": None, "deliver": 2, "drop": 2, "cut": 2, "heal": 2, "garbage": 1, "show": 1}
+NODES_OF: dict[str, int | None] = {"start": 1, "stop": 1, "tick": 1, "ask": None, "deliver": 2, "drop": 2, "cut": 2, "heal": 2, "garbage": 1, "show": 1}
 
 
-def form_of(head):
+def form_of(head: str) -> str:
     return " ".join([head, *(word.name for word in FORMS[head])])
 
 
-def least_of(head):
+def least_of(head: str) -> int:
     """How few words follow the head."""
     words = FORMS[head]
     return len(words) - sum(word.name == "ATTR.." or word.name.startswith("[") for word in words)
 
 
-def _places(head, count):
-    """The word of the form for each of so many words; None for those past the form."""
+def _places(head: str, count: int) -> list[Word]:
+    """The word of the form for each of so many words, as far as the form goes."""
     form = FORMS[head]
     if form and form[-1].name.endswith(".."):
         return [*form[:-1], *[form[-1]] * (count - len(form) + 1)][:count]
-    return [*form, *[None] * (count - len(form))][:count]
+    return list(form[:count])
 
 
 class Fault(NamedTuple):
@@ -143,7 +144,7 @@ class Fault(NamedTuple):
 
 
 class _Bad(Exception):
-    def __init__(self, reason, advice):
+    def __init__(self, reason: str, advice: str) -> None:
         self.reason, self.advice = reason, advice
 
 
@@ -151,36 +152,36 @@ class _Bad(Exception):
 class Settings:
     """What was read. An address is that of a node and a network."""
 
-    nodes: list = field(default_factory=list)
-    addresses: dict = field(default_factory=dict)
-    heartbeat: tuple = (1, 4)
+    nodes: list[int] = field(default_factory=list)
+    addresses: dict[tuple[int, int], str] = field(default_factory=dict)
+    heartbeat: tuple[int, int] = (1, 4)
     port: int = 12347
-    levels: dict = field(default_factory=dict)
+    levels: dict[int, int] = field(default_factory=dict)
     domain: int = 1
     mode: str = "rings"
-    clients: dict = field(default_factory=dict)  # the node of each name
+    clients: dict[str, int] = field(default_factory=dict)  # the node of each name
 
-    def places(self, node):
+    def places(self, node: int) -> dict[int, tuple[str, int]]:
         """The networks of a node with its address and port there."""
         found = {network: (address, self.port + node) for (of, network), address in self.addresses.items() if of == node}
         return found or ({} if self.addresses else {1: (f"10.1.0.{node}", self.port + node)})
 
-    def networks(self, node):
+    def networks(self, node: int) -> set[int]:
         return set(self.places(node))
 
 
 class Reading:
     """Reads line by line, for one of the four things."""
 
-    def __init__(self, aim, node=None):
+    def __init__(self, aim: str, node: int | None = None) -> None:
         self.aim, self.node = aim, node
         self.settings = Settings()
-        self.where = {}  # the line of each setting, and of `begin`
+        self.where: dict[tuple[str, ...], int] = {}  # the line of each setting, and of `begin`
         self.begun = 0
         self.objects = OBJECTS
         self.called = 0
 
-    def read(self, data):
+    def read(self, data: bytes) -> Fault | None:
         """The first fault; None where there is none."""
         at, lines = 0, data.split(b"\n")
         for number, line in enumerate(lines, 1):
@@ -198,7 +199,7 @@ class Reading:
         advice = f"{empty}There is no `begin` line: put one behind the last setting, also where no call follows."
         return Fault(len(lines), "missing word", advice)
 
-    def read_line(self, number, line, is_whole, is_long):
+    def read_line(self, number: int, line: bytes, is_whole: bool, is_long: bool) -> None:
         if is_long:
             raise _Bad("long", f"The input has at most {INPUT_LIMIT:,} bytes, and passes them in this line.")
         text = line.decode("latin-1")
@@ -215,29 +216,29 @@ class Reading:
             self.need_words(words[0], words[1:])
             self.take(number, words[0], words[1:])
 
-    def need_bytes(self, line, number):
+    def need_bytes(self, line: bytes, number: int) -> None:
         for byte in line:
             if not 0x20 <= byte < 0x7F:
                 raise _Bad("bad byte", _of_bad_byte(line, byte, number))
 
-    def need_words(self, head, words):
+    def need_words(self, head: str, words: list[str]) -> None:
         least, form = least_of(head), f"Write `{form_of(head)}`"
         if len(words) < least:
             names = [word.name for word in FORMS[head]][len(words) : least]
             have = f"{len(words)} word{'s follow' if len(words) != 1 else ' follows'} `{head}`"
             raise _Bad("missing word", f"{have}, and {least} are wanted: {' and '.join(names)} is missing. {form}.")
-        for word, place in zip(words, _places(head, len(words))):
-            if place is None:
-                raise _Bad("extra word", _of_extra_word(head, word))
+        places = _places(head, len(words))
+        if len(places) < len(words):
+            raise _Bad("extra word", _of_extra_word(head, words[len(places)]))
         seen = set()
-        for word, place in zip(words, _places(head, len(words))):
+        for word, place in zip(words, places):
             if not place.takes(word):
                 raise _Bad("bad word", f"`{word}` is not good for {place.name}: {_why_bad(word, place)}. {form}.")
             if place is ATTRS and word.split("=")[0] in seen:
                 raise _Bad("bad word", f"The attribute `{word.split('=')[0]}` stands twice. Give it once.")
             seen.add(word.split("=")[0])
 
-    def take(self, number, head, words):
+    def take(self, number: int, head: str, words: list[str]) -> None:
         self.need_nodes(head, words)
         if head in CALLS and head != "client" and words[0] not in self.settings.clients:
             known = ", ".join(self.settings.clients) or "none so far"
@@ -253,7 +254,7 @@ class Reading:
                 self.take_client(words)
             self.called += 1
 
-    def need_nodes(self, head, words):
+    def need_nodes(self, head: str, words: list[str]) -> None:
         if head == "begin" and self.aim != SCRIPT and self.node is not None and self.node not in self.settings.nodes:
             there = ", ".join(map(str, self.settings.nodes)) or "none"
             advice = f"The node that was asked for, {self.node}, has no line `node {self.node}` above `begin`; there are: {there}."
@@ -263,10 +264,10 @@ class Reading:
             if int(word) not in self.settings.nodes:
                 raise _Bad("unknown node", f"Node {word} has no `node` line above. Write `node {word}` before `begin`.")
 
-    def misplaced(self, advice):
+    def misplaced(self, advice: str) -> NoReturn:
         raise _Bad("out of place", advice)
 
-    def take_setting(self, number, head, words):
+    def take_setting(self, number: int, head: str, words: list[str]) -> None:
         settings, where = self.settings, self.where
         if self.begun:
             self.misplaced(f"Settings come before `begin`, which is line {self.begun}.")
@@ -291,14 +292,14 @@ class Reading:
         elif head == "mode":
             settings.mode = words[0]
 
-    def take_adapter(self, number, node, network, address):
+    def take_adapter(self, number: int, node: int, network: int, address: str) -> None:
         for (other, of), known in self.settings.addresses.items():
             if of == network and known == address:
                 line = self.where["adapter", str(other), str(network)]
                 self.misplaced(f"Node {other} has the address {address} on network {network} already, in line {line}.")
         self.settings.addresses[node, network] = address
 
-    def take_begin(self, number):
+    def take_begin(self, number: int) -> None:
         if self.begun:
             self.misplaced(f"There is a `begin` in line {self.begun} already.")
         networks = {node: self.settings.networks(node) for node in self.settings.nodes}
@@ -312,7 +313,7 @@ class Reading:
                 raise _Bad("no shared network", advice)
         self.begun = number
 
-    def need_place(self, head, words):
+    def need_place(self, head: str, words: list[str]) -> None:
         settings = self.settings
         if not self.begun:
             self.misplaced("Events and calls come after `begin`, and settings before it.")
@@ -332,21 +333,21 @@ class Reading:
         if head == "client" and words[2] == "boxed":
             self.need_object(int(words[0]))
 
-    def need_served(self, head, words):
+    def need_served(self, head: str, words: list[str]) -> None:
         if head not in CALLS:
             self.misplaced("This is a line of a script. Behind `begin` a daemon takes calls of clients alone.")
         if head != "client" and head not in CARRIED and self.is_own(words[0]):
             advice = "Behind `begin` the clients of this node may `join` and `subscribe` alone."
             self.misplaced(f"{advice} For other calls use `hags client` or `hagsctl`, while the daemon runs.")
 
-    def is_own(self, name):
+    def is_own(self, name: str) -> bool:
         return self.node is not None and self.settings.clients[name] == self.node
 
-    def need_handed_on(self, head, words):
+    def need_handed_on(self, head: str, words: list[str]) -> None:
         if (head == "client") != (self.called == 0) or head not in CALLS or (head == "client" and words[2] != "-"):
             self.misplaced("Behind `begin` the first line is `client N NAME -`, and each later one is a call of that client.")
 
-    def need_object(self, node):
+    def need_object(self, node: int) -> None:
         if self.aim == SCRIPT:
             raise _Bad("boxed client", "A script cannot play a boxed client. Say how it votes, as A or C,A or -.")
         if self.aim == DAEMON and node == self.node:
@@ -354,11 +355,11 @@ class Reading:
                 raise _Bad("boxed client", f"A daemon has {OBJECTS} boxed clients, and this is one more. Write A in place of boxed.")
             self.objects -= 1
 
-    def take_client(self, words):
+    def take_client(self, words: list[str]) -> None:
         self.settings.clients.setdefault(words[1], int(words[0]))
 
 
-def _of_unknown_word(word):
+def _of_unknown_word(word: str) -> str:
     if word.startswith("#"):
         return "A comment has its # as the first byte of the line."
     if word[0] in "{[":
@@ -370,14 +371,14 @@ def _of_unknown_word(word):
     return f"No line begins with `{word}`.{guess} A line begins with one of: {' '.join(FORMS)}; or with # for a comment."
 
 
-def _of_extra_word(head, word):
+def _of_extra_word(head: str, word: str) -> str:
     if word.startswith("#"):
         return "A comment stands on a line of its own, with its # as the first byte."
     more = " In a text write %20 for a blank." if head in ("state", "message") else ""
     return f"`{word}` is one word too many. Write `{form_of(head)}`.{more}"
 
 
-def _why_bad(word, place):
+def _why_bad(word: str, place: Word) -> str:
     if place.name == "A.B.C.D":
         if ":" in word:
             return f"it looks like IPv6, and is to be {place.good}"
@@ -390,7 +391,7 @@ def _why_bad(word, place):
     return f"it is to be {place.good}"
 
 
-def _of_bad_byte(line, byte, number):
+def _of_bad_byte(line: bytes, byte: int, number: int) -> str:
     if line.startswith(b"\xef\xbb\xbf"):
         return "The text begins with a mark of UTF-8 (EF BB BF). Save it without that mark (\"UTF-8 without BOM\"), or as ASCII."
     if line.endswith(b"\r") and byte == 0x0D:
@@ -406,7 +407,7 @@ def _of_bad_byte(line, byte, number):
     )
 
 
-def read(data, aim, node=None):
+def read(data: bytes, aim: str, node: int | None = None) -> tuple[Settings, Fault | None]:
     """The settings as far as they were read, and the first fault or None."""
     reading = Reading(aim, node)
     fault = reading.read(data)

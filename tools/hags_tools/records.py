@@ -2,6 +2,7 @@
 
 docs/formats.md has the lines. Ids (views, providers, requests, protocols) stay the words that they are. A value is the text
 behind its `=`, in which %XX stands for a byte, and None where the line has `-`; `bytes_of` gives its bytes."""
+from collections.abc import Callable, Iterable, Sequence
 from typing import NamedTuple
 from urllib.parse import unquote_to_bytes
 
@@ -17,27 +18,27 @@ class Proposal(NamedTuple):
     since each joiner is its own request. `rest` are the attributes of `join` and `attrs`, and the `src=` of a join."""
 
     kind: str
-    providers: tuple = ()  # who joins, leaves, has failed or is expelled
-    causes: tuple = ()  # of `fail`, for each provider
+    providers: tuple[str, ...] = ()  # who joins, leaves, has failed or is expelled
+    causes: tuple[str, ...] = ()  # of `fail`, for each provider
     asker: str | None = None
     number: int | None = None
     value: str | None = None
     source: str | None = None  # of `reflect`, the view and place of the value
-    rest: tuple = ()
+    rest: tuple[str, ...] = ()
 
     @property
-    def requests(self):
+    def requests(self) -> list[str]:
         """The requests that it carries, each as PROVIDER/NUMBER."""
         if self.kind == "join":
             return [f"{it}/{it.split('.')[3]}" for it in self.providers]
         return [f"{self.asker}/{self.number}"] if self.asker else []
 
     @property
-    def joiners(self):
+    def joiners(self) -> tuple[str, ...]:
         return self.providers if self.kind == "join" else ()
 
     @property
-    def leaving(self):
+    def leaving(self) -> tuple[str, ...]:
         return self.providers if self.kind in ("leave", "fail", "expel") else ()
 
 
@@ -49,9 +50,9 @@ class Entry(NamedTuple):
     proposal: Proposal | None = None
     protocol: str | None = None
     phase: int = 0
-    rows: tuple = ()
+    rows: tuple[tuple[str, str], ...] = ()
     value: str | None = None
-    late: tuple = ()
+    late: tuple[str, ...] = ()
 
 
 class Up(NamedTuple):
@@ -67,7 +68,7 @@ class Ring(NamedTuple):
     node: int
     network: int
     ring: str
-    nodes: tuple
+    nodes: tuple[int, ...]
     neighbour: int
 
 
@@ -76,7 +77,7 @@ class In(NamedTuple):
 
     node: int
     view: str
-    members: tuple
+    members: tuple[str, ...]
 
 
 class Base(NamedTuple):
@@ -88,10 +89,10 @@ class Base(NamedTuple):
     group: str
     old_view: str
     length: int
-    members: tuple
+    members: tuple[str, ...]
     value: str
-    failed: tuple
-    running: tuple | None
+    failed: tuple[str, ...]
+    running: tuple[str, int] | None
 
 
 class Put(NamedTuple):
@@ -108,10 +109,12 @@ class Heard(NamedTuple):
     group: str
     place: int
     what: str
-    members: tuple
+    members: tuple[str, ...]
     value: str
 
-    node = property(lambda self: node_of(self.provider))
+    @property
+    def node(self) -> int:
+        return node_of(self.provider)
 
 
 class Cast(NamedTuple):
@@ -121,7 +124,9 @@ class Cast(NamedTuple):
     vote: str
     value: str | None
 
-    node = property(lambda self: node_of(self.provider))
+    @property
+    def node(self) -> int:
+        return node_of(self.provider)
 
 
 class Asked(NamedTuple):
@@ -130,16 +135,20 @@ class Asked(NamedTuple):
     group: str
     kind: str
 
-    node = property(lambda self: node_of(self.provider))
+    @property
+    def node(self) -> int:
+        return node_of(self.provider)
 
 
 class Told(NamedTuple):
     provider: str
     request: int
     code: str
-    detail: tuple
+    detail: tuple[str, ...]
 
-    node = property(lambda self: node_of(self.provider))
+    @property
+    def node(self) -> int:
+        return node_of(self.provider)
 
 
 class Noted(NamedTuple):
@@ -149,20 +158,30 @@ class Noted(NamedTuple):
     view: str
     group: str
     place: int | None
-    members: tuple
+    members: tuple[str, ...]
     value: str
 
-    node = property(lambda self: node_of(self.client))
-    name = property(lambda self: self.client.split(".", 1)[1])
+    @property
+    def node(self) -> int:
+        return node_of(self.client)
+
+    @property
+    def name(self) -> str:
+        return self.client.split(".", 1)[1]
 
 
 class Refused(NamedTuple):
     client: str
     code: str
-    detail: tuple
+    detail: tuple[str, ...]
 
-    node = property(lambda self: node_of(self.client))
-    name = property(lambda self: self.client.split(".", 1)[1])
+    @property
+    def node(self) -> int:
+        return node_of(self.client)
+
+    @property
+    def name(self) -> str:
+        return self.client.split(".", 1)[1]
 
 
 class RingStatus(NamedTuple):
@@ -170,7 +189,7 @@ class RingStatus(NamedTuple):
 
     network: int
     ring: str
-    members: tuple
+    members: tuple[int, ...]
     neighbour: int
 
 
@@ -179,7 +198,7 @@ class ViewStatus(NamedTuple):
 
     view: str
     coordinator: int
-    members: tuple
+    members: tuple[str, ...]
     frozen: bool
 
 
@@ -189,7 +208,7 @@ class GroupStatus(NamedTuple):
     group: str
     leader: int | None
     length: int
-    members: tuple
+    members: tuple[str, ...]
     value: str
 
 
@@ -200,7 +219,7 @@ class VoteStatus(NamedTuple):
     protocol: str
     phase: int
     kind: str
-    waiting: tuple | None
+    waiting: tuple[str, ...] | None
 
 
 class DaemonStatus(NamedTuple):
@@ -226,60 +245,64 @@ class ClientStatus(NamedTuple):
     key: int | None
     silent: int | None  # ticks
     unread: int | None  # events
-    members: tuple
+    members: tuple[str, ...]
+
+
+Shown = RingStatus | ViewStatus | GroupStatus | VoteStatus  # what a line of a transcript may show
+Status = Shown | DaemonStatus | ClientStatus
 
 
 class Show(NamedTuple):
     node: int
-    status: RingStatus | ViewStatus | GroupStatus | VoteStatus
+    status: Shown
 
 
 Record = Up | Down | Ring | In | Base | Put | Heard | Cast | Asked | Told | Noted | Refused | Show
 
 
-def node_of(word):
+def node_of(word: str) -> int:
     """The node of a provider, of a member of a view or of a client, as 2 of 2.1795943417.35066.1."""
     return int(word.split(".", 1)[0])
 
 
-def member_of(provider):
+def member_of(provider: str) -> str:
     """The node with its incarnation of a provider, as 1.5 of 1.5.7.1."""
     return ".".join(provider.split(".", 2)[:2])
 
 
-def view_order(view):
+def view_order(view: str) -> tuple[int, ...]:
     return tuple(map(int, view.split(".")))
 
 
-def bytes_of(value):
+def bytes_of(value: str) -> bytes:
     return unquote_to_bytes(value)
 
 
-def items(word):
+def items(word: str) -> tuple[str, ...]:
     return () if word == "-" else tuple(word.split(","))
 
 
-def _numbers(word):
+def _numbers(word: str) -> tuple[int, ...]:
     return tuple(map(int, items(word)))
 
 
-def _value(word):
+def _value(word: str) -> str:
     """A value that a line always has."""
     if not word.startswith("="):
         raise ValueError(word)
     return word[1:]
 
 
-def _maybe_value(word):
+def _maybe_value(word: str) -> str | None:
     return None if word == "-" else _value(word)
 
 
-def _request(word):
+def _request(word: str) -> tuple[str, int]:
     provider, number = word.split("/")
-    return {"asker": provider, "number": int(number)}
+    return provider, int(number)
 
 
-def _proposal(words):
+def _proposal(words: Sequence[str]) -> Proposal:
     kind, who, *rest = words
     if kind == "join":
         return Proposal(kind, items(who), rest=tuple(rest))
@@ -288,19 +311,19 @@ def _proposal(words):
         return Proposal(kind, tuple(it for it, _ in pairs), tuple(cause for _, cause in pairs))
     if kind == "reflect":
         return Proposal(kind, source=who, value=_value(*rest))
-    asked = _request(who)
+    asker, number = _request(who)
     if kind == "leave":
-        return Proposal(kind, (asked["asker"],), **asked)
+        return Proposal(kind, (asker,), asker=asker, number=number)
     if kind == "expel":
-        return Proposal(kind, items(*rest), **asked)
+        return Proposal(kind, items(*rest), asker=asker, number=number)
     if kind in ("state", "message"):
-        return Proposal(kind, value=_value(*rest), **asked)
+        return Proposal(kind, asker=asker, number=number, value=_value(*rest))
     if kind == "attrs":
-        return Proposal(kind, rest=tuple(rest), **asked)
+        return Proposal(kind, asker=asker, number=number, rest=tuple(rest))
     raise ValueError(kind)
 
 
-def _entry(words):
+def _entry(words: Sequence[str]) -> Entry:
     kind = words[0]
     if kind in ("once", "begin"):
         return Entry(kind, _proposal(words[1:]))
@@ -316,89 +339,92 @@ def _entry(words):
     raise ValueError(kind)
 
 
-def _rows(word):
-    return tuple(tuple(row.split("=")) for row in items(word))
+def _rows(word: str) -> tuple[tuple[str, str], ...]:
+    rows = (row.split("=") for row in items(word))
+    return tuple((provider, vote) for provider, vote in rows)
 
 
-def _running(word):
+def _running(word: str) -> tuple[str, int] | None:
     if word == "-":
         return None
     protocol, phase = word.rsplit(":", 1)
     return protocol, int(phase)
 
 
-def _vote(word):
+def _vote(word: str) -> tuple[str, str | None]:
     return word[0], _value(word[1:]) if len(word) > 1 else None
 
 
-def _fields(words):
+def _fields(words: Iterable[str]) -> dict[str, str]:
     """The words NAME=VALUE of a status line, by their names."""
     return dict(word.split("=", 1) for word in words)
 
 
-def _maybe_number(word):
+def _maybe_number(word: str) -> int | None:
     return None if word == "?" else int(word)
 
 
-def _ring_status(words):
+def _ring_status(words: list[str]) -> RingStatus:
     own = _fields(words[2:])
     return RingStatus(int(words[0]), words[1], _numbers(own["members"]), int(own["neighbour"]))
 
 
-def _view_status(words):
+def _view_status(words: list[str]) -> ViewStatus:
     own = _fields(words[1:])
     return ViewStatus(words[0], int(own["coord"]), items(own["members"]), own["frozen"] == "yes")
 
 
-def _group_status(words):
+def _group_status(words: list[str]) -> GroupStatus:
     own = _fields(words[1:])
     return GroupStatus(words[0], _maybe_number(own["leader"]), int(own["len"]), items(own["members"]), own["value"])
 
 
-def _vote_status(words):
+def _vote_status(words: list[str]) -> VoteStatus:
     own = _fields(words[2:])
     waiting = None if own["waiting"] == "?" else items(own["waiting"])
     return VoteStatus(words[0], words[1], int(own["phase"]), own["kind"], waiting)
 
 
-def _daemon_status(words):
+def _daemon_status(words: list[str]) -> DaemonStatus:
     own = _fields(words[1:])
     return DaemonStatus(words[0], own["version"], own["settings"], *(int(own[it]) for it in DaemonStatus._fields[3:]))
 
 
-def _client_status(words):
+def _client_status(words: list[str]) -> ClientStatus:
     own = _fields(words[1:])
-    of_key = (None if own[it] == "-" else int(own[it]) for it in ("key", "silent", "unread"))
-    return ClientStatus(words[0], *of_key, items(own["members"]))
+    key, silent, unread = (None if own[it] == "-" else int(own[it]) for it in ("key", "silent", "unread"))
+    return ClientStatus(words[0], key, silent, unread, items(own["members"]))
 
 
-_STATUSES = {"hats": _ring_status, "hagsns": _view_status, "hagsgr": _group_status, "hagsvote": _vote_status}
-_OF_DAEMONS = {"hagsd": _daemon_status, "hagscl": _client_status}  # no line of a transcript shows these
+_STATUSES: dict[str, Callable[[list[str]], Shown]] = {"hats": _ring_status, "hagsns": _view_status, "hagsgr": _group_status, "hagsvote": _vote_status}
+_OF_DAEMONS: dict[str, Callable[[list[str]], Status]] = {"hagsd": _daemon_status, "hagscl": _client_status}  # no line of a transcript shows these
 
 
-def _status(words):
-    return _STATUSES[words[0]](words[1:])
+def _status(words: Sequence[str]) -> Shown:
+    return _STATUSES[words[0]](list(words[1:]))
 
 
-def _read_put(node, view, group, place, *entry):
+def _read_put(node: str, view: str, group: str, place: str, *entry: str) -> Put:
     return Put(int(node), view, group, int(place), _entry(entry))
 
 
-def _read_base(node, view, group, old_view, length, members, value, failed, running):
+def _read_base(
+    node: str, view: str, group: str, old_view: str, length: str, members: str, value: str, failed: str, running: str
+) -> Base:
     state = items(members), _value(value), items(failed), _running(running)
     return Base(int(node), view, group, old_view, int(length), *state)
 
 
-def _read_heard(provider, view, group, place, what, members, value):
+def _read_heard(provider: str, view: str, group: str, place: str, what: str, members: str, value: str) -> Heard:
     return Heard(provider, view, group, int(place), what, items(members), _value(value))
 
 
-def _read_noted(client, view, group, place, members, value):
+def _read_noted(client: str, view: str, group: str, place: str, members: str, value: str) -> Noted:
     at = None if place == "-" else int(place)
     return Noted(client, view, group, at, items(members), _value(value))
 
 
-_READERS = {
+_READERS: dict[str, Callable[..., Record]] = {
     "up": lambda node, incarnation: Up(int(node), int(incarnation)),
     "down": lambda node: Down(int(node)),
     "ring": lambda node, net, ring, nodes, next_: Ring(int(node), int(net), ring, _numbers(nodes), int(next_)),
@@ -416,7 +442,7 @@ _READERS = {
 KINDS = tuple(_READERS)
 
 
-def read(line):
+def read(line: str) -> Record:
     """The record of a line, which comes without its line feed."""
     kind, *words = line.split(" ")
     try:
@@ -427,11 +453,19 @@ def read(line):
         raise NoRecord(f"no record of a transcript: {line}") from error
 
 
-def kind_of(record):
+def kind_of(record: Record) -> str:
     return type(record).__name__.lower()
 
 
-def read_status(line):
+def read_view(line: str) -> ViewStatus:
+    """What the line of `hags status hagsns` says."""
+    view = read_status(line)
+    if not isinstance(view, ViewStatus):
+        raise NoRecord(f"no view: {line}")
+    return view
+
+
+def read_status(line: str) -> Status:
     """What a line of `hags status` says."""
     words = line.split(" ")
     try:

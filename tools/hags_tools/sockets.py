@@ -18,7 +18,7 @@ class Holder(NamedTuple):
     writes_to_pipe: bool
 
 
-def at_port(port):
+def at_port(port: int) -> list[Socket]:
     """The sockets at a UDP port, on whatever address."""
     found = []
     for line in (PROC / "net" / "udp").read_text().splitlines()[1:]:
@@ -28,7 +28,7 @@ def at_port(port):
     return found
 
 
-def holder(port):
+def holder(port: int) -> Holder | None:
     """The process that has a UDP port; None where none has, or where one may not see it."""
     names = {f"socket:[{it.inode}]" for it in at_port(port)}
     for folder in PROC.iterdir() if names else ():
@@ -37,20 +37,20 @@ def holder(port):
     return None
 
 
-def _files_of(folder):
+def _files_of(folder: pathlib.Path) -> set[str]:
     try:
         return {str(file.readlink()) for file in (folder / "fd").iterdir()}
     except OSError:
         return set()
 
 
-def _holder_of(folder):
+def _holder_of(folder: pathlib.Path) -> Holder:
     command = (folder / "cmdline").read_bytes().replace(b"\0", b" ").decode(errors="replace").strip()
     state = (folder / "stat").read_text().rsplit(")", 1)[1].split()[0]
     return Holder(int(folder.name), command, state in "Tt", str((folder / "fd" / "1").readlink()).startswith("pipe:"))
 
 
-def addresses():
+def addresses() -> list[str]:
     """The IPv4 addresses of this machine, as far as /proc shows them; all of 127 are."""
     found = []
     lines = (PROC / "net" / "fib_trie").read_text().splitlines()

@@ -7,8 +7,9 @@ import signal
 import socket
 import subprocess
 import sys
+from collections.abc import Callable, Iterator
 
-from hags_tools import asking, checking, reading
+from hags_tools import asking, checking, reading, records
 
 DIE_WITH_PARENT = 1  # PR_SET_PDEATHSIG of Linux
 SOON, SELDOM = 0.2, 10  # seconds from one question to the next, until it is ready and then
@@ -23,7 +24,7 @@ ENDS = {
 libc = ctypes.CDLL(None)
 
 
-def tell_systemd(text):
+def tell_systemd(text: str) -> None:
     """Sends this to systemd, where that started us and wants to be told."""
     name = os.environ.get("NOTIFY_SOCKET")
     if name:
@@ -32,13 +33,13 @@ def tell_systemd(text):
             told.sendall(text.encode())
 
 
-def before_start():
+def before_start() -> None:
     """In the daemon, before it is one: it ends with us, and a terminal that closes is ours to hear of."""
     libc.prctl(DIE_WITH_PARENT, signal.SIGKILL)
     signal.signal(signal.SIGHUP, signal.SIG_IGN)
 
 
-def file_of(settings):
+def file_of(settings: bytes) -> int:
     """The settings as a file that can be read again."""
     file = os.memfd_create("settings")
     os.write(file, settings)
@@ -49,16 +50,16 @@ class Supervisor:
     """Beside the daemon of a node that these words start with these settings, each time in the next incarnation, which the
     function `raise_incarnation` keeps and gives. The settings are bytes, or None where standard input cannot be read."""
 
-    def __init__(self, words, node, settings, raise_incarnation):
+    def __init__(self, words: list[str], node: int, settings: bytes | None, raise_incarnation: Callable[[], int]) -> None:
         self.words, self.node, self.settings, self.raise_incarnation = words, node, settings or b"", raise_incarnation
         self.input = 0 if settings is None else file_of(settings)
         self.program = words[0]
         self.is_ready = self.is_ending = False
-        self.view = None  # of this incarnation, as it was told last
+        self.view: records.ViewStatus | None = None  # of this incarnation, as it was told last
         watchdog = int(os.environ.get("WATCHDOG_USEC", 0)) / 1_000_000
         self.pause = min(SELDOM, watchdog / 4) if watchdog else SELDOM
 
-    def run(self):
+    def run(self) -> int:
         """Runs the daemon to its end, anew after each pause, and answers its status; of one that a signal has ended 128 and the
         signal's number."""
         self.wake, wakes = socket.socketpair()
@@ -74,7 +75,7 @@ class Supervisor:
             )
         return self.end(status)
 
-    def live(self):
+    def live(self) -> int:
         """Runs the daemon once, and answers how it ended."""
         incarnation = self.raise_incarnation()
         self.member, self.view = f"{self.node}.{incarnation}", None
@@ -94,14 +95,14 @@ class Supervisor:
             os.close(end)
         return self.daemon.returncode
 
-    def hear(self, signals):
+    def hear(self, signals: bytes) -> None:
         for number in signals:
             if number == signal.SIGHUP:
                 self.say("settings are read at a start alone: start it anew to change them")
             else:
                 self.stop()
 
-    def stop(self):
+    def stop(self) -> None:
         """Ends the daemon. No packet of hags says farewell in a node's name, so the others miss it as they miss a dead one."""
         if self.is_ending:
             return
@@ -112,7 +113,7 @@ class Supervisor:
         self.say(f"it was told to end; the other nodes miss it after {every * misses / 10:.1f} s, and its members with it")
         self.daemon.terminate()
 
-    def look(self):
+    def look(self) -> None:
         """Asks the daemon for its view, and tells systemd of it."""
         view = asking.view(self.program, self.node, self.settings, TURNS)
         if view is None or self.member not in view.members:
@@ -127,7 +128,7 @@ class Supervisor:
             nodes = ", ".join(member.split(".")[0] for member in view.members)
             tell_systemd(f"STATUS=view {view.view} of nodes {nodes}{', frozen' if view.frozen else ''}")
 
-    def end(self, status):
+    def end(self, status: int) -> int:
         if self.is_ending:
             return 0
         if status < 0:
@@ -137,7 +138,7 @@ class Supervisor:
             self.say(sentence)
         return status
 
-    def sentences(self, status):
+    def sentences(self, status: int) -> Iterator[str]:
         """What to do about a daemon that has ended with this status."""
         if status == 2:
             yield checking.of_settings(self.settings, reading.DAEMON, self.node)[1]
@@ -148,5 +149,5 @@ class Supervisor:
         elif status in ENDS:
             yield ENDS[status]
 
-    def say(self, text):
+    def say(self, text: str) -> None:
         print(f"hags-daemon: {text}", file=sys.stderr, flush=True)

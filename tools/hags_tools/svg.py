@@ -1,5 +1,6 @@
 """Shapes and texts of an SVG picture, and how wide a text is."""
 import html
+from collections.abc import Iterable, Iterator
 
 FONT = "DejaVu Sans, Verdana, sans-serif"
 # The widths of the characters from 32 to 126 in DejaVu Sans, the widest of the usual fonts without serifs, in thousandths
@@ -15,12 +16,12 @@ BOLD = 1.15
 SPACED = 0.602
 
 
-def text_width(text, size, bold=False):
+def text_width(text: str, size: float, bold: bool = False) -> float:
     thousandths = sum(WIDTHS[ord(c) - 32] if " " <= c <= "~" else 1000 for c in text)
     return thousandths * size / 1000 * (BOLD if bold else 1)
 
 
-def wrapped(text, size, limit, bold=False):
+def wrapped(text: str, size: float, limit: float, bold: bool = False) -> list[str]:
     """The text in lines of at most this width, broken behind a space or a comma, else behind a `_`, else anywhere."""
     lines, line = [], ""
     for piece in _pieces(text):
@@ -35,7 +36,7 @@ def wrapped(text, size, limit, bold=False):
     return lines + [line.rstrip()] if line.strip() or not lines else lines
 
 
-def _pieces(text):
+def _pieces(text: str) -> Iterator[str]:
     start = 0
     for at, character in enumerate(text):
         if character in " ,":
@@ -44,7 +45,7 @@ def _pieces(text):
     yield text[start:]
 
 
-def _fitting(text, size, limit, bold):
+def _fitting(text: str, size: float, limit: float, bold: bool) -> int:
     """How many characters fit, up to the last `_` where there is one."""
     count = len(text)
     while text_width(text[:count], size, bold) > limit:
@@ -52,12 +53,12 @@ def _fitting(text, size, limit, bold):
     return text.rfind("_", 0, count) + 1 or count
 
 
-def number(value):
+def number(value: float) -> str:
     """A length with at most one decimal place."""
     return f"{value:.1f}".removesuffix(".0")
 
 
-def _element(name, attributes, inside=None):
+def _element(name: str, attributes: dict[str, object], inside: str | None = None) -> str:
     words = [name]
     for key, value in attributes.items():
         shown = number(value) if isinstance(value, (int, float)) else html.escape(str(value))
@@ -66,8 +67,10 @@ def _element(name, attributes, inside=None):
     return f"<{opened}/>" if inside is None else f"<{opened}>{inside}</{name}>"
 
 
-def text(x, y, content, size, fill, bold=False, italic=False, anchor="start", spaced=False):
-    attributes = {"x": x, "y": y, "font_size": size, "fill": fill}
+def text(
+    x: float, y: float, content: str, size: float, fill: str, bold: bool = False, italic: bool = False, anchor: str = "start", spaced: bool = False
+) -> str:
+    attributes: dict[str, object] = {"x": x, "y": y, "font_size": size, "fill": fill}
     if bold:
         attributes["font_weight"] = "bold"
     if italic:
@@ -79,15 +82,15 @@ def text(x, y, content, size, fill, bold=False, italic=False, anchor="start", sp
     return _element("text", attributes, html.escape(content))
 
 
-def line(x1, y1, x2, y2, stroke, width=1, dashes=None):
-    attributes = {"x1": x1, "y1": y1, "x2": x2, "y2": y2, "stroke": stroke, "stroke_width": width}
+def line(x1: float, y1: float, x2: float, y2: float, stroke: str, width: float = 1, dashes: str | None = None) -> str:
+    attributes: dict[str, object] = {"x1": x1, "y1": y1, "x2": x2, "y2": y2, "stroke": stroke, "stroke_width": width}
     if dashes:
         attributes["stroke_dasharray"] = dashes
     return _element("line", attributes)
 
 
-def rect(x, y, width, height, fill, stroke=None, corner=0):
-    attributes = {"x": x, "y": y, "width": width, "height": height, "fill": fill}
+def rect(x: float, y: float, width: float, height: float, fill: str, stroke: str | None = None, corner: float = 0) -> str:
+    attributes: dict[str, object] = {"x": x, "y": y, "width": width, "height": height, "fill": fill}
     if stroke:
         attributes["stroke"] = stroke
     if corner:
@@ -95,17 +98,19 @@ def rect(x, y, width, height, fill, stroke=None, corner=0):
     return _element("rect", attributes)
 
 
-def circle(x, y, radius, fill="none", stroke=None, width=1):
-    attributes = {"cx": x, "cy": y, "r": radius, "fill": fill}
+def circle(x: float, y: float, radius: float, fill: str = "none", stroke: str | None = None, width: float = 1) -> str:
+    attributes: dict[str, object] = {"cx": x, "cy": y, "r": radius, "fill": fill}
     if stroke:
         attributes |= {"stroke": stroke, "stroke_width": width}
     return _element("circle", attributes)
 
 
-def path(steps, fill="none", stroke=None, width=1, dashes=None):
+def path(
+    steps: Iterable[str | float], fill: str = "none", stroke: str | None = None, width: float = 1, dashes: str | None = None
+) -> str:
     """A path of its letters and lengths, as ["M", 0, 0, "L", 1, 1]."""
     way = " ".join(step if isinstance(step, str) else number(step) for step in steps)
-    attributes = {"d": way, "fill": fill}
+    attributes: dict[str, object] = {"d": way, "fill": fill}
     if stroke:
         attributes |= {"stroke": stroke, "stroke_width": width}
     if dashes:
@@ -113,7 +118,7 @@ def path(steps, fill="none", stroke=None, width=1, dashes=None):
     return _element("path", attributes)
 
 
-def picture(width, height, title, elements):
+def picture(width: float, height: float, title: str, elements: Iterable[str]) -> str:
     """The whole file."""
     opened = (
         f'<svg xmlns="http://www.w3.org/2000/svg" width="{number(width)}" height="{number(height)}" '
