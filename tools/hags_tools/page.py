@@ -52,57 +52,54 @@ def faults_of(lines: list[str]) -> list[Fault]:
     return []
 
 
+Thing = tuple[object, ...]  # a request, or a vote
+
+
 class Wants:
-    """What must come before a line in an order of all nodes' lines: a request is asked before it is put, and a vote is cast
+    """What must come before a record in an order of all nodes' records: a request is asked before it is put, and a vote is cast
     before it is counted."""
 
-    def __init__(self, files: Iterable[list[str]]) -> None:
-        self.there: set[tuple[str, ...]] = set()
-        self.come: set[tuple[str, ...]] = set()
-        for lines in files:
-            for line in lines:
-                self.there |= set(self.brings(line.split(" ")))
+    def __init__(self, files: Iterable[list[records.Record]]) -> None:
+        self.there = {thing for own in files for record in own for thing in self.brings(record)}
+        self.come: set[Thing] = set()
 
-    def brings(self, words: list[str]) -> list[tuple[str, ...]]:
-        if words[0] == "asked":
-            return [("asked", f"{words[1]}/{words[2]}")]
-        return [("cast", *words[1:4])] if words[0] == "cast" else []
+    def brings(self, record: records.Record) -> list[Thing]:
+        if isinstance(record, records.Asked):
+            return [("asked", f"{record.provider}/{record.request}")]
+        return [record[:3]] if isinstance(record, records.Cast) else []
 
-    def needs(self, words: list[str]) -> list[tuple[str, ...]]:
-        if words[0] != "put":
+    def needs(self, record: records.Record) -> list[Thing]:
+        if not isinstance(record, records.Put):
             return []
-        if words[5] in ("once", "begin"):
-            joiners = [it for it in words[7].split(",")] if words[6] == "join" else []
-            return [("asked", f"{it}/{it.split('.')[-1]}") for it in joiners] or [("asked", words[7])]
-        if words[5] in ("phase", "approve", "reject"):
-            return [("cast", row.split("=")[0], words[6], words[7]) for row in words[8].split(",")]
-        return []
+        entry = record.entry
+        if entry.proposal:
+            return [("asked", request) for request in entry.proposal.requests]
+        return [(provider, entry.protocol, entry.phase) for provider, _ in entry.rows]
 
-    def may_come(self, words: list[str]) -> bool:
-        return all(need in self.come or need not in self.there for need in self.needs(words))
+    def may_come(self, record: records.Record) -> bool:
+        return all(need in self.come or need not in self.there for need in self.needs(record))
 
-    def take(self, words: list[str]) -> None:
-        self.come |= set(self.brings(words))
+    def take(self, record: records.Record) -> None:
+        self.come |= set(self.brings(record))
 
 
 def merged(files: list[list[str]]) -> list[str]:
     """The lines of several daemons in one order, each daemon's as they are: what was asked and cast stands before what came
     of it, a view's lines before those of a later view, and else the daemon goes on that has come least far."""
-    wants = Wants(files)
+    read = [[records.read(line) for line in lines] for lines in files]
+    wants = Wants(read)
     at = [0] * len(files)
     views: list[tuple[int, ...]] = [(0, 0, 0)] * len(files)
     lines = []
-    while any(at[one] < len(files[one]) for one in range(len(files))):
-        left = [one for one in range(len(files)) if at[one] < len(files[one])]
-        ready = [one for one in left if wants.may_come(files[one][at[one]].split(" "))]
+    while left := [one for one in range(len(files)) if at[one] < len(files[one])]:
+        ready = [one for one in left if wants.may_come(read[one][at[one]])]
         one = min(ready or left, key=lambda it: (views[it], at[it] / len(files[it])))
-        line = files[one][at[one]]
-        words = line.split(" ")
-        if words[0] == "in":
-            views[one] = records.view_order(words[2])
-        elif words[0] == "up":
+        record = read[one][at[one]]
+        if isinstance(record, records.In):
+            views[one] = records.view_order(record.view)
+        elif isinstance(record, records.Up):
             views[one] = (0, 0, 0)
-        wants.take(words)
-        lines.append(line)
+        wants.take(record)
+        lines.append(files[one][at[one]])
         at[one] += 1
     return lines
