@@ -7,8 +7,10 @@ import argparse
 import pathlib
 import re
 import subprocess
+from collections.abc import Iterable, Iterator
 from dataclasses import dataclass
 
+Block = tuple[str, str]  # its kind, and its lines
 TOP = pathlib.Path(__file__).resolve().parent.parent
 DOCS = "/usr/share/doc/hags"
 BULLET = r"\(bu"
@@ -24,7 +26,7 @@ class Part:
     page: str
     heading: str
 
-    def blocks(self):
+    def blocks(self) -> list[Block]:
         text = (TOP / "docs" / self.page).read_text()
         found = re.search(rf"^(#+) {re.escape(self.heading)}\n", text, re.MULTILINE)
         if not found:
@@ -42,12 +44,12 @@ class Page:
     name: str
     section: int
     what: str
-    helps: tuple = ()
-    parts: tuple = ()
-    also: tuple = ()
+    helps: tuple[tuple[str, ...], ...] = ()
+    parts: tuple[Part, ...] = ()
+    also: tuple[str, ...] = ()
 
 
-def pages():
+def pages() -> list[Page]:
     own = ("hags", "--help"), *(("hags", command, "--help") for command in COMMANDS)
     words = Part("command-line.md", "Words"), Part("command-line.md", "Values"), Part("command-line.md", "Examples")
     running = [Part("installing.md", it) for it in ("Settings", "Start", "Without systemd", "What is where")]
@@ -80,9 +82,10 @@ TOOLS = {
 # ---- Markdown as the pages have it
 
 
-def blocks_of(text):
+def blocks_of(text: str) -> Iterator[Block]:
     """The blocks of Markdown: a kind, and its lines or items."""
-    kind, lines = None, []
+    kind: str | None = None
+    lines: list[str] = []
     for line in [*text.split("\n"), ""]:
         now = kind_of(line, kind)
         if now != kind or now in ("heading", "item"):
@@ -94,7 +97,7 @@ def blocks_of(text):
         yield kind, "\n".join(lines).rstrip()
 
 
-def kind_of(line, before):
+def kind_of(line: str, before: str | None) -> str | None:
     if line.startswith("    ") or (before == "code" and not line):
         return "code" if before != "item" or line.startswith("      ") else "item"
     if re.match(r"#+ ", line):
@@ -106,7 +109,7 @@ def kind_of(line, before):
     return "text" if line else None
 
 
-def roff_text(text):
+def roff_text(text: str) -> str:
     """A text with its marks as requests for fonts."""
     for old, new in INSTALLED:
         text = text.replace(old, new)
@@ -116,7 +119,7 @@ def roff_text(text):
     return "".join(map(roff_piece, pieces))
 
 
-def roff_piece(piece):
+def roff_piece(piece: str) -> str:
     if piece.startswith("`") and len(piece) > 1:
         return rf"\fB{escaped(piece[1:-1])}\fP"
     if piece.startswith("**"):
@@ -126,20 +129,20 @@ def roff_piece(piece):
     return escaped(piece)
 
 
-def escaped(text):
+def escaped(text: str) -> str:
     return text.replace("\\|", "|").replace("\\", r"\e").replace("-", r"\-").replace("'", r"\(aq").replace("`", r"\(ga").replace("^", r"\(ha").replace("~", r"\(ti")
 
 
-def roff_line(text):
+def roff_line(text: str) -> str:
     """A line that is no request."""
     return r"\&" + text if text.startswith((".", "'")) else text
 
 
-def literal(lines):
+def literal(lines: Iterable[str]) -> list[str]:
     return [".PP", ".RS 4", ".nf", *(roff_line(escaped(line)) for line in lines), ".fi", ".RE"]
 
 
-def roff_block(kind, text):
+def roff_block(kind: str, text: str) -> list[str]:
     if kind == "heading":
         marks, heading = text.split(" ", 1)
         return [f".SS {roff_text(heading)}"]
@@ -158,11 +161,11 @@ def roff_block(kind, text):
     return [".PP", roff_line(roff_text(" ".join(line.strip() for line in text.split("\n"))))]
 
 
-def cells_of(line):
+def cells_of(line: str) -> list[str]:
     return [cell.strip() for cell in re.split(r"(?<!\\)\|", line)[1:-1]]
 
 
-def roff_table(rows):
+def roff_table(rows: list[list[str]]) -> list[str]:
     """A row is a paragraph with its first cell as the tag; of more than two columns the others name themselves."""
     heads, _, *rows = rows
     lines = []
@@ -182,7 +185,7 @@ def roff_table(rows):
 # ---- pages
 
 
-def help_text(words, program):
+def help_text(words: tuple[str, ...], program: pathlib.Path) -> str:
     """What a call says of itself, at the width of a page, as it is installed."""
     places = {"hags": program, "hagsctl": TOP / "clients" / "python" / "hagsctl"}
     places |= {it: TOP / "tools" / it for it in ("hags-daemon", "hags-metrics")}
@@ -193,7 +196,7 @@ def help_text(words, program):
     return text.replace("docs/", f"{DOCS}/").rstrip()
 
 
-def roff_page(page, program):
+def roff_page(page: Page, program: pathlib.Path) -> str:
     title = f'.TH {page.name.upper()} {page.section} "" "hags" "hags manual"'
     lines = [title, ".SH NAME", rf"{escaped(page.name)} \- {escaped(page.what)}"]
     for words in page.helps:
@@ -209,13 +212,13 @@ def roff_page(page, program):
     return "\n".join(lines) + "\n"
 
 
-def write(folder, program):
+def write(folder: pathlib.Path, program: pathlib.Path) -> None:
     """Writes all pages into a folder, as NAME.SECTION."""
     for page in pages():
         (folder / f"{page.name}.{page.section}").write_text(roff_page(page, program))
 
 
-def main():
+def main() -> None:
     parser = argparse.ArgumentParser(description=__doc__, formatter_class=argparse.RawDescriptionHelpFormatter)
     parser.add_argument("--program", metavar="FILE", type=pathlib.Path, default=TOP / "hags", help="the program (./hags)")
     parser.add_argument("folder", metavar="FOLDER", type=pathlib.Path)

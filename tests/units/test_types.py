@@ -1,4 +1,6 @@
-"""The types of the tools that are installed hold, as mypy of Debian judges them; left out where that is missing."""
+"""The types of the tools that are installed, and of what makes the package, hold as mypy of Debian judges them. Left out
+where that is missing."""
+import os
 import shutil
 import subprocess
 import tempfile
@@ -6,16 +8,20 @@ import unittest
 
 import context
 
-COMMANDS = ("annotate", "compare", "draw", "explain", "hags-daemon", "hags-metrics", "view")
+PARTS = {
+    "tools": ("hags_tools", "annotate", "compare", "draw", "explain", "hags-daemon", "hags-metrics", "view"),
+    "packaging": ("manpages.py", "build-deb"),
+}
 
 
 @unittest.skipUnless(shutil.which("mypy"), "there is no mypy")
 class Types(unittest.TestCase):
     def test_all(self):
         with tempfile.TemporaryDirectory() as cache:
-            for what in ("hags_tools", *COMMANDS):
+            environment = {**os.environ, "MYPYPATH": str(context.TOP / "tools")}
+            for folder, what in [(folder, what) for folder, its in PARTS.items() for what in its]:
                 words = ["mypy", "--strict", f"--cache-dir={cache}", what]
-                ran = subprocess.run(words, cwd=context.TOP / "tools", capture_output=True, text=True, check=False)
+                ran = subprocess.run(words, cwd=context.TOP / folder, env=environment, capture_output=True, text=True, check=False)
                 self.assertEqual(ran.returncode, 0, ran.stdout)
 
 
