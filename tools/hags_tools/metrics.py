@@ -32,7 +32,7 @@ class Metric(NamedTuple):
 
 METRICS = (
     Metric("hags_up", "gauge", "1 where the daemon answers hags status, else 0"),
-    Metric("hags_answer_seconds", "gauge", "how long its answers to the four questions took"),
+    Metric("hags_answer_seconds", "gauge", "how long its answers to all questions took"),
     Metric("hags_nodes", "gauge", "nodes in the settings"),
     Metric("hags_view_number", "gauge", "the number of its view"),
     Metric("hags_view_members", "gauge", "members of its view"),
