@@ -1,5 +1,4 @@
-"""The types of the tools that are installed, and of what makes the package, hold as mypy of Debian judges them. Left out
-where that is missing."""
+"""The types of the tools, and of what makes the package, hold as mypy of Debian judges them. Left out where that is missing."""
 import os
 import shutil
 import subprocess
@@ -9,7 +8,10 @@ import unittest
 import context
 
 PARTS = {
-    "tools": ("hags_tools", "annotate", "compare", "draw", "explain", "hags-daemon", "hags-metrics", "view"),
+    "tools": (
+        "hags_tools", "annotate", "change-cost", "check-pages", "client-api", "compare", "draw", "explain", "fail-each-memory-call",
+        "hags-daemon", "hags-metrics", "hostile", "lint", "order-of-acts", "python-api", "random-script", "view",
+    ),
     "packaging": ("manpages.py", "build-deb"),
 }
 
@@ -18,7 +20,7 @@ PARTS = {
 class Types(unittest.TestCase):
     def test_all(self):
         with tempfile.TemporaryDirectory() as cache:
-            environment = {**os.environ, "MYPYPATH": str(context.TOP / "tools")}
+            environment = {**os.environ, "MYPYPATH": f"{context.TOP}/tools:{context.TOP}/clients/python/src"}
             for folder, what in [(folder, what) for folder, its in PARTS.items() for what in its]:
                 words = ["mypy", "--strict", f"--cache-dir={cache}", what]
                 ran = subprocess.run(words, cwd=context.TOP / folder, env=environment, capture_output=True, text=True, check=False)
