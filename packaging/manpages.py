@@ -59,14 +59,13 @@ def pages() -> list[Page]:
     settings = Part("operating.md", "Settings"), Part("operating.md", "How fast a death is seen"), Part("formats.md", "Settings of a node")
     reading = tuple(Part("formats.md", it) for it in ("The digest of settings", "The input of a client"))
     reading += (Part("messages.md", "Reasons of a bad line"),)
-    told = Part("metrics.md", "What is told"), Part("metrics.md", "Alerts")
     everything = ("hags(1)", "hagsctl(1)", *(f"hags-{it}(1)" for it in TOOLS), "hags-settings(5)", "hags-daemon(8)", "hags-metrics(8)")
     return [
         Page("hags", 1, "group membership for clusters", own, (*words, Part("messages.md", "Exit statuses of `hags`")), everything),
         Page("hagsctl", 1, "looks at a cluster of hags, and uses it", (("hagsctl", "--help"),), (Part("clients/python.md", "hagsctl"),), everything),
         Page("hags-settings", 5, "the settings of a cluster of hags daemons", (), (*settings, *reading), everything),
         Page("hags-daemon", 8, "starts and watches the daemon of a node", (("hags-daemon", "--help"),), tuple(running), everything),
-        Page("hags-metrics", 8, "metrics of hags daemons for Prometheus", (("hags-metrics", "--help"),), told, everything),
+        Page("hags-metrics", 8, "metrics of hags daemons for Prometheus", (("hags-metrics", "--help"),), (Part("metrics.md", "Metrics and alerts"),), everything),
         *(Page(f"hags-{it}", 1, what, ((f"hags-{it}", "--help"),), (), everything) for it, what in TOOLS.items()),
     ]
 
