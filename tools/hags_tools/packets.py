@@ -311,11 +311,11 @@ def question(number: int, what: int, node: int) -> bytes:
     return datagram(pieces(0, 0, 1, asked)[0])
 
 
-def session(node: int, key: int) -> bytes:
-    """The datagram by which a client on another machine begins at a node."""
+def session(node: int, key: int, number: int) -> bytes:
+    """The datagram by which a client on another machine begins at a node. The numbers of such have to rise."""
     line = b"client %d n%d -" % (node, key)
     up = b"RS\1\0" + struct.pack(">IIIH", key, 1, 0, len(line)) + line
-    return datagram(pieces(0, 0, key, up)[0])
+    return datagram(pieces(0, 0, number, up)[0])
 
 
 def samples(sender: int, incarnation: int, receiver: int, peer: int, of_view: bytes | None = None) -> dict[str, bytes]:
