@@ -86,7 +86,7 @@ class Told(unittest.TestCase):
         watch = metrics.Watch("hags", None, b"", 1)
         words = {"7": [b"hags-daemon", b"--supervise"], "8": [b"sh"]}
         with mock.patch.object(metrics, "words_of", lambda folder: words[folder.name]):
-            for parent, began, pauses in (("7", 5, 0), ("7", 5, 0), ("7", 9, 1), ("8", 11, 1), ("8", 12, 1), ("7", 13, 1), ("", 0, 1), ("7", 14, 2)):
+            for parent, began, pauses in (("7", 5, 0), ("7", 5, 0), ("7", 9, 1), ("8", 11, 1), ("8", 12, 1), ("7", 13, 2), ("", 0, 2), ("7", 14, 3)):
                 watch.note_process(stat_words(parent, began) if parent else [])
                 self.assertEqual(watch.pauses, pauses, (parent, began))
 

@@ -92,7 +92,7 @@ class Watch:
         self.rings: dict[int, tuple[str, int]] = {}
         self.formed: dict[int, int] = {}
         self.lasting = Lasting()
-        self.process: tuple[str, str] | None = None
+        self.began: dict[str, str] = {}  # by the parent of a daemon, when that daemon began
         self.pauses = 0
         self.mute: str | None = None  # the daemon, as NODE.INC, that did not answer what it was asked of itself
         self.samples: list[Sample] = []
@@ -192,8 +192,9 @@ class Watch:
         if not words:
             return
         parent, began = words[PARENT], words[BEGAN]
-        before, self.process = self.process, (parent, began)
-        if before and before[0] == parent and before[1] != began and b"--supervise" in words_of(PROC / parent):
+        before = self.began.setdefault(parent, began)
+        self.began[parent] = began
+        if before != began and b"--supervise" in words_of(PROC / parent):
             self.pauses += 1
 
 
