@@ -1,0 +1,3 @@
+pub mod Voters
+pub mod Changes
+pub mod Worked
