@@ -1,0 +1,6 @@
+pub mod Kin
+pub mod Walked
+pub mod Outcomes
+pub mod Law
+pub mod Runs
+pub mod Worked
