@@ -1,0 +1,11 @@
+-- What providers are told of their requests in every run.
+use Rattle.std.specs.Prelude.{List}
+use Rattle.node_state.specs.declared.config.Config.{Config}
+use Rattle.world_laws.specs.world_answers.Answers.{Answered, events_in}
+use Rattle.world_safety.specs.Events.{AllMayHappen}
+use Rattle.world_safety.specs.Scripts.{history_in}
+use Rattle.answer_laws.specs.Answers.{EachAnswerIsDue}
+
+-- whatever the clients answer
+abbrev pub EveryAnswerIsDue : Type 0
+EveryAnswerIsDue = (c : Config) (es : List Answered) → AllMayHappen c (events_in es) → EachAnswerIsDue (history_in c es)
