@@ -9,7 +9,8 @@ ghost use Rattle.fold_laws.specs.Voters.{AreWhoStay};
 #[tactic(auto, using(crate::proofs::Worked::expelled_goes, crate::proofs::Worked::expeller_stays))]
 pub fn only_the_expelled_goes()
     ensures accepted { Changes both (place_of 3) expulsion (record both { members = member 1 ∷ [] }) }
-    ensures refused { Changes both (place_of 3) expulsion (record both { members = [] }) → ⊥ }
+    ensures refused { Changes both (place_of 3) expulsion
+        (record both { members = [] }) → ⊥ }
 {}
 
 /// A message leaves the value.
