@@ -4,3 +4,4 @@ pub mod Outcomes
 pub mod Law
 pub mod Runs
 pub mod Worked
+pub mod Records
