@@ -8,9 +8,9 @@ ghost use Rattle.fold_laws.specs.Voters.{AreWhoStay};
 /// By an expulsion goes who is expelled, and nobody else.
 #[tactic(auto, using(crate::proofs::Worked::expelled_goes, crate::proofs::Worked::expeller_stays))]
 pub fn only_the_expelled_goes()
-    ensures accepted { Changes both (place_of 3) expulsion (record both { members = member 1 ∷ [] }) }
-    ensures refused { Changes both (place_of 3) expulsion
-        (record both { members = [] }) → ⊥ }
+    ensures accepted { Changes both (place_of 3) expulsion
+        (record both { members = member 1 ∷ [] }) }
+    ensures refused { Changes both (place_of 3) expulsion (record both { members = [] }) → ⊥ }
 {}
 
 /// A message leaves the value.
