@@ -29,7 +29,7 @@ use Rattle.relay_model.specs.Relays.{Relayed, is_pair, pair_with, pairs_with, le
 use Rattle.relay_laws.specs.Bare.{bare_pair, AllBare, HaveNetworks, RunsWithoutRelays}
 use Rattle.relay_laws.proofs.Holding.{step_holds, happens_holds, all_start, happens_keeps}
 use Rattle.relay_laws.proofs.Delivering.{same_node, same_kth, step_delivers}
-use Rattle.relay_laws.proofs.Datagrams.{settled_world}
+use Rattle.relay_runs.proofs.Grown.{settled_world}
 
 -- ---- what an event of the direct world sent
 

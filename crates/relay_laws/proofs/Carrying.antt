@@ -18,7 +18,8 @@ use Rattle.relay_model.specs.Relays.{Relayed, leaves, datagram_between, handled,
 use Rattle.relay_laws.specs.Carrying.{Handed, CarriedBy, EachDatagram, Carries, EventsCarry, Down, Unsent, Elsewhere, IsDirect, Nothing, Gives, DeliveriesAreDirect}
 use Rattle.relay_laws.proofs.Holding.{step_keeps, happens_keeps}
 use Rattle.relay_laws.proofs.Leaving.{LeavesBy, Alone, Around, leaves_by, CourseIs, Comes, Passes, Stops, course_is}
-use Rattle.relay_laws.proofs.Datagrams.{leaves_world, settled_world, leaves_hold, settled_hold, datagram_holds}
+use Rattle.relay_runs.proofs.Grown.{leaves_world, settled_world}
+use Rattle.relay_laws.proofs.Datagrams.{leaves_hold, settled_hold, datagram_holds}
 
 -- ---- what leaves a node
 
@@ -83,11 +84,11 @@ events_carry f r (event.Garbage n bytes) k = happens_carries f r (event.Garbage 
 -- ---- the second
 
 -- a step does not read on which network the packet of an envelope came
-same_step : (f : Answering) (w : World) (x : Node) (q : Packet) → may_relay q.body ≡ true → step_by f w (Given (on_one q)) x ≡ step_by f w (Given q) x
+pub same_step : (f : Answering) (w : World) (x : Node) (q : Packet) → may_relay q.body ≡ true → step_by f w (Given (on_one q)) x ≡ step_by f w (Given q) x
 unfolding step_by
 same_step f w x q may = ap (after_step w x.scripts) (network_is_not_read f x.core q may)
 
-given_world : (f : Answering) (r : Relayed) (x : Node) (p : Packet) → (given_to f r x p).world ≡ step_by f r.world (Given p) x
+pub given_world : (f : Answering) (r : Relayed) (x : Node) (p : Packet) → (given_to f r x p).world ≡ step_by f r.world (Given p) x
 unfolding given_to
 given_world f r x p = settled_world r (step_by f r.world (Given p) x)
 

@@ -1,4 +1,4 @@
--- What holds of all datagrams, where it holds of each as it leaves a node; and of the world that they belong to.
+-- What holds of all datagrams, where it holds of each as it leaves a node.
 use Rattle.std.proofs.Common.{◌≡◌, ◌⊎◌, ◌==◌, ◌&&◌, ◌-◌, ℕ, Bool, true, false, List, [], ◌∷◌, length, Option, Some, None, refl, sym, ◌∙◌, subst, inl, inr, ⊎_elim}
 use Rattle.std.specs.Prelude.{find, fold, take, nat_lt, nat_le, slice_get}
 use Rattle.std.proofs.lemmas.Bool.{eqb-true, and_parts}
@@ -11,25 +11,6 @@ use Rattle.world_model.specs.Kept.{sent_since}
 use Rattle.relay_model.specs.Leaving.{Parcel, Leaving}
 use Rattle.relay_model.specs.Relays.{Pair, Relayed, is_pair, pair_with, pairs_with, leaves, datagram_in, datagram_between, leaving_in, leaves_if, sends, settled}
 use Rattle.relay_laws.specs.Carrying.{EachDatagram}
-
--- ---- the world stays
-
-pub leaves_world : (r : Relayed) (d : Leaving) → (leaves r d).world ≡ r.world
-unfolding leaves
-leaves_world r d = refl
-
-if_world : (r : Relayed) (o : Option Leaving) → (leaves_if r o).world ≡ r.world
-if_world r None = refl
-if_world r (Some d) = leaves_world r d
-
-all_world : (w : World) (ps : List Packet) (r : Relayed) → (fold (sends w) r ps).world ≡ r.world
-unfolding sends
-all_world w [] r = refl
-all_world w (p ∷ ps) r = all_world w ps (leaves_if r (leaving_in w p)) ∙ if_world r (leaving_in w p)
-
-pub settled_world : (r : Relayed) (w : World) → (settled r w).world ≡ w
-unfolding settled
-settled_world r w = all_world w (sent_since r.world w) (record r { world = w })
 
 -- ---- what an event sent
 

@@ -24,7 +24,7 @@ use Rattle.relay_laws.specs.Carrying.{Carries, Brings, IsNotGiven, IsDirect, Not
 use Rattle.relay_laws.specs.Direct.{is_delivery, IsDirectOf, Itself, Hands, Moves, AreDirect, NoEvents, OneMore, RelayedRunsAreSafe}
 use Rattle.relay_laws.proofs.Numbered.{AllNumbered, happens_numbered, new_numbered}
 use Rattle.relay_laws.proofs.Delivering.{same_kth, step_delivers}
-use Rattle.relay_laws.proofs.Datagrams.{settled_world}
+use Rattle.relay_runs.proofs.Grown.{settled_world}
 use Rattle.relay_laws.proofs.Carrying.{events_carry, deliveries_are_direct}
 use Rattle.relay_laws.proofs.Routes.{last_is}
 
@@ -131,6 +131,10 @@ all_stand c front (e ∷ rest) may t = subst (Stands c) (append_assoc front (e �
 none_stands : (c : Config) → Stands c []
 unfolding relayed_after relayed_new answered_after
 none_stands c = record { direct = []; are = NoEvents; may = tt; same = refl; carries = λ x h d i. absurd h; numbered = new_numbered c }
+
+-- the events of its direct run may happen
+pub direct_may : (c : Config) (es : List Answered) → AllMayHappen c (events_in es) → (ds : List Answered) × AreDirect c es ds × AllMayHappen c (events_in ds)
+direct_may c es may = let t = all_stand c [] es may (none_stands c) in (t.direct, t.are, t.may)
 
 pub relayed_runs_are_safe : RelayedRunsAreSafe
 unfolding answered_records relayed_records

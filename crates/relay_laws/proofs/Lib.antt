@@ -7,5 +7,4 @@ pub mod Carrying
 pub mod Routes
 pub mod Bare
 pub mod Direct
-pub mod Waiting
 pub mod Playing

@@ -24,7 +24,8 @@ use Rattle.relay_model.specs.Relays.{Sent, Relayed, relays_on, relayed_new, rela
 use Rattle.relay_model.specs.Play.{Played, is_cut, drops, relays, in_world, with_event, flows_to, flows, all_tick, rounds, plays, played, events_of, played_records, script_records, worded_from, all_worded}
 use Rattle.relay_model.specs.Limits.{with_parcel, left_since, Ended, runs_from, runs_within, ended, kept_records}
 use Rattle.relay_laws.specs.Plays.{IsSafeRelayedScript, EveryRelayedPlayIsSafe, EveryKeptRelayedPlayIsSafe}
-use Rattle.relay_laws.proofs.Waiting.{SameRelayed, same_relays}
+use Rattle.relay_runs.specs.Runs.{SameRelayed}
+use Rattle.relay_runs.proofs.Waits.{same_relays}
 use Rattle.relay_laws.proofs.Direct.{may_more, relayed_runs_are_safe}
 
 -- the event of a line of a script
@@ -117,11 +118,11 @@ module _ (c : Config) where
 
 -- ---- what the clients of the script answer
 
-worded_events : (es : List Event) (r : Relayed) → events_in (worded_from r es) ≡ es
+pub worded_events : (es : List Event) (r : Relayed) → events_in (worded_from r es) ≡ es
 worded_events [] r = refl
 worded_events (e ∷ es) r = ap (λ xs. e ∷ xs) (worded_events es (relays r e))
 
-worded_comes : (es : List Event) (r : Relayed) → fold relays_on r (worded_from r es) ≡ fold relays r es
+pub worded_comes : (es : List Event) (r : Relayed) → fold relays_on r (worded_from r es) ≡ fold relays r es
 unfolding relays
 worded_comes [] r = refl
 worded_comes (e ∷ es) r = worded_comes es (relays r e)

@@ -21,7 +21,8 @@ use Rattle.relay_model.specs.Relays.{Relayed, datagram_between, handled, core_of
 use Rattle.relay_laws.specs.Carrying.{EachDatagram}
 use Rattle.relay_laws.specs.Routes.{Hopped, AreHops, Routed, RoutedBy, EnvelopesAreRouted}
 use Rattle.relay_laws.proofs.Leaving.{LeavesBy, Alone, Around, leaves_by, CourseIs, Comes, Passes, Stops, course_is}
-use Rattle.relay_laws.proofs.Datagrams.{settled_world, leaves_hold, settled_hold, datagram_holds}
+use Rattle.relay_runs.proofs.Grown.{settled_world}
+use Rattle.relay_laws.proofs.Datagrams.{leaves_hold, settled_hold, datagram_holds}
 
 -- ---- a run, an event more
 

@@ -23,9 +23,16 @@ pub record IsSafeRelayedScript (c : Config) (es : List Event) (rs : List Happene
   pub rings : (net : ℕ) → NetworkAgrees c net (history_in c direct)
   pub rings_seen : (net : ℕ) → RingsSeen net (past.records_of (history_in c direct))
 
-abbrev pub EveryRelayedPlayIsSafe : Type 0
-EveryRelayedPlayIsSafe = (s : Script) → MayPlay s → s.begun ≡ true → IsSafeRelayedScript s.config (events_of s.config s.lines) (script_records s)
+-- of a script that has begun
+abbrev pub ScriptIsSafe : Script → Type 0
+ScriptIsSafe s = s.begun ≡ true → IsSafeRelayedScript s.config (events_of s.config s.lines) (script_records s)
 
--- up to there they are the run of a front of its events
+-- up to the event whose datagrams pass a number of bytes they are those of a front of its events
+abbrev pub KeptRunIsSafe : ℕ → Script → Type 0
+KeptRunIsSafe limit s = s.begun ≡ true → (es : List Event) × (fs : List Event) × (events_of s.config s.lines ≡ es ++ fs) × IsSafeRelayedScript s.config es (kept_records limit s)
+
+abbrev pub EveryRelayedPlayIsSafe : Type 0
+EveryRelayedPlayIsSafe = (s : Script) → MayPlay s → ScriptIsSafe s
+
 abbrev pub EveryKeptRelayedPlayIsSafe : Type 0
-EveryKeptRelayedPlayIsSafe = (limit : ℕ) (s : Script) → MayPlay s → s.begun ≡ true → (es : List Event) × (fs : List Event) × (events_of s.config s.lines ≡ es ++ fs) × IsSafeRelayedScript s.config es (kept_records limit s)
+EveryKeptRelayedPlayIsSafe = (limit : ℕ) (s : Script) → MayPlay s → KeptRunIsSafe limit s

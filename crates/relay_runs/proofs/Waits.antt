@@ -9,14 +9,11 @@ use Rattle.world_model.specs.declared.event.Event.{Event}
 use Rattle.world_model.specs.declared.event.Event.TheVariants as event
 use Rattle.world_model.specs.World.{Node, World, node_at}
 use Rattle.world_model.specs.Kept.{sent_since}
-use Rattle.world_laws.specs.world_answers.Answers.{step_by, happens_by}
+use Rattle.world_laws.specs.world_answers.Answers.{Answered, step_by, happens_by}
 use Rattle.relay_model.specs.Leaving.{Parcel, Bare, Wrapped, Leaving}
-use Rattle.relay_model.specs.Relays.{Sent, Relayed, is_pair, leaves, datagram_in, datagram_between, handled, leaving_in, leaves_if, sends, settled, given_to, passed, takes_course, comes_to, arrives_if, relays_by}
+use Rattle.relay_model.specs.Relays.{Sent, Relayed, is_pair, leaves, datagram_in, datagram_between, handled, leaving_in, leaves_if, sends, settled, given_to, passed, takes_course, comes_to, arrives_if, relays_by, relays_on}
 use Rattle.relay_model.specs.Play.{relays}
-
--- the same world, but for what waits
-abbrev pub SameRelayed : Relayed → Relayed → Type 0
-SameRelayed r v = v ≡ record r { queue = v.queue }
+use Rattle.relay_runs.specs.Runs.{SameRelayed}
 
 -- what holds of each change of what waits holds of two worlds that differ by it
 same_by : (f : Relayed → Relayed) → ((r : Relayed) (q : List Sent) → SameRelayed (f r) (f (record r { queue = q }))) → (r v : Relayed) → SameRelayed r v → SameRelayed (f r) (f v)
@@ -71,6 +68,9 @@ module _ (f : Answering) where
   relays_alike r q (event.Show n what) = settled_alike r q (happens_by f r.world (event.Show n what))
   relays_alike r q (event.Garbage n bytes) = settled_alike r q (happens_by f r.world (event.Garbage n bytes))
   relays_alike r q (event.Deliver a b k) = arrive_alike r q a b k (node_at r.world b) (datagram_in k (find (is_pair a b) r.pairs))
+
+pub same_goes : (r v : Relayed) (e : Answered) → SameRelayed r v → SameRelayed (relays_on r e) (relays_on v e)
+same_goes r v e h = same_by (λ z. relays_by e.answers z e.event) (λ z q. relays_alike e.answers z q e.event) r v h
 
 -- whose clients vote by the words of a script
 pub same_relays : (r v : Relayed) (e : Event) → SameRelayed r v → SameRelayed (relays r e) (relays v e)

@@ -1,0 +1,5 @@
+pub mod Runs
+pub mod Arrivals
+pub mod Plays
+pub mod Limits
+pub mod Laws
