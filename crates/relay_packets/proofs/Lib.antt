@@ -1,0 +1,4 @@
+pub mod ApartLaws
+pub mod PairLaws
+pub mod ParcelLaws
+pub mod SendLaws

@@ -1,0 +1,4 @@
+pub mod Parcels
+pub mod Leaving
+pub mod Datagrams
+pub mod Sending
