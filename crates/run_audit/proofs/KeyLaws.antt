@@ -27,3 +27,11 @@ view_key_same a b e =
     let p = and_parts (a.number == b.number) ((a.coord == b.coord) && (a.inc == b.inc)) e in
     let q = and_parts (a.coord == b.coord) (a.inc == b.inc) p.1 in
     λ i. record { number = equal a.number b.number p.0 i; coord = equal a.coord b.coord q.0 i; inc = equal a.inc b.inc q.1 i }
+
+-- ---- ids
+
+pub view_same : (u v : ViewId) → same_view u v ≡ true → u ≡ v
+view_same u v e =
+    let p = and_parts (u.number == v.number && u.coord == v.coord) (u.inc == v.inc) e in
+    let q = and_parts (u.number == v.number) (u.coord == v.coord) p.0 in
+    λ i. record { number = equal u.number v.number q.0 i; coord = equal u.coord v.coord q.1 i; inc = equal u.inc v.inc p.1 i }

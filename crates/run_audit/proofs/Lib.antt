@@ -1,6 +1,9 @@
 pub mod EnterLaws
+pub mod FoundLaws
 pub mod KeptLaws
 pub mod KeyLaws
+pub mod ListLaws
+pub mod PlaceLaws
 pub mod RingLaws
 pub mod StartLaws
 pub mod StayLaws

@@ -3,6 +3,8 @@ pub mod Table
 pub mod Audit
 pub mod Kept
 pub mod Keys
+pub mod Lists
+pub mod Places
 pub mod Rings
 pub mod Starts
 pub mod Views

@@ -7,6 +7,8 @@ mod entries;
 #[cfg(test)]
 mod lines;
 #[cfg(test)]
+mod puts;
+#[cfg(test)]
 mod tables;
 #[cfg(test)]
 mod values;
