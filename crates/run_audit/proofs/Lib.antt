@@ -4,6 +4,7 @@ pub mod KeptLaws
 pub mod KeyLaws
 pub mod ListLaws
 pub mod PlaceLaws
+pub mod RequestLaws
 pub mod RingLaws
 pub mod StartLaws
 pub mod StayLaws

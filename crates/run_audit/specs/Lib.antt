@@ -5,6 +5,7 @@ pub mod Kept
 pub mod Keys
 pub mod Lists
 pub mod Places
+pub mod Requests
 pub mod Rings
 pub mod Starts
 pub mod Views

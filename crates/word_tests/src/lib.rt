@@ -9,6 +9,8 @@ mod lines;
 #[cfg(test)]
 mod puts;
 #[cfg(test)]
+mod requests;
+#[cfg(test)]
 mod tables;
 #[cfg(test)]
 mod values;
