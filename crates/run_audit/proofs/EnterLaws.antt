@@ -1,11 +1,10 @@
 -- What the table says of the rule on nodes that enter views, by what is kept.
-use Rattle.std.proofs.Common.{◌≡◌, ℕ, Bool, true, false, List, Option, Some, None, refl, sym, ◌∙◌, ap}
+use Rattle.std.proofs.Common.{◌≡◌, ℕ, Bool, true, false, List, Option, Some, None, sym, ◌∙◌, ap}
 use Rattle.std.specs.Prelude.{if◌then◌else◌}
 use Rattle.rsct_packet.specs.declared.ids.Member.{Member}
 use Rattle.rsct_packet.specs.declared.ids.ViewId.{ViewId}
 use Rattle.record_lines.specs.declared.line.Line.{Line}
 use Rattle.record_lines.specs.declared.line.Line.TheVariants as line
-use Rattle.run_audit.specs.declared.broken.Fault.{Fault}
 use Rattle.run_audit.specs.declared.broken.Rule.TheVariants as rule
 use Rattle.run_audit.specs.Kept.{fault_of}
 use Rattle.run_audit.specs.Past.{first_no, inc_of, members_of, view_of}

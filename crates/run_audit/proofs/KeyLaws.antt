@@ -1,15 +1,17 @@
 -- Keys are the same where they say the same.
-use Rattle.std.proofs.Common.{◌≡◌, ℕ, Bool, true, false, refl, arith}
+use Rattle.std.proofs.Common.{◌≡◌, ℕ, Bool, true, false, refl, ◌∙◌, ap, arith}
 use Rattle.std.specs.Prelude.{◌==◌, ◌&&◌}
 use Rattle.std.proofs.lemmas.Bool.Decides.{nat_tests}
+use Rattle.rsct_packet.specs.declared.ids.ProtoId.{ProtoId}
 use Rattle.rsct_packet.specs.declared.ids.ProviderId.{ProviderId}
 use Rattle.rsct_packet.specs.declared.ids.ViewId.{ViewId}
-use Rattle.rsct_packet.specs.Ids.{same_view}
+use Rattle.rsct_packet.specs.Ids.{same_view, same_proto}
 use Rattle.rsct_packet.specs.Providers.{same_provider}
 use Rattle.word_laws.proofs.ValueLaws.{and_parts}
+use Rattle.run_audit.specs.declared.keys.CastKey.{CastKey}
 use Rattle.run_audit.specs.declared.keys.ProviderKey.{ProviderKey}
 use Rattle.run_audit.specs.declared.keys.ViewKey.{ViewKey}
-use Rattle.run_audit.specs.Keys.{view_key, same_view_key, provider_key, same_provider_key}
+use Rattle.run_audit.specs.Keys.{view_key, same_view_key, provider_key, same_provider_key, cast_key, same_cast_key}
 
 pub equal : (a b : ℕ) → (a == b) ≡ true → a ≡ b
 equal a b e = grind (arith, nat_tests)
@@ -31,6 +33,11 @@ four false b c d = refl
 pub provider_words : (p q : ProviderId) → same_provider_key (provider_key p) (provider_key q) ≡ same_provider p q
 provider_words p q = four (p.node == q.node) (p.inc == q.inc) (p.instance == q.instance) (p.join == q.join)
 
+pub cast_words : (p q : ProviderId) (o r : ProtoId) (j k : ℕ) → same_cast_key (cast_key p o j) (cast_key q r k) ≡ (same_provider p q && (same_proto o r && j == k))
+cast_words p q o r j k =
+    (λ i. provider_words p q i && (view_words o.view r.view i && ((o.place == r.place) && (j == k))))
+    ∙ ap (λ z. same_provider p q && z) (and_moved (same_view o.view r.view) (o.place == r.place) (j == k))
+
 -- ---- the same are equal
 
 pub view_key_same : (a b : ViewKey) → same_view_key a b ≡ true → a ≡ b
@@ -46,6 +53,13 @@ provider_key_same a b e =
     let r = and_parts (a.instance == b.instance) (a.join == b.join) q.1 in
     λ i. record { node = equal a.node b.node p.0 i; inc = equal a.inc b.inc q.0 i; instance = equal a.instance b.instance r.0 i; join = equal a.join b.join r.1 i }
 
+pub cast_key_same : (a b : CastKey) → same_cast_key a b ≡ true → a ≡ b
+cast_key_same a b e =
+    let p = and_parts (same_provider_key a.provider b.provider) (same_view_key a.view b.view && ((a.place == b.place) && (a.phase == b.phase))) e in
+    let q = and_parts (same_view_key a.view b.view) ((a.place == b.place) && (a.phase == b.phase)) p.1 in
+    let r = and_parts (a.place == b.place) (a.phase == b.phase) q.1 in
+    λ i. record { provider = provider_key_same a.provider b.provider p.0 i; view = view_key_same a.view b.view q.0 i; place = equal a.place b.place r.0 i; phase = equal a.phase b.phase r.1 i }
+
 -- ---- ids
 
 pub view_same : (u v : ViewId) → same_view u v ≡ true → u ≡ v
@@ -60,3 +74,8 @@ provider_same p q e =
     let b = and_parts (p.node == q.node && p.inc == q.inc) (p.instance == q.instance) a.0 in
     let c = and_parts (p.node == q.node) (p.inc == q.inc) b.0 in
     λ i. record { node = equal p.node q.node c.0 i; inc = equal p.inc q.inc c.1 i; instance = equal p.instance q.instance b.1 i; join = equal p.join q.join a.1 i }
+
+pub proto_same : (o r : ProtoId) → same_proto o r ≡ true → o ≡ r
+proto_same o r e =
+    let p = and_parts (same_view o.view r.view) (o.place == r.place) e in
+    λ i. record { view = view_same o.view r.view p.0 i; place = equal o.place r.place p.1 i }

@@ -1,8 +1,14 @@
+pub mod BasedLaws
+pub mod CastLaws
+pub mod CloseLaws
 pub mod EnterLaws
 pub mod FoundLaws
+pub mod FrontLaws
 pub mod KeptLaws
 pub mod KeyLaws
 pub mod ListLaws
+pub mod OpenLaws
+pub mod PassLaws
 pub mod PlaceLaws
 pub mod RequestLaws
 pub mod RingLaws

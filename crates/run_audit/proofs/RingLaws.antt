@@ -8,7 +8,6 @@ use Rattle.rsct_packet.specs.declared.ids.RingId.{RingId}
 use Rattle.rsct_packet.specs.Ids.{last_u32, same_ring}
 use Rattle.record_lines.specs.declared.line.Line.{Line}
 use Rattle.record_lines.specs.declared.line.Line.TheVariants as line
-use Rattle.run_audit.specs.declared.broken.Fault.{Fault}
 use Rattle.run_audit.specs.declared.broken.Rule.TheVariants as rule
 use Rattle.run_audit.specs.declared.rings.FirstRing.{FirstRing}
 use Rattle.run_audit.specs.declared.rings.RingKey.{RingKey}

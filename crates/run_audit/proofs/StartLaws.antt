@@ -1,17 +1,16 @@
 -- The last start of a node tells what the rule on starts says.
-use Rattle.std.proofs.Common.{◌≡◌, ◌⊎◌, ℕ, ◌+◌, ◌<◌, ◌≤◌, Bool, true, false, List, [], ◌∷◌, length, Option, Some, None, refl, sym, ◌∙◌, ap, subst, arith, cond}
+use Rattle.std.proofs.Common.{◌≡◌, ℕ, ◌+◌, ◌<◌, ◌≤◌, Bool, true, false, List, [], ◌∷◌, length, Option, Some, None, refl, sym, ◌∙◌, ap, subst, arith, cond}
 use Rattle.std.specs.Prelude.{◌==◌, ◌&&◌, ◌||◌, not, nat_lt, nat_eq, if◌then◌else◌}
 use Rattle.std.specs.List.{list_all}
 use Rattle.std.specs.Map.{lookup}
 use Rattle.std.proofs.lemmas.Bool.Decides.{nat_tests}
-use Rattle.run_audit.specs.declared.broken.Fault.{Fault}
 use Rattle.run_audit.specs.declared.broken.Rule.TheVariants as rule
 use Rattle.record_lines.specs.declared.line.Line.{Line}
 use Rattle.record_lines.specs.declared.line.Line.TheVariants as line
 use Rattle.run_audit.specs.declared.starts.Start.{Start}
 use Rattle.run_audit.specs.Past.{inc_after, inc_of, last_no}
 use Rattle.run_audit.specs.Kept.{Keep, fault_of}
-use Rattle.run_audit.specs.Starts.{start_after, start_of, AreStarts, inc_in}
+use Rattle.run_audit.specs.Starts.{start_of, AreStarts, inc_in}
 use Rattle.run_audit.specs.Table.{holds, with_of, starts_below, is_up}
 
 -- the incarnation is greater than that of a start, where there is one
