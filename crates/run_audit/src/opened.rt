@@ -2,23 +2,27 @@
 ghost use Rattle.std.specs.Prelude.{◌≡◌, ◌∷◌, ◌&&◌, [], List, Option, ℕ, is_none, is_some, true, OnOk};
 ghost use Rattle.std.specs.Map.{lookup};
 ghost use Rattle.rsct_packet.specs.declared.ids.ProviderId.{ProviderId};
+ghost use Rattle.rsct_packet.specs.declared.ids.ViewId.{ViewId};
 ghost use Rattle.proposal_core.specs.declared.entry.Vote.{Vote};
 ghost use Rattle.record_lines.specs.declared.line.Line.{Line};
 ghost use Rattle.record_lines.specs.declared.line.Line.TheVariants as line;
 ghost use Rattle.record_lines.specs.declared.line.What.{What};
 ghost use Rattle.run_audit.specs.declared.broken.Rule.TheVariants as rule;
+ghost use Rattle.run_audit.specs.declared.lists.RowKey.{RowKey};
+ghost use Rattle.run_audit.specs.declared.openings.OpenPut.{OpenPut};
 ghost use Rattle.run_audit.specs.Casts.{AreCasts};
 ghost use Rattle.run_audit.specs.Keys.{cast_key, same_cast_key};
 ghost use Rattle.run_audit.specs.Kept.{Keep, fault_of};
-ghost use Rattle.run_audit.specs.Openings.{AreHeardOpen, AreOpenings};
+ghost use Rattle.run_audit.specs.Lists.{is_row_key};
+ghost use Rattle.run_audit.specs.Openings.{AreHeardOpen, AreOpenings, opened_at};
 ghost use Rattle.run_audit.specs.Table.{holds};
 
 use crate::broken::{Fault, Rule};
 use crate::casts::Casts;
 use crate::keys::{CastKey, cast_key, phase_key};
-use crate::openings::{Openings, opened_at};
+use crate::openings::Opening;
 use indexmap::IndexMap;
-use rsct_packet::{NoMemory, ProtoId, ProviderId, ViewId};
+use rsct_packet::{NoMemory, ProtoId, ProviderId};
 use std::alloc::Global;
 use std::marker::Model;
 
@@ -60,26 +64,23 @@ impl HeardOpen {
         self.by_key.contains_key(&key)
     }
 
-    /// In the line of this number the provider hears of the entry at the place.
+    /// In the line of this number the provider hears of a put that opens this phase, or none.
     pub fn note(
         &mut self,
-        alloc: Global,
-        openings: &Openings,
         provider: ProviderId,
-        view: ViewId,
-        group: &[u8],
-        place: u32,
+        opening: Option<Opening>,
         number: u32,
     ) -> Result<(), NoMemory>
-        ensures { OnOk result ((ls : List Line) (w : What) (ms : List ProviderId)
-            (value : List ℕ) → AreHeardOpen ls self.old → AreOpenings ls openings.now
+        ensures { OnOk result ((ls : List Line) (v : ViewId) (g : List ℕ) (i : ℕ) (w : What)
+            (ms : List ProviderId) (value : List ℕ) (es : List (RowKey × OpenPut))
+            → AreHeardOpen ls self.old → AreOpenings ls es
+            → opening ≡ opened_at i (lookup
+            (is_row_key (record { node = provider.node; view = v; group = g })) es)
             → Keep rule.Place ls
-            → holds rule.Heard (line.Heard provider view group.now place w ms value) ls ≡ true
-            → AreHeardOpen (line.Heard provider view group.now place w ms value ∷ ls)
-            self.new) }
+            → holds rule.Heard (line.Heard provider v g i w ms value) ls ≡ true
+            → AreHeardOpen (line.Heard provider v g i w ms value ∷ ls) self.new) }
     {
-        let last = openings.last(alloc, provider.node, view, group)?;
-        match opened_at(place, last) {
+        match opening {
             None => Ok(()),
             Some(opening) => {
                 let key = phase_key(provider, opening.proto, opening.phase);

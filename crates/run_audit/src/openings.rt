@@ -65,7 +65,7 @@ fn open_line(put: Option<OpenPut>) -> Option<u32>
 
 /// What the put at this place opens.
 #[tactic(auto, unfolding(crate::specs::Openings::opened_at))]
-pub fn opened_at(place: u32, put: Option<OpenPut>) -> Option<Opening>
+fn opened_at(place: u32, put: Option<OpenPut>) -> Option<Opening>
     ensures { result ≡ opened_at place put }
 {
     match put {
@@ -136,6 +136,22 @@ impl Openings {
         Ok(open_line(last))
     }
 
+    /// What the node's put at the place of the list opens, where it is the last of the node's that open a phase.
+    pub fn opened(
+        &self,
+        alloc: Global,
+        node: u8,
+        view: ViewId,
+        group: &[u8],
+        place: u32,
+    ) -> Result<Option<Opening>, NoMemory>
+        ensures { IfOk result (λ x. x ≡ opened_at place (lookup
+            (is_row_key (record { node = node; view = view; group = group.now })) self.now)) }
+    {
+        let last = self.last(alloc, node, view, group)?;
+        Ok(opened_at(place, last))
+    }
+
     /// In the line of this number the node puts the entry at the place.
     pub fn note(
         &mut self,
@@ -146,7 +162,8 @@ impl Openings {
         number: u32,
     ) -> Result<(), NoMemory>
         ensures { OnOk result ((ls : List Line) (g : List ℕ) → AreOpenings ls self.old
-            → key.list.view ≡ view_key view → key.list.group.items ≡ g → number ≡ length ls + 1
+            → key.list.view ≡ view_key view → key.list.group.items ≡ g
+            → number ≡ length ls + 1
             → AreOpenings (line.Put key.node view g place entry.now ∷ ls) self.new) }
     {
         match opening_of(view, place, entry) {
