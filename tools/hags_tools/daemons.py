@@ -4,6 +4,7 @@ Node N has 127.0.0.N on network 1, 127.0.1.N on network 2 and so on."""
 import ctypes
 import os
 import pathlib
+import random
 import resource
 import signal
 import socket
@@ -17,7 +18,8 @@ from typing import TypeVar
 from hags_tools import records
 from hags_tools.programs import TOP, Program
 
-LAST_PORT = 65_000
+# below those that the system gives to sockets that ask for none: so no client takes one before its daemon has it
+PORTS = range(12_000, 32_000)
 LINK_FAULT, NO_REPLY = 6, 9
 STARTS = 5
 DIE_WITH_PARENT = 1  # PR_SET_PDEATHSIG of Linux
@@ -43,16 +45,15 @@ def bound(port: int) -> socket.socket:
 def row_of_sockets(count: int) -> list[socket.socket]:
     """Sockets at so many ports in a row that are free."""
     for _ in range(1000):
-        row = [bound(0)]
-        first = row[0].getsockname()[1]
+        first, row = random.choice(PORTS[: len(PORTS) - count]), []
         try:
-            if 2 <= first <= LAST_PORT - count:
-                row += [bound(port) for port in range(first + 1, first + count)]
-                return row
+            for port in range(first, first + count):
+                row.append(bound(port))
         except OSError:
-            pass
-        for one in row:
-            one.close()
+            for one in row:
+                one.close()
+        else:
+            return row
     raise DaemonError(f"the system has no {count} free ports in a row")
 
 
