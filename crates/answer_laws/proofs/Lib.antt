@@ -1,3 +1,4 @@
 pub mod Told
+pub mod Order
 pub mod Law
 pub mod Runs

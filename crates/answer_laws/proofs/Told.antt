@@ -52,7 +52,7 @@ Says t _ = Unit {0}
 
 -- ---- what is outstanding
 
-asked_out : (t : SessionState) (p : ProviderId) (r : ℕ) → is_numbered r (outstanding t p) ≡ true → Outstanding t p r
+pub asked_out : (t : SessionState) (p : ProviderId) (r : ℕ) → is_numbered r (outstanding t p) ≡ true → Outstanding t p r
 unfolding outstanding
 asked_out t p r e = by (find (is_asked_by p) t.requests) refl e
   where
@@ -62,7 +62,7 @@ asked_out t p r e = by (find (is_asked_by p) t.requests) refl e
         let h = find_has (is_asked_by p) t.requests q f in
         record { request = q; there = h.0; of = provider_same q.provider p h.1; number = eqb-true q.request r n }
 
-dissolved_out : (t : SessionState) (p : ProviderId) → Due t p (number_of (outstanding t p)) Dissolved
+pub dissolved_out : (t : SessionState) (p : ProviderId) → Due t p (number_of (outstanding t p)) Dissolved
 unfolding outstanding
 dissolved_out t p = by (find (is_asked_by p) t.requests) refl
   where

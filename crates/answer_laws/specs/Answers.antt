@@ -10,7 +10,8 @@ use Rattle.client_callbacks.specs.declared.told.Why.TheVariants.{Dissolved}
 use Rattle.node_state.specs.declared.config.Config.{Config}
 use Rattle.node_state.specs.declared.happened.Happened.TheVariants.{Asked, Put, Told}
 use Rattle.world_model.specs.Run.{Happening}
-use Rattle.run_safety.specs.Past.{History, EachEvent, earlier, records_of}
+use Rattle.node_state.specs.declared.happened.Happened.{Happened}
+use Rattle.run_safety.specs.Past.{History, EachEvent, EachRecord, earlier, records_of}
 use Rattle.run_safety.specs.Requests.{carried}
 use Rattle.step_refinement.specs.Tied.{Scene}
 use Rattle.step_refinement.specs.Runs.{Reached}
@@ -35,3 +36,26 @@ EachAnswerIsDue h = EachEvent AnswersAreDue h
 -- whatever starts, stops and steps
 abbrev pub AnswersOfScenesAreDue : Type 0
 AnswersOfScenesAreDue = (c : Config) (w : Scene) → Reached c w → EachAnswerIsDue w.before
+
+-- ---- in which order, also within an event
+
+-- Among these records the provider asked for this, its node put no entry that carries it, and the provider was told nothing of it.
+pub record IsOpen (rs : List Happened) (p : ProviderId) (r : ℕ) : Type 0 where
+  pub group : List ℕ
+  pub proposal : Proposal
+  pub asked : Has (Asked p r group proposal) rs
+  pub unput : (v : ViewId) (g : List ℕ) (i : ℕ) (f : Entry) → Has (Put p.node v g i f) rs → Has (p, r) (carried f) → ⊥
+  pub untold : (why : Why) → Has (Told p r why) rs → ⊥
+
+-- of one record: what is told is told of a request that is open among all records before it, those of its own event too; or it tells a
+-- provider without a request that its group was dissolved
+abbrev pub ToldOfOpen : List Happened → History → Happened → Type 0
+ToldOfOpen now before (Told p r why) = ((r ≡ 0) × (why ≡ Dissolved)) ⊎ IsOpen (earlier now before) p r
+ToldOfOpen now before _ = Unit {0}
+
+abbrev pub AnswersInOrder : History → Type 0
+AnswersInOrder h = EachRecord ToldOfOpen h
+
+-- whatever starts, stops and steps
+abbrev pub AnswersOfScenesInOrder : Type 0
+AnswersOfScenesInOrder = (c : Config) (w : Scene) → Reached c w → AnswersInOrder w.before
