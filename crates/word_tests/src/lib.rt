@@ -7,10 +7,6 @@ mod entries;
 #[cfg(test)]
 mod lines;
 #[cfg(test)]
-mod puts;
-#[cfg(test)]
-mod requests;
-#[cfg(test)]
 mod tables;
 #[cfg(test)]
 mod values;
