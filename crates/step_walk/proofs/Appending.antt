@@ -15,7 +15,7 @@ use Rattle.proposal_core.specs.declared.proposal.Proposal.{Proposal}
 use Rattle.proposal_core.specs.declared.entry.Entry.{Entry}
 use Rattle.proposal_core.specs.declared.entry.Entry.TheVariants.{Once, Begin}
 use Rattle.proposal_core.specs.Fold.{max_phases}
-use Rattle.vote_phases.specs.Tally.{TallyView}
+use Rattle.vote_phases.specs.Tally.{TallyView, expires}
 use Rattle.client_callbacks.specs.declared.told.Why.{Why}
 use Rattle.session_state.specs.HandOn.{is_dissolved}
 use Rattle.node_state.specs.declared.packet.Body.TheVariants as body
@@ -33,7 +33,7 @@ use Rattle.step_walk.proofs.Evidence.{Plain, Turning, KeepsBeside, KeepsLed}
 use Rattle.step_walk.proofs.Asides.{at_sent, at_rest_appended}
 
 -- what closes a phase turns it, and begins nothing
-turning : (Begun : Proposal → Type 0) (s : Core) (g : List ℕ) (e : Entry) → closing_entry (led_of s g) (led_of s g).tally (state_of s g).running ≡ Some e → Turning Begun s g e
+turning : (Begun : Core → List ℕ → Phases → Proposal → Type 0) (s : Core) (g : List ℕ) (e : Entry) → closing_entry (led_of s g) (led_of s g).tally (state_of s g).running ≡ Some e → Turning Begun s g e
 unfolding closing_entry closing_of closing
 turning Begun s g e c = by (led_of s g) (led_of s g).tally (state_of s g).running e c refl
   where
@@ -63,7 +63,7 @@ turning Begun s g e c = by (led_of s g) (led_of s g).tally (state_of s g).runnin
     by l o r (Reject d) c q = c
     by l o r (Late proto phase ps) c q = c
 
-module _ (P : Core → Type 0) (Between : List ℕ → Core → Type 0) (Begun : Proposal → Type 0) (Ok : List ℕ → Type 0) (b : KeepsBeside P Ok) (m : (g : List ℕ) → KeepsBeside (Between g) Ok) (k : KeepsLed P Between Begun (λ s. Ok)) where
+module _ (P : Core → Type 0) (Between : List ℕ → Core → Type 0) (Begun : Core → List ℕ → Phases → Proposal → Type 0) (Ok : List ℕ → Type 0) (b : KeepsBeside P Ok) (m : (g : List ℕ) → KeepsBeside (Between g) Ok) (k : KeepsLed P Between Begun (λ s. Ok)) where
   at_plain : (f : Answering) {s : Core} (g : List ℕ) (ok : Ok g) (e : Entry) → Plain Begun s g e → (t : Bool) → fits_at_end s g e ≡ t → P s → P (append_if_fits f s g e t)
   unfolding append_if_fits
   at_plain f g ok e plain false q p = p
@@ -97,7 +97,7 @@ module _ (P : Core → Type 0) (Between : List ℕ → Core → Type 0) (Begun :
   unfolding closes
   at_closes f {s} g ok p = at_closes_from max_phases f s g ok p
 
-  pub at_begins : (f : Answering) {s : Core} (g : List ℕ) (ok : Ok g) (x : Proposal) (phases : Phases) → Begun x → P s → P (begins f s g x phases)
+  pub at_begins : (f : Answering) {s : Core} (g : List ℕ) (ok : Ok g) (x : Proposal) (phases : Phases) → Begun s g phases x → P s → P (begins f s g x phases)
   unfolding begins begin_many
   at_begins f {s} g ok x One begun p = at_plain f g ok (Once x) begun (fits_at_end s g (Once x)) refl p
   at_begins f {s} g ok x Many begun p = by (fits_at_end s g (Begin x)) refl
@@ -107,11 +107,11 @@ module _ (P : Core → Type 0) (Between : List ℕ → Core → Type 0) (Begun :
       by true q = at_closes f g ok (k.opens (appended f s g (Begin x)) g ok (at_turned f g ok (Begin x) begun q p))
 
   -- who is late is announced
-  pub at_late : (f : Answering) {s : Core} (g : List ℕ) (ok : Ok g) (t : TallyView) → (led_of s g).tally ≡ Some t → (o : Option Running) → (state_of s g).running ≡ o → P s → P (late_appended f s g t o)
+  pub at_late : (f : Answering) {s : Core} (g : List ℕ) (ok : Ok g) (t : TallyView) → (led_of s g).tally ≡ Some t → expires t ≡ true → (o : Option Running) → (state_of s g).running ≡ o → P s → P (late_appended f s g t o)
   unfolding late_appended
-  at_late f g ok t e None q p = p
-  at_late f {s} g ok t e (Some run) q p =
-      at_plain f g ok (Late run.proto run.phase (open_voters t)) (t, run, e, q, refl) (fits_at_end s g (Late run.proto run.phase (open_voters t))) refl p
+  at_late f g ok t e late None q p = p
+  at_late f {s} g ok t e late (Some run) q p =
+      at_plain f g ok (Late run.proto run.phase (open_voters t)) (t, run, e, q, refl, late) (fits_at_end s g (Late run.proto run.phase (open_voters t))) refl p
 
   -- ---- deciding
 

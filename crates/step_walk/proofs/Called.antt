@@ -1,5 +1,5 @@
 -- The calls of clients keep what is kept by each change.
-use Rattle.std.proofs.Common.{ℕ, List, Option, Some, None, Bool, true, false}
+use Rattle.std.proofs.Common.{◌≡◌, ℕ, List, Option, Some, None, Bool, true, false}
 use Rattle.std.specs.Prelude.{Result, Ok, Err}
 use Rattle.std.specs.List.{last_or}
 use Rattle.session_state.specs.declared.fault.GsFault.{GsFault}
@@ -12,7 +12,7 @@ use Rattle.node_state.specs.declared.packet.Body.TheVariants as body
 use Rattle.node_state.specs.declared.state.Core.{Core}
 use Rattle.node_state.specs.State.{frozen, leader_of}
 use Rattle.node_state.specs.Calls.{refuse_call, changed, ask_last, proposed, record_ballot, ballot_sent_if, cast_last, give_ballot, send_gone, send_all_gone, goodbye_said, take_call}
-use Rattle.std.proofs.Common.{◌∙◌, ap, sym, subst, refl}
+use Rattle.std.proofs.Common.{◌⊎◌, ◌∙◌, ap, sym, subst, refl, inr}
 use Rattle.session_state.specs.State.{client_token}
 use Rattle.node_state.specs.State.{holds, recorded, with_sessions}
 use Rattle.node_state.specs.Calls.{caller, subscriber}
@@ -24,10 +24,17 @@ use Rattle.rsct_packet.proofs.HasLaws.{append_has_right}
 use Rattle.session_state.specs.State.{is_client_of}
 use Rattle.session_state.specs.Calls.{inited, joined, left, expelled, state_changed, message_sent, attributes_changed, voted, subscribe_taken, unsubscribe_taken, goodbye_taken}
 use Rattle.node_state.specs.declared.happened.Happened.TheVariants as happened
-use Rattle.step_walk.proofs.Kept.{NoMore, Votes, inited_no_more, joined_no_more, left_no_more, expelled_no_more, state_no_more, message_no_more, attributes_no_more, subscribe_no_more, unsubscribe_no_more, goodbye_no_more, voted_more, last_is}
+use Rattle.step_walk.proofs.Kept.{NoMore, Votes, inited_no_more, joined_no_more, left_no_more, expelled_no_more, state_no_more, message_no_more, attributes_no_more, subscribe_no_more, unsubscribe_no_more, goodbye_no_more, voted_more, last_has, last_is}
 use Rattle.step_walk.proofs.Evidence.{KeepsBeside, KeepsCalling}
 use Rattle.step_walk.proofs.Asides.{at_either, at_fold, at_known}
 use Rattle.step_walk.proofs.Packets.{at_request_sent, at_kept_sent}
+
+last_there : (xs : List Request) (q : Request) → last_or None xs ≡ Some q → Has q xs
+last_there xs q e = by (last_has xs q None e)
+  where
+    by : Has q xs ⊎ (None ≡ Some q) → Has q xs
+    by (inl i) = i
+    by (inr z) = absurd (cc)
 
 module _ (P : Core → Type 0) (k : KeepsBeside P Any) (calls : KeepsCalling P) where
   at_fault : {s : Core} (client : List ℕ) (fault : GsFault) → P s → P (refuse_call s client fault)
@@ -39,14 +46,14 @@ module _ (P : Core → Type 0) (k : KeepsBeside P Any) (calls : KeepsCalling P) 
   at_changed {s} client (Ok t) less p = calls.sessions s t less p
   at_changed client (Err fault) less p = at_fault client fault p
 
-  at_last_asked : {s : Core} (o : Option Request) → P s → P (ask_last s o)
-  unfolding ask_last
-  at_last_asked None p = p
-  at_last_asked {s} (Some q) p = at_request_sent P k q (calls.asks s q.provider q.request q.group q.proposal p)
+  at_last_asked : {s : Core} (o : Option Request) → last_or None s.sessions.requests ≡ o → P s → P (ask_last s o)
+  unfolding ask_last recorded
+  at_last_asked None last p = p
+  at_last_asked {s} (Some q) last p = at_request_sent P k q (last_there s.sessions.requests q last) (calls.asks s q.provider q.request q.group q.proposal p)
 
   at_proposed : {s : Core} (client : List ℕ) (r : Result SessionState GsFault) → NoMore s.sessions r → P s → P (proposed s client r)
-  unfolding proposed
-  at_proposed {s} client (Ok t) less p = at_last_asked (last_or None t.requests) (calls.sessions s t less p)
+  unfolding proposed with_sessions
+  at_proposed {s} client (Ok t) less p = at_last_asked {s = with_sessions s t} (last_or None t.requests) refl (calls.sessions s t less p)
   at_proposed client (Err fault) less p = at_fault client fault p
 
   -- a vote is kept, recorded and sent

@@ -24,6 +24,7 @@ use Rattle.client_callbacks.specs.declared.ballot.Filled.{Filled}
 use Rattle.session_state.specs.declared.casts.Cast.{Cast}
 use Rattle.session_state.specs.declared.fault.GsFault.{GsFault}
 use Rattle.session_state.specs.declared.state.Provider.{Provider}
+use Rattle.session_state.specs.declared.state.Request.{Request}
 use Rattle.session_state.specs.declared.state.SessionState.{SessionState}
 use Rattle.session_state.specs.State.{provider_of, outstanding}
 use Rattle.session_state.specs.HandOn.{casts_out, is_dissolved, is_numbered, take_telling}
@@ -112,9 +113,14 @@ Fairly (Some y) = is_dissolved y ≡ false
 abbrev pub Refusal : Core → Why → Type 0
 Refusal s y = (is_dissolved y ≡ false) ⊎ ((g : List ℕ) × (q : ProviderId) × (d : Decision) × (decision_of (led_of s g) q ≡ Some d) × (d.why ≡ Some y))
 
+-- a request is sent that is outstanding
+abbrev pub Asking : Core → Body → Type 0
+Asking s b = (q : Request) × Has q s.sessions.requests × (b ≡ body.Request s.views.view q.group q.provider q.request q.phases q.proposal)
+
 -- what is sent, beside packets of rings
 abbrev pub Spoken : Core → Body → Type 0
 Spoken s (body.Ring x) = ⊥
+Spoken s (body.Request v g p r phases x) = Asking s (body.Request v g p r phases x)
 Spoken s (body.Tell v g q r y) = Refusal s y
 Spoken s _ = Unit {0}
 

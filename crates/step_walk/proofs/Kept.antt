@@ -291,6 +291,17 @@ voted_more s m v value = session (is_empty s.sessions)
     session true = tt
     session false = provider (find (is_member_of m) s.providers)
 
+pub last_has : (xs : List Request) (q : Request) (o : Option Request) → last_or o xs ≡ Some q → Has q xs ⊎ (o ≡ Some q)
+last_has [] q o e = inr e
+last_has (x ∷ xs) q o e = by (last_has xs q (Some x) e)
+  where
+    some_is : (a b : Request) → Some a ≡ Some b → a ≡ b
+    some_is a b k = cc
+
+    by : Has q xs ⊎ (Some x ≡ Some q) → Has q (x ∷ xs) ⊎ (o ≡ Some q)
+    by (inl i) = inl (inr i)
+    by (inr z) = inl (inl (sym (some_is x q z)))
+
 pub last_is : (xs : List KeptBallot) (k : KeptBallot) (o : Option KeptBallot) → last_or o (xs ++ k ∷ []) ≡ Some k
 last_is [] k o = refl
 last_is (x ∷ xs) k o = last_is xs k (Some x)

@@ -1,5 +1,6 @@
 -- What is kept by each change keeps sending, delivering, appending and closing: a part of the walk with more evidence.
 use Rattle.std.proofs.Common.{ℕ, List, Option, length, refl, inr}
+use Rattle.group_attr.specs.declared.attrs.Phases.{Phases}
 use Rattle.proposal_core.specs.declared.proposal.Proposal.{Proposal}
 use Rattle.proposal_core.specs.declared.entry.Entry.{Entry}
 use Rattle.proposal_core.specs.declared.group_state.GroupState.{GroupState}
@@ -12,18 +13,23 @@ use Rattle.node_state.specs.HandOn.{Answering, fills, hand_on}
 use Rattle.node_state.specs.Leading.{forget_least, new_members_wait, tally_set, tally_opened, closes}
 use Rattle.node_state.specs.State.{with_led}
 use Rattle.step_walk.proofs.Changes.{Any, Spoken, handing, Keeps}
-use Rattle.step_walk.proofs.Evidence.{Saying, KeepsBeside, KeepsLed, Keeping}
+use Rattle.step_walk.proofs.Evidence.{Saying, KeepsBeside, KeepsLed, KeepsEnding, Keeping}
 use Rattle.step_walk.proofs.Asides.{at_fold, at_rest_handed, at_forgets_least, at_new_members}
 use Rattle.step_walk.proofs.Appending.{at_closes}
 
 pub spoken : (s : Core) (b : Body) → Saying s b → Spoken s b
 spoken s (body.Ring x) saying = saying
+spoken s (body.Request v g p r phases x) saying = saying
 spoken s (body.Tell v g q r y) saying = saying
 spoken s _ saying = tt
 
 -- whatever begins
-abbrev pub Anything : Proposal → Type 0
-Anything x = Unit {0}
+abbrev pub Anything : Core → List ℕ → Phases → Proposal → Type 0
+Anything s g phases x = Unit {0}
+
+pub anything_ends : (P : Core → Type 0) → KeepsEnding P Anything
+anything_ends P =
+    record { fails = λ s g p. tt; casts_out = λ s g h out from due p. tt; reflects = λ s g h v i from due p. tt; joins = λ s g p q. tt }
 
 module _ (P : Core → Type 0) (Ok : List ℕ → Type 0) (k : Keeps P Ok) where
   pub beside_of : KeepsBeside P Ok
@@ -33,8 +39,6 @@ module _ (P : Core → Type 0) (Ok : List ℕ → Type 0) (k : Keeps P Ok) where
   unfolding tally_set tally_opened with_led
   led_of =
       record {
-        begins = λ x none. tt;
-        joins = λ s g b test a n p. tt;
         decides = k.decides;
         puts = λ s g e ns stable bs ok fits plain p. k.hands s g e ns stable bs ok p;
         turns = λ s g e ns stable bs ok fits turning p. k.hands s g e ns stable bs ok p;
@@ -73,5 +77,5 @@ keeping_of P k =
       order_between = λ g s p. inr tt;
       beside = beside_of P Any k;
       between = λ g. beside_of P Any k;
-      led = record { begins = l.begins; joins = l.joins; decides = λ s g q r y ok fair p. l.decides s g q r y tt fair p; puts = λ s g e ns stable bs ok fits plain p. l.puts s g e ns stable bs tt fits plain p; turns = λ s g e ns stable bs ok fits turning p. l.turns s g e ns stable bs tt fits turning p; rests = λ s g ok p. l.rests s g tt p; opens = λ s g ok p. l.opens s g tt p };
+      led = record { decides = λ s g q r y ok fair p. l.decides s g q r y tt fair p; puts = λ s g e ns stable bs ok fits plain p. l.puts s g e ns stable bs tt fits plain p; turns = λ s g e ns stable bs ok fits turning p. l.turns s g e ns stable bs tt fits turning p; rests = λ s g ok p. l.rests s g tt p; opens = λ s g ok p. l.opens s g tt p };
     }

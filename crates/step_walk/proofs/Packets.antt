@@ -3,6 +3,8 @@ use Rattle.proposal_core.specs.Fold.{joins_of}
 use Rattle.proposal_core.specs.Lists.{list_or_new}
 use Rattle.std.proofs.Common.{◌++◌}
 use Rattle.std.specs.Prelude.{not, length}
+use Rattle.std.specs.Str.{bytes_eq}
+use Rattle.std.proofs.lemmas.Bool.{and_parts}
 use Rattle.group_attr.specs.Agree.{agree}
 use Rattle.proposal_core.specs.declared.group_state.Running.{Running}
 use Rattle.proposal_core.specs.declared.group_state.GroupState.{GroupState}
@@ -43,7 +45,7 @@ use Rattle.node_state.specs.declared.group.GroupRow.{GroupRow}
 use Rattle.node_state.specs.declared.packet.Body.TheVariants as body
 use Rattle.node_state.specs.declared.packet.Packet.{Packet}
 use Rattle.node_state.specs.declared.state.Core.{Core}
-use Rattle.node_state.specs.State.{row_of, led_of, with_led, state_of, len_of, holds, held_rows, fits_at_end, frozen, coordinates, leader_of, leads, set_leader, led_groups, others, least_acked, acked_by, acked_raised, decision_of}
+use Rattle.node_state.specs.State.{row_of, led_of, with_row, with_led, state_of, len_of, holds, held_rows, fits_at_end, frozen, coordinates, leader_of, leads, set_leader, led_groups, others, least_acked, acked_by, acked_raised, decision_of}
 use Rattle.node_state.specs.Sending.{send_on, sent, send_if_known, send_request_to, send_request, send_requests, vote_of, send_kept_to, send_kept, kept_sent_if, kept_sent_again, send_votes_again}
 use Rattle.node_state.specs.HandOn.{Answering}
 use Rattle.node_state.specs.Leading.{put_and_hand, with_tally, closes, begins}
@@ -57,7 +59,7 @@ use Rattle.node_state.specs.Ticks.{is_lost, lost_told, tick_owed, announced, tic
 use Rattle.std.specs.Prelude.{fold}
 use Rattle.rsct_packet.specs.declared.ids.ViewId.{ViewId}
 use Rattle.rsct_packet.specs.Search.{Has}
-use Rattle.rsct_packet.proofs.HasLaws.{has_drop, has_take}
+use Rattle.rsct_packet.proofs.HasLaws.{has_drop, has_filter, has_take}
 use Rattle.step_walk.proofs.Waiting.{fails_apart, dropped_apart, fails_few, dropped_few}
 use Rattle.step_walk.proofs.Changes.{Any, Fairly, Telling}
 use Rattle.step_walk.proofs.Evidence.{IsLed, KeepsBeside, Keeping, KeepsPackets}
@@ -127,20 +129,41 @@ kept_again_same s b = by (runs b.proto b.phase (state_of s b.group).running) (le
     by true None (Some x) = refl
     by true (Some n) (Some x) = refl
 
+-- and so does what sends a request
+request_same : (s : Core) (q : Request) → (send_request s q).sessions ≡ s.sessions
+unfolding send_request send_request_to sent send_on
+request_same s q = by (frozen s) (leader_of s q.group)
+  where
+    by : (c : Bool) (o : Option ℕ) → (elim c as (λ _. Core) [ true ↦ s | false ↦ send_request_to s q o ]).sessions ≡ s.sessions
+    by true o = refl
+    by false None = refl
+    by false (Some n) = refl
+
 module _ (P : Core → Type 0) (k : KeepsBeside P Any) where
   -- ---- what is owed is sent
 
-  pub at_request_sent : {s : Core} (q : Request) → P s → P (send_request s q)
+  pub at_request_sent : {s : Core} (q : Request) → Has q s.sessions.requests → P s → P (send_request s q)
   unfolding send_request send_request_to
-  at_request_sent {s} q p = at_either P (frozen s) p (by (leader_of s q.group))
+  at_request_sent {s} q i p = at_either P (frozen s) p (by (leader_of s q.group))
     where
       by : (o : Option ℕ) → P (send_request_to s q o)
       by None = at_sent P Any k s.views.view.coord (body.Lookup s.views.view q.group) tt p
-      by (Some n) = at_sent P Any k n (body.Request s.views.view q.group q.provider q.request q.phases q.proposal) tt p
+      by (Some n) = at_sent P Any k n (body.Request s.views.view q.group q.provider q.request q.phases q.proposal) (q, i, refl) p
+
+  at_all_requests : (qs : List Request) (s : Core) → ((q : Request) → Has q qs → Has q s.sessions.requests) → P s → P (fold send_request s qs)
+  at_all_requests [] s all p = p
+  at_all_requests (q ∷ qs) s all p =
+      at_all_requests qs (send_request s q) (λ x i. subst (λ (z : SessionState). Has x z.requests) (sym (request_same s q)) (all x (inr i))) (at_request_sent q (all q (inl refl)) p)
 
   pub at_requests : {s : Core} → P s → P (send_requests s)
   unfolding send_requests
-  at_requests {s} p = at_fold P send_request (λ t q h. at_request_sent q h) s.sessions.requests p
+  at_requests {s} p = at_all_requests s.sessions.requests s (λ q i. i) p
+
+  -- the requests of a group
+  pub at_requests_of : (s : Core) (g : List ℕ) (t : Core) → t.sessions ≡ s.sessions → P t → P (fold send_request t (requests_of s g))
+  unfolding requests_of
+  at_requests_of s g t same p =
+      at_all_requests (requests_of s g) t (λ q i. subst (λ (z : SessionState). Has q z.requests) (sym same) (has_filter (λ (x : Request). bytes_eq x.group g) q s.sessions.requests i).0) p
 
   pub at_kept_sent : {s : Core} (b : KeptBallot) → Has b s.sessions.kept → P s → P (send_kept s b)
   unfolding send_kept send_kept_to vote_of
@@ -209,7 +232,7 @@ module _ (P : Core → Type 0) (k : KeepsBeside P Any) where
       by None q = p
       by (Some l) q = at_entries_sent n g (least_acked s g) (take 16 (drop (acked_by s (row_of s g) n - l.start) l.entries)) (acked_by s (row_of s g) n) s (there l q (acked_by s (row_of s g) n - l.start)) p
 
-module _ (P : Core → Type 0) (Between : List ℕ → Core → Type 0) (Begun : Proposal → Type 0) (Unasked : Type 0) (Given : Core → Packet → Type 0) (rules : KeepsPackets P Between Begun Unasked Given) where
+module _ (P : Core → Type 0) (Between : List ℕ → Core → Type 0) (Begun : Core → List ℕ → Phases → Proposal → Type 0) (Unasked : Type 0) (Given : Core → Packet → Type 0) (rules : KeepsPackets P Between Begun Unasked Given) where
   k : Keeping P Between Begun Unasked
   k = rules.keeping
 
@@ -252,18 +275,18 @@ module _ (P : Core → Type 0) (Between : List ℕ → Core → Type 0) (Begun :
 
     -- ---- the tick of what is led
 
-    late_still : {s : Core} (g : List ℕ) → IsLed Unasked s0 g → (t : TallyView) → (led_of s g).tally ≡ Some t → (c : Bool) → S s → S (announced f s g t c)
+    late_still : {s : Core} (g : List ℕ) → IsLed Unasked s0 g → (t : TallyView) → (led_of s g).tally ≡ Some t → (c : Bool) → (s.sessions.level == 2 && expires t) ≡ c → S s → S (announced f s g t c)
     unfolding announced
-    late_still g ok t e false p = p
-    late_still {s} g ok t e true p =
-        at_late S (λ g. Steady (Between g) Unasked s0) Begun (IsLed Unasked s0) sb (steady_between P Between Begun Unasked k s0) (steady_led P Between Begun Unasked k s0) f g ok t e (state_of s g).running refl p
+    late_still g ok t e false due p = p
+    late_still {s} g ok t e true due p =
+        at_late S (λ g. Steady (Between g) Unasked s0) Begun (IsLed Unasked s0) sb (steady_between P Between Begun Unasked k s0) (steady_led P Between Begun Unasked k s0) f g ok t e (and_parts (s.sessions.level == 2) (expires t) due).1 (state_of s g).running refl p
 
     ticks_still : {s : Core} (g : List ℕ) → IsLed Unasked s0 g → (o : Option TallyView) → (led_of s g).tally ≡ o → S s → S (tally_ticks f s g o)
     unfolding tally_ticks
     ticks_still g ok None e p = p
     ticks_still {s} g ok (Some t) e p =
         let u : Core = announced f s g t (s.sessions.level == 2 && expires t) in
-        let h : S u = late_still g ok t e (s.sessions.level == 2 && expires t) p in
+        let h : S u = late_still g ok t e (s.sessions.level == 2 && expires t) refl p in
         closed_still g ok (counted g (ticked_in (led_of u g).tally) (rules.ticks u g (led_now Unasked s0 u g ok h.1) h.0) h)
 
     group_still : {s : Core} (g : List ℕ) → IsLed Unasked s0 g → S s → S (tick_group f s g)
@@ -280,7 +303,7 @@ module _ (P : Core → Type 0) (Between : List ℕ → Core → Type 0) (Begun :
     pub led_still : (one : Core → List ℕ → Core) → ((s : Core) (g : List ℕ) → IsLed Unasked s0 g → S s → S (one s g)) → P s0 → P (fold one s0 (led_groups s0))
     led_still one step p = (groups_still one step (led_groups s0) (are_led P Between Begun Unasked k s0 p) s0 (begun P Unasked s0 p)).0
 
-    begins_still : {s : Core} (g : List ℕ) → IsLed Unasked s0 g → (x : Proposal) (phases : Phases) → Begun x → S s → S (begins f s g x phases)
+    begins_still : {s : Core} (g : List ℕ) → IsLed Unasked s0 g → (x : Proposal) (phases : Phases) → Begun s g phases x → S s → S (begins f s g x phases)
     begins_still g ok x phases begun p = at_begins S (λ g. Steady (Between g) Unasked s0) Begun (IsLed Unasked s0) sb (steady_between P Between Begun Unasked k s0) (steady_led P Between Begun Unasked k s0) f g ok x phases begun p
 
     refused_still : {s : Core} (g : List ℕ) → IsLed Unasked s0 g → (q : ProviderId) (r : ℕ) (y : Why) → is_dissolved y ≡ false → S s → S (refused s g q r y)
@@ -300,21 +323,25 @@ module _ (P : Core → Type 0) (Between : List ℕ → Core → Type 0) (Begun :
   at_decided_join f s g ok q r a None e p = rules.joins s g q r a e p
   at_decided_join f s g ok q r a (Some y) e p = (refused_still f s g ok q r y (subst Fairly e (join_fair s g q a)) (begun P Unasked s p)).0
 
-  at_decided_other : (f : Answering) (s : Core) (g : List ℕ) → IsLed Unasked s g → (q : ProviderId) (r : ℕ) (phases : Phases) (x : Proposal) (o : Option Why) → joins_of x ≡ [] → Fairly o → P s → P (decide_change f s g q r phases x o)
-  unfolding decide_change
-  at_decided_other f s g ok q r phases x None none fair p = (begins_still f s g ok x phases (k.led.begins x none) (decides_still f s g ok q r None tt (begun P Unasked s p))).0
-  at_decided_other f s g ok q r phases x (Some y) none fair p = (refused_still f s g ok q r y fair (begun P Unasked s p)).0
+  -- what is begun, where the change is not refused
+  abbrev Changes : Core → List ℕ → ProviderId → ℕ → Phases → Proposal → Type 0
+  Changes s g q r phases x = joins_of x ≡ [] → other_refusal s g q x ≡ None → Begun (keep_decision s g q r None) g phases x
 
-  at_decided : (f : Answering) (s : Core) (g : List ℕ) → IsLed Unasked s g → (q : ProviderId) (r : ℕ) (phases : Phases) (x : Proposal) → P s → P (decided f s g q r phases x)
+  at_decided_other : (f : Answering) (s : Core) (g : List ℕ) → IsLed Unasked s g → (q : ProviderId) (r : ℕ) (phases : Phases) (x : Proposal) (o : Option Why) → other_refusal s g q x ≡ o → joins_of x ≡ [] → Changes s g q r phases x → Fairly o → P s → P (decide_change f s g q r phases x o)
+  unfolding decide_change
+  at_decided_other f s g ok q r phases x None e none changes fair p = (begins_still f s g ok x phases (changes none e) (decides_still f s g ok q r None tt (begun P Unasked s p))).0
+  at_decided_other f s g ok q r phases x (Some y) e none changes fair p = (refused_still f s g ok q r y fair (begun P Unasked s p)).0
+
+  at_decided : (f : Answering) (s : Core) (g : List ℕ) → IsLed Unasked s g → (q : ProviderId) (r : ℕ) (phases : Phases) (x : Proposal) → Changes s g q r phases x → P s → P (decided f s g q r phases x)
   unfolding decided
-  at_decided f s g ok q r phases (Join ps a n) p = at_decided_join f s g ok q r a (join_refusal s g q a) refl p
-  at_decided f s g ok q r phases (Leave a c) p = at_decided_other f s g ok q r phases (Leave a c) (other_refusal s g q (Leave a c)) refl (other_fair s g q (Leave a c)) p
-  at_decided f s g ok q r phases (Fail out) p = at_decided_other f s g ok q r phases (Fail out) (other_refusal s g q (Fail out)) refl (other_fair s g q (Fail out)) p
-  at_decided f s g ok q r phases (Expel a c out) p = at_decided_other f s g ok q r phases (Expel a c out) (other_refusal s g q (Expel a c out)) refl (other_fair s g q (Expel a c out)) p
-  at_decided f s g ok q r phases (State a c value) p = at_decided_other f s g ok q r phases (State a c value) (other_refusal s g q (State a c value)) refl (other_fair s g q (State a c value)) p
-  at_decided f s g ok q r phases (Message a c bytes) p = at_decided_other f s g ok q r phases (Message a c bytes) (other_refusal s g q (Message a c bytes)) refl (other_fair s g q (Message a c bytes)) p
-  at_decided f s g ok q r phases (Attributes a c attrs) p = at_decided_other f s g ok q r phases (Attributes a c attrs) (other_refusal s g q (Attributes a c attrs)) refl (other_fair s g q (Attributes a c attrs)) p
-  at_decided f s g ok q r phases (Reflect v i value) p = at_decided_other f s g ok q r phases (Reflect v i value) (other_refusal s g q (Reflect v i value)) refl (other_fair s g q (Reflect v i value)) p
+  at_decided f s g ok q r phases (Join ps a n) changes p = at_decided_join f s g ok q r a (join_refusal s g q a) refl p
+  at_decided f s g ok q r phases (Leave a c) changes p = at_decided_other f s g ok q r phases (Leave a c) (other_refusal s g q (Leave a c)) refl refl changes (other_fair s g q (Leave a c)) p
+  at_decided f s g ok q r phases (Fail out) changes p = at_decided_other f s g ok q r phases (Fail out) (other_refusal s g q (Fail out)) refl refl changes (other_fair s g q (Fail out)) p
+  at_decided f s g ok q r phases (Expel a c out) changes p = at_decided_other f s g ok q r phases (Expel a c out) (other_refusal s g q (Expel a c out)) refl refl changes (other_fair s g q (Expel a c out)) p
+  at_decided f s g ok q r phases (State a c value) changes p = at_decided_other f s g ok q r phases (State a c value) (other_refusal s g q (State a c value)) refl refl changes (other_fair s g q (State a c value)) p
+  at_decided f s g ok q r phases (Message a c bytes) changes p = at_decided_other f s g ok q r phases (Message a c bytes) (other_refusal s g q (Message a c bytes)) refl refl changes (other_fair s g q (Message a c bytes)) p
+  at_decided f s g ok q r phases (Attributes a c attrs) changes p = at_decided_other f s g ok q r phases (Attributes a c attrs) (other_refusal s g q (Attributes a c attrs)) refl refl changes (other_fair s g q (Attributes a c attrs)) p
+  at_decided f s g ok q r phases (Reflect v i value) changes p = at_decided_other f s g ok q r phases (Reflect v i value) (other_refusal s g q (Reflect v i value)) refl refl changes (other_fair s g q (Reflect v i value)) p
 
   -- ---- packets of a view
 
@@ -339,7 +366,7 @@ module _ (P : Core → Type 0) (Between : List ℕ → Core → Type 0) (Begun :
       by true e = rules.tells s q r y telling e p
 
   pub at_name : {s : Core} (g : List ℕ) (n : ℕ) → P s → P (take_name s g n)
-  unfolding take_name named is_name_used
+  unfolding take_name named is_name_used set_leader with_row
   at_name {s} g n p = by (n == 0) (is_none (leader_of s g)) (is_fixed s.config.mode) refl
     where
       full : P (fold (λ t (q : Request). take_tell t q.provider q.request (why.GroupsFull 64)) s (requests_of s g))
@@ -349,7 +376,7 @@ module _ (P : Core → Type 0) (Between : List ℕ → Core → Type 0) (Begun :
       by true true fixed e = full
       by true false true e = full
       by true false false e = p
-      by false true fixed e = at_fold P send_request (λ t q h. at_request_sent P b q h) (requests_of s g) (rules.named s g n e p)
+      by false true fixed e = at_requests_of P b s g (set_leader s g n) refl (rules.named s g n e p)
       by false false true e = p
       by false false false e = p
 
@@ -359,7 +386,7 @@ module _ (P : Core → Type 0) (Between : List ℕ → Core → Type 0) (Begun :
     at_request_new : P s → P (decide_new f s g a r phases x)
     unfolding decide_new
     at_request_new p =
-        let led = rules.requested s q v g a r phases x given to is used p in at_decided f (set_leader s g s.views.me) g led.1 a r phases x led.0
+        let led = rules.requested s q v g a r phases x given to is used p in at_decided f (set_leader s g s.views.me) g led.1 a r phases x (λ none fair. rules.changes s q v g a r phases x given to is used none fair) led.0
 
     at_request_at : (o : Option Decision) → decision_of (led_of s g) a ≡ o → P s → P (request_at f s g a r phases x o)
     unfolding request_at tell_again request_after

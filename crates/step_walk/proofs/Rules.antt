@@ -29,6 +29,7 @@ module _ (P : Core → Type 0) (Given : Packet → Type 0) (rules : KeepsRules P
         reach = rules.reach;
         named = λ s g n e p. rules.leads s g n p;
         requested = λ s q v g a r phases x given to is used p. (rules.leads s g s.views.me p, inr tt);
+        changes = λ s q v g a r phases x given to is used none fair. tt;
         joins = rules.joins;
         tells = rules.tells;
         comes = λ s q v g place stable e bs given to is used at fits p. (rules.keeps.hands s g e [] 0 bs tt p, inr tt);

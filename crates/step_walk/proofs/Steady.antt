@@ -1,6 +1,7 @@
 -- While a node leads, which groups it leads stays: so what keeps each change with the evidence that its group is led keeps
 -- each change of the groups that were led before.
 use Rattle.std.proofs.Common.{◌≡◌, ◌⊎◌, ◌∙◌, ℕ, List, [], ◌∷◌, Option, Some, Bool, refl, ap, subst, inl, inr, ⊎_elim}
+use Rattle.group_attr.specs.declared.attrs.Phases.{Phases}
 use Rattle.proposal_core.specs.declared.proposal.Proposal.{Proposal}
 use Rattle.rsct_packet.specs.Search.{Has}
 use Rattle.proposal_core.specs.declared.entry.Entry.{Entry}
@@ -15,7 +16,7 @@ use Rattle.node_state.specs.Sending.{sent, send_on, send_all}
 use Rattle.node_state.specs.Leading.{put, tally_set, tally_opened}
 use Rattle.node_state.specs.Deciding.{keep_decision}
 use Rattle.node_state.proofs.NameOrder.{KeepsName, cases_text, row_here, row_there, led_are_led}
-use Rattle.step_walk.proofs.Evidence.{IsLed, delivered, KeepsBeside, KeepsLed, Keeping}
+use Rattle.step_walk.proofs.Evidence.{IsLed, delivered, KeepsBeside, KeepsLed, KeepsEnding, Keeping}
 
 -- ---- who leads
 
@@ -84,7 +85,7 @@ module _ (Unasked : Type 0) (s : Core) where
         notes = λ t n client v place told p. (b.notes t n client v place told p.0, p.1);
       }
 
-module _ (P : Core → Type 0) (Between : List ℕ → Core → Type 0) (Begun : Proposal → Type 0) (Unasked : Type 0) (k : Keeping P Between Begun Unasked) (s : Core) where
+module _ (P : Core → Type 0) (Between : List ℕ → Core → Type 0) (Begun : Core → List ℕ → Phases → Proposal → Type 0) (Unasked : Type 0) (k : Keeping P Between Begun Unasked) (s : Core) where
   pub are_led : P s → (g : List ℕ) → Has g (led_groups s) → IsLed Unasked s g
   are_led p g i = ⊎_elim (λ (o : InNameOrder s.groups). inl (led_are_led s g o i)) (λ (u : Unasked). inr u) (k.order s p)
 
@@ -98,11 +99,19 @@ module _ (P : Core → Type 0) (Between : List ℕ → Core → Type 0) (Begun :
   unfolding keep_decision tally_set tally_opened with_led
   steady_led =
       record {
-        begins = k.led.begins;
-        joins = λ t g b test a n p. k.led.joins t g b test a n p.0;
         decides = λ t g q r y ok fair p. (k.led.decides t g q r y (led_now Unasked s t g ok p.1) fair p.0, as_row Unasked s t g _ (λ row. refl) (λ row. refl) (k.order t p.0) p.1);
         puts = λ t g e ns stable bs ok fits plain p. (k.led.puts t g e ns stable bs (led_now Unasked s t g ok p.1) fits plain p.0, as_delivered Unasked s t g e ns stable bs (k.order t p.0) p.1);
         turns = λ t g e ns stable bs ok fits turning p. (k.led.turns t g e ns stable bs (led_now Unasked s t g ok p.1) fits turning p.0, as_delivered Unasked s t g e ns stable bs (k.order t p.0) p.1);
         rests = λ t g ok p. (k.led.rests t g (led_now Unasked s t g ok p.1) p.0, as_row Unasked s t g _ (λ row. refl) (λ row. refl) (k.order_between g t p.0) p.1);
         opens = λ t g ok p. (k.led.opens t g (led_now Unasked s t g ok p.1) p.0, as_row Unasked s t g _ (λ row. refl) (λ row. refl) (k.order_between g t p.0) p.1);
       }
+
+-- what begins is as it is where the node need not lead on
+pub steady_ending : (P : Core → Type 0) (Begun : Core → List ℕ → Phases → Proposal → Type 0) (Unasked : Type 0) (s : Core) → KeepsEnding P Begun → KeepsEnding (Steady P Unasked s) Begun
+steady_ending P Begun Unasked s ends =
+    record {
+      fails = λ t g p. ends.fails t g p.0;
+      casts_out = λ t g h out from due p. ends.casts_out t g h out from due p.0;
+      reflects = λ t g h v i from due p. ends.reflects t g h v i from due p.0;
+      joins = λ t g p q. ends.joins t g p.0 q.0;
+    }

@@ -68,7 +68,8 @@ use Rattle.node_state.specs.Step.{is_used, used_if, view_rule, take_body}
 use Rattle.client_callbacks.specs.declared.ballot.Filled.{Filled}
 use Rattle.step_walk.proofs.Waiting.{fails_few, fails_apart}
 use Rattle.step_walk.proofs.Changes.{Any, Tells, Viewing, Asks, Prepares, Answers, Refuses, Installs, Takes, Gathers, Reminds, viewing}
-use Rattle.step_walk.proofs.Evidence.{delivered, IsLed, KeepsBeside, Keeping, KeepsPackets, KeepsEntering, Arisen}
+use Rattle.step_walk.proofs.Evidence.{delivered, IsLed, KeepsBeside, KeepsEnding, Keeping, KeepsPackets, KeepsEntering, Arisen}
+use Rattle.group_attr.specs.declared.attrs.Phases.{Phases}
 use Rattle.proposal_core.specs.declared.proposal.Proposal.{Proposal}
 use Rattle.view_state.specs.declared.views.ViewWork.{ViewWork}
 use Rattle.step_walk.proofs.Steady.{Steady, led_now, as_row, steadily}
@@ -149,7 +150,7 @@ module _ (Leaving : Core → Type 0) (beside : KeepsBeside Leaving Any) (all : L
   unfolding fill_lists
   at_filled f {s} p = at_lists_filled f all (λ x i. i) s p
 
-module _ (P : Core → Type 0) (Between : List ℕ → Core → Type 0) (Begun : Proposal → Type 0) (Unasked : Type 0) (Given : Core → Packet → Type 0) (rules : KeepsPackets P Between Begun Unasked Given) where
+module _ (P : Core → Type 0) (Between : List ℕ → Core → Type 0) (Begun : Core → List ℕ → Phases → Proposal → Type 0) (Unasked : Type 0) (Given : Core → Packet → Type 0) (rules : KeepsPackets P Between Begun Unasked Given) where
   k : Keeping P Between Begun Unasked
   k = rules.keeping
 
@@ -207,7 +208,7 @@ module _ (P : Core → Type 0) (Between : List ℕ → Core → Type 0) (Begun :
     at_body f s q (body.Query question what) given to is view p = b.sends s q.network q.from (body.Reply question (status_text s what)) tt p
     at_body f s q (body.Reply question text) given to is view p = p
 
-module _ (P : Core → Type 0) (Between : List ℕ → Core → Type 0) (Begun : Proposal → Type 0) (Unasked : Type 0) (Given : Core → Packet → Type 0) (Works : Core → ViewWork → Type 0) (Leaving : Install → List Lacking → Core → Type 0) (rules : KeepsPackets P Between Begun Unasked Given) (rings : KeepsRinging P Given) (views : KeepsEntering P Works Leaving Given) where
+module _ (P : Core → Type 0) (Between : List ℕ → Core → Type 0) (Begun : Core → List ℕ → Phases → Proposal → Type 0) (Unasked : Type 0) (Given : Core → Packet → Type 0) (Works : Core → ViewWork → Type 0) (Leaving : Install → List Lacking → Core → Type 0) (rules : KeepsPackets P Between Begun Unasked Given) (rings : KeepsRinging P Given) (views : KeepsEntering P Works Leaving Given) where
   -- ---- entering a view
 
   at_dissolved_if : {s : Core} (g : List ℕ) (old : ViewId) (c : Option Base) (q : ProviderId) (o : Option Provider) → provider_of s.sessions q ≡ o → P s → P (dissolved_if s g old c o)
@@ -284,5 +285,5 @@ module _ (P : Core → Type 0) (Between : List ℕ → Core → Type 0) (Begun :
   at_before_end f s step.Garbage given p = p
 
   -- what holds after the call of a step, or before any other step, holds after it
-  pub at_stepped : (f : Answering) (s : Core) (e : NodeEvent) → GivenTo Given (at_work s) e → P (called (at_work s) e) → P (stepped f s e)
-  at_stepped f s e given p = subst P (sym (stepped_is f s e)) (at_ended P Between Begun Unasked rules.keeping f (at_before_end f (at_work s) e given p))
+  pub at_stepped : KeepsEnding P Begun → (f : Answering) (s : Core) (e : NodeEvent) → GivenTo Given (at_work s) e → P (called (at_work s) e) → P (stepped f s e)
+  at_stepped ends f s e given p = subst P (sym (stepped_is f s e)) (at_ended P Between Begun Unasked rules.keeping ends f (at_before_end f (at_work s) e given p))

@@ -9,7 +9,7 @@ use Rattle.node_state.specs.Step as step
 use Rattle.node_state.specs.Step.{NodeEvent, stepped, at_work}
 use Rattle.step_walk.proofs.Changes.{Any, Whatever, KeepsRules, KeepsRings, KeepsViews, KeepsCalls}
 use Rattle.step_walk.proofs.Evidence.{KeepsEntering}
-use Rattle.step_walk.proofs.Leading.{Anything, Nothing, beside_of}
+use Rattle.step_walk.proofs.Leading.{Anything, Nothing, anything_ends, beside_of}
 use Rattle.step_walk.proofs.Rules.{packets_of}
 use Rattle.step_walk.proofs.Calling.{on_call}
 use Rattle.step_walk.proofs.Entering.{ringing_of}
@@ -51,7 +51,7 @@ module _ (P : Core → Type 0) (Given : Packet → Type 0) (rules : KeepsRules P
   on_before_end f s e given p = at_before_end P (λ g. P) Anything Nothing (λ s. Given) (λ s w. Nothing) (λ i xs. P) (packets_of P Given rules) (ringing_of P Given rules rings) entering_of f s e (given_to Given s e given) p
 
   pub on_stepped : (f : Answering) (s : Core) (e : NodeEvent) → GivenBy Given e → P (called (at_work s) e) → P (stepped f s e)
-  on_stepped f s e given p = at_stepped P (λ g. P) Anything Nothing (λ s. Given) (λ s w. Nothing) (λ i xs. P) (packets_of P Given rules) (ringing_of P Given rules rings) entering_of f s e (given_to Given (at_work s) e given) p
+  on_stepped f s e given p = at_stepped P (λ g. P) Anything Nothing (λ s. Given) (λ s w. Nothing) (λ i xs. P) (packets_of P Given rules) (ringing_of P Given rules rings) entering_of (anything_ends P) f s e (given_to Given (at_work s) e given) p
 
   pub on_called : KeepsCalls P → {s : Core} (e : NodeEvent) → P s → P (called s e)
   on_called calls (step.Calls c) p = on_call P Given rules calls c p

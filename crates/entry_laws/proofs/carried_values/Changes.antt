@@ -57,6 +57,7 @@ use Rattle.step_walk.proofs.Changes.{Any, Viewing, Asks, Prepares, Answers, Refu
 use Rattle.step_walk.proofs.Kept.{IsCast, KeptIs, OneMore, told_no_more}
 use Rattle.step_walk.proofs.Evidence.{IsLed, Saying, delivered, Plain, Turning, KeepsBeside, KeepsLed, Keeping, KeepsPackets, KeepsEntering, KeepsCalling, KeepsDelivery}
 use Rattle.step_walk.proofs.Delivering.{at_delivered}
+use Rattle.step_walk.proofs.Leading.{Anything}
 use Rattle.entry_laws.proofs.carried_values.At.{RowIs, PutFact, Facts, Course, At, ballot_on, body_on, at_fewer, at_sent_on, at_pushed, at_recorded, at_sessions, at_views, at_row_for, at_row}
 use Rattle.entry_laws.proofs.carried_values.Slots.{TallyIs, failed_is, voted_is, ticked_is, opened_is, closing_carries}
 use Rattle.entry_laws.proofs.carried_values.More.{entry_on}
@@ -122,7 +123,7 @@ told_so rs past p proto phase None k = tt
 told_so rs past p proto phase (Some b) k = append_has_left _ rs past k
 
 -- a rule of views leaves the node in its view
-viewing_stays : (s : Core) (v : Viewing) → Stays s.views (viewing s v)
+pub viewing_stays : (s : Core) (v : Viewing) → Stays s.views (viewing s v)
 viewing_stays s (Asks mask) = ask_stays s.views (views_at_work s.views) mask (own_parts s) (begun_stays s.views)
 viewing_stays s (Prepares from inc v mask) = prepare_stays s.views (views_at_work s.views) from inc v mask (own_parts s) (begun_stays s.views)
 viewing_stays s (Answers v a) = answer_stays s.views (views_at_work s.views) v a (begun_stays s.views)
@@ -131,10 +132,6 @@ viewing_stays s (Installs i) = install_stays s.views (views_at_work s.views) i (
 viewing_stays s (Takes from v) = taken_stays s.views (views_at_work s.views) from v (begun_stays s.views)
 viewing_stays s Gathers = ticks_stay s.views (views_at_work s.views) (ring_ask s) (own_parts s) (begun_stays s.views)
 viewing_stays s Reminds = install_again_stays s.views (views_at_work s.views) (begun_stays s.views)
-
--- whatever begins
-abbrev pub Anything : Proposal → Type 0
-Anything x = Unit {0}
 
 module _ (h : Course) where
   abbrev rs : Core → List Happened
@@ -228,8 +225,6 @@ module _ (h : Course) where
   unfolding keep_decision tally_set with_led
   leading =
       record {
-        begins = λ x none. tt;
-        joins = λ s g b test attrs n a. tt;
         decides = λ s g q r y ok fair a. led_row s g _ (λ l. (refl, refl)) a;
         puts = λ s g e ns stable bs ok fits plain a. at_put Every Every s g e ns stable bs (λ c. put_fact s s.views.view g (len_in (found s g).list) e (plain_row s g e plain fits (a.tallies g tt)).1) (λ k u ne. tt) (λ u. (plain_row s g e plain fits (a.tallies g tt)).0) a;
         turns = λ s g e ns stable bs ok fits turning a. at_put Every (But g) s g e ns stable bs (λ c. put_fact s s.views.view g (len_in (found s g).list) e (carries s g e turning (a.tallies g tt))) (λ k u ne. tt) (λ u. absurd (u refl)) a;
@@ -290,6 +285,7 @@ module _ (h : Course) where
         reach = λ s x a. record { sends = a.sends; kept = a.kept; facts = a.facts; order = a.order; tallies = a.tallies };
         named = λ s g n e a. led_by s g n (inl (idle_row s g (unnamed h.before s g e) a)) a;
         requested = λ s q v g p r phases x k to is used a. (noted s g (k.request v g p r phases x is to used) a, inl (k.request v g p r phases x is to used));
+        changes = λ s q v g p r phases x k to is used none fair. tt;
         joins = λ s g q r attrs e a. led_row (keep_decision s g q r None) g _ (λ l. (refl, refl)) (led_row s g _ (λ l. (refl, refl)) a);
         tells = λ s q r y telling_it numbered a. telling s q r y a;
         comes = λ s q v g place stable e bs k to is used at fits a. (let z = k.entry v g place stable e is used at in at_put Every Every s g e [] 0 bs (λ c. z.0) (λ k u ne. tt) (λ u. inl (idle_row s g z.1 a)) a, inl (k.entry v g place stable e is used at).1);

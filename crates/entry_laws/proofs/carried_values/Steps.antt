@@ -18,7 +18,8 @@ use Rattle.step_walk.proofs.Stepping as stepping
 use Rattle.entry_laws.proofs.closing_rows.Steps.{entry_had_put}
 use Rattle.entry_laws.specs.carried_values.Carried.{BodyTold}
 use Rattle.entry_laws.proofs.carried_values.At.{Course, At, body_on}
-use Rattle.entry_laws.proofs.carried_values.Changes.{Anything, Loose, Known, beside, packets, calling, entering, ring}
+use Rattle.step_walk.proofs.Leading.{Anything, anything_ends}
+use Rattle.entry_laws.proofs.carried_values.Changes.{Loose, Known, beside, packets, calling, entering, ring}
 use Rattle.row_laws.proofs.honest_votes.Changes.{Every, But}
 use Rattle.row_laws.proofs.honest_votes.Steps.{entry_follows, request_leads}
 
@@ -55,4 +56,4 @@ module _ (w : Scene) (n : ℕ) (s : Core) (were : (p : Packet) → Has p w.sent 
 
   pub at_stepped : (f : Answering) (e : NodeEvent) → Arises w e → At (course w) Every (at_work s) → At (course w) Every (stepped f s e)
   at_stepped f e arises a =
-      stepping.at_stepped (At (course w) Every) (λ g. At (course w) (But g)) Anything ⊥ (Known (course w)) (λ s w. Unit {0}) (λ i xs. Loose (course w)) (packets (course w)) (by_rings (At (course w) Every) (Known (course w)) (beside (course w) Every) (packets (course w)).reach (ring (course w))) (entering (course w)) f s e (given e arises) (after_call e a)
+      stepping.at_stepped (At (course w) Every) (λ g. At (course w) (But g)) Anything ⊥ (Known (course w)) (λ s w. Unit {0}) (λ i xs. Loose (course w)) (packets (course w)) (by_rings (At (course w) Every) (Known (course w)) (beside (course w) Every) (packets (course w)).reach (ring (course w))) (entering (course w)) (anything_ends (At (course w) Every)) f s e (given e arises) (after_call e a)

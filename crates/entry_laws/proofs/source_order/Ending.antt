@@ -98,17 +98,17 @@ not_not false e = absurd (cc)
 
 -- ---- a refusal records nothing
 
-record Still (s t : Core) : Type 0 where
-  views : t.views ≡ s.views
-  records : t.records ≡ s.records
+pub record Still (s t : Core) : Type 0 where
+  pub views : t.views ≡ s.views
+  pub records : t.records ≡ s.records
 
-refused_still : (g : List ℕ) (source : Option (List ℕ)) (ps : List ProviderId) (s t : Core) → Still s t → Still s (source_refused t g source ps)
+pub refused_still : (g : List ℕ) (source : Option (List ℕ)) (ps : List ProviderId) (s t : Core) → Still s t → Still s (source_refused t g source ps)
 unfolding source_refused refused keep_decision with_led with_row sent send_on
 refused_still g source [] s t k = k
 refused_still g source (p ∷ ps) s t k =
     refused_still g source ps s (refused t g p p.join (NoSource (source_len t source))) (record { views = k.views; records = k.records })
 
-waits_still : (s : Core) (g : List ℕ) (b : Attrs) → Still s (with_waiting s g (joins_left b.batch))
+pub waits_still : (s : Core) (g : List ℕ) (b : Attrs) → Still s (with_waiting s g (joins_left b.batch))
 unfolding with_waiting with_led with_row
 waits_still s g b = record { views = refl; records = refl }
 

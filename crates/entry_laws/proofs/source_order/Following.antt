@@ -41,7 +41,7 @@ use Rattle.entry_laws.proofs.source_order.Leading.{at_put_and_handed, at_led, at
 use Rattle.entry_laws.proofs.source_order.Deciding.{at_decided}
 
 -- who leads is no part of the state
-led_state : (s : Core) (g : List ℕ) (n : ℕ) → InNameOrder s.groups → state_of (set_leader s g n) g ≡ state_of s g
+pub led_state : (s : Core) (g : List ℕ) (n : ℕ) → InNameOrder s.groups → state_of (set_leader s g n) g ≡ state_of s g
 unfolding state_of list_of set_leader
 led_state s g n order = ap (λ (row : GroupRow). state_in row.list) (row_here g (λ row. record row { leader = Some n }) (λ x. refl) s order)
 

@@ -38,7 +38,7 @@ Closes (Begin x) = ⊥
 Closes _ = Unit {0}
 
 -- the entry that closes a phase
-closing_closes : (l : Led) (t : Option TallyView) (run : Option Running) (e : Entry) → closing_entry l t run ≡ Some e → Closes e
+pub closing_closes : (l : Led) (t : Option TallyView) (run : Option Running) (e : Entry) → closing_entry l t run ≡ Some e → Closes e
 unfolding closing_entry closing_of closing
 closing_closes l None run e q = absurd (cc)
 closing_closes l (Some t) None e q = absurd (cc)

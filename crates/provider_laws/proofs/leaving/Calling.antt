@@ -33,7 +33,7 @@ use Rattle.row_laws.proofs.failed_rows.Owners.{Owned, known_session, removed_was
 use Rattle.row_laws.proofs.hearing.Rules.{request_sends, kept_sends, gone_sends}
 use Rattle.row_laws.proofs.failed_rows.Joining.{made_asks, changes_asks}
 use Rattle.run_safety.proofs.Tests.{has_any}
-use Rattle.row_laws.proofs.hearing.Handing.{some_is}
+use Rattle.step_walk.proofs.Kept.{last_has}
 
 -- ---- names differ
 
@@ -122,14 +122,6 @@ fit_refused s client f k = fit_recorded s (happened.Refused s.views.me client f)
 fit_with : (s : Core) (u : SessionState) → s.records ≡ [] → Apart u.sessions → Fit (with_sessions s u)
 unfolding with_sessions
 fit_with s u none a = record { says = λ r i. absurd (subst (Has r) none i); apart = a }
-
-last_has : (xs : List Request) (q : Request) (o : Option Request) → last_or o xs ≡ Some q → Has q xs ⊎ (o ≡ Some q)
-last_has [] q o e = inr e
-last_has (x ∷ xs) q o e = by (last_has xs q (Some x) e)
-  where
-    by : Has q xs ⊎ (Some x ≡ Some q) → Has q (x ∷ xs) ⊎ (o ≡ Some q)
-    by (inl i) = inl (inr i)
-    by (inr z) = inl (inl (sym (some_is z)))
 
 fit_changed : (s : Core) → s.records ≡ [] → (client : List ℕ) (r : Result SessionState GsFault) → ((u : SessionState) → r ≡ Ok u → Apart u.sessions) → Fit s → Fit (changed s client r)
 unfolding changed

@@ -17,7 +17,7 @@ use Rattle.proposal_core.specs.Fold.{fits, begun, approve, apply, after_if, afte
 use Rattle.proposal_core.proofs.FoldLaws.{idle_approved}
 use Rattle.proposal_core.specs.GroupView.{GroupView}
 use Rattle.proposal_core.specs.Lists.{list_or_new, state_in, has_room, entry_fits, with_entry, is_at_limit}
-use Rattle.batch_rules.specs.Waiting.{batches_joins, has_instance, next_joins, waits_join}
+use Rattle.batch_rules.specs.Waiting.{batches_joins, has_instance, waits_join}
 use Rattle.vote_phases.specs.Tally.{TallyView, tally_fail}
 use Rattle.node_state.specs.declared.group.GroupRow.{GroupRow}
 use Rattle.node_state.specs.declared.group.Led.{Led}
@@ -66,7 +66,7 @@ use Rattle.node_state.specs.Step.{is_used}
 use Rattle.step_walk.proofs.Changes.{Any, Viewing, Asks, Prepares, Answers, Refuses, Installs, Takes, Gathers, Reminds, viewing, KeepsRing}
 use Rattle.step_walk.proofs.Kept.{KeptIs, OneMore, told_no_more}
 use Rattle.step_walk.proofs.Waiting.{chosen_differ, cast_apart}
-use Rattle.step_walk.proofs.Evidence.{IsLed, Saying, delivered, Plain, Turning, Arisen, KeepsBeside, KeepsLed, Keeping, KeepsPackets, KeepsEntering, KeepsCalling, KeepsDelivery}
+use Rattle.step_walk.proofs.Evidence.{IsLed, Saying, delivered, Plain, Turning, Arisen, chosen, chosen_attrs, KeepsBeside, KeepsLed, KeepsEnding, Keeping, KeepsPackets, KeepsEntering, KeepsCalling, KeepsDelivery}
 use Rattle.step_walk.proofs.Delivering.{at_delivered}
 use Rattle.step_walk.proofs.Parts.{IsEntering, on_enters}
 use Rattle.row_laws.proofs.honest_votes.More.{entry_on, entries_on, install_on, ballot_on}
@@ -240,6 +240,10 @@ NoGroup g = ⊥
 abbrev pub But : List ℕ → List ℕ → Type 0
 But g k = g ≡ k → ⊥
 
+-- who joins together differs
+abbrev pub NamesApart : Core → List ℕ → Phases → Proposal → Type 0
+NamesApart s g phases x = NamesOnce x
+
 -- evidence is asked for
 pub sure : {A : Type 0} → A ⊎ ⊥ → A
 sure (inl a) = a
@@ -340,7 +344,7 @@ module _ (h : History) where
 
   -- ---- what a leader does
 
-  plain_row : (s : Core) (g : List ℕ) (e : Entry) → Plain NamesOnce s g e → fits_at_end s g e ≡ true → Is s (found s g) → Is s (put_row s (found s g) e) × EntryCast (all_of s) e
+  plain_row : (s : Core) (g : List ℕ) (e : Entry) → Plain NamesApart s g e → fits_at_end s g e ≡ true → Is s (found s g) → Is s (put_row s (found s g) e) × EntryCast (all_of s) e
   unfolding fits_at_end entry_fits list_of row_of with_entry apply
   plain_row s g (Once x) once room k =
       (row_is_idle (all_of s) (leads_row s (found s g)) (found s g) (put_row s (found s g) (Once x)) refl (once_idle (state_in (found s g).list) s.views.view (list_or_new (found s g).list).len x (and_parts (fits (state_in (found s g).list) (Once x)) (has_room (list_or_new (found s g).list) (Once x)) room).0) k, once)
@@ -351,7 +355,7 @@ module _ (h : History) where
   plain_row s g (Approve c) plain room k = absurd plain
   plain_row s g (Reject c) plain room k = absurd plain
 
-  casts : (s : Core) (g : List ℕ) (e : Entry) → Turning NamesOnce s g e → Is s (found s g) → EntryCast (all_of s) e
+  casts : (s : Core) (g : List ℕ) (e : Entry) → Turning NamesApart s g e → Is s (found s g) → EntryCast (all_of s) e
   unfolding led_of state_of list_of row_of
   casts s g e turning k = by e turning
     where
@@ -362,7 +366,7 @@ module _ (h : History) where
           at (inl none) = closing_cast (all_of s) (found s g).led None (state_in (found s g).list).running e tt (ap (λ o. closing_entry (found s g).led o (state_in (found s g).list).running) (sym none) ∙ q)
           at (inr k) = closing_cast (all_of s) (found s g).led (found s g).led.tally (state_in (found s g).list).running e k.1 q
 
-      by : (e : Entry) → Turning NamesOnce s g e → EntryCast (all_of s) e
+      by : (e : Entry) → Turning NamesApart s g e → EntryCast (all_of s) e
       by (Begin x) t = t
       by (Late proto phase ps) t = tt
       by x t = made x t
@@ -378,12 +382,10 @@ module _ (h : History) where
   led_row s g f same waits a =
       at_row h Every s g (λ row. record row { led = f row.led }) (λ x. refl) (λ x all. all) waits (λ t. row_is_same (all_of s) (leads_row s (found s g)) (found s g) (record (found s g) { led = f (found s g).led }) (same (found s g).led) refl (a.tallies g t)) a
 
-  leading : KeepsLed Full (λ g. At h (But g)) NamesOnce (IsLed ⊥)
+  leading : KeepsLed Full (λ g. At h (But g)) NamesApart (IsLed ⊥)
   unfolding keep_decision tally_set with_led led_of row_of
   leading =
       record {
-        begins = λ x none. ap differ none;
-        joins = λ s g b test attrs n a. filter_differs test (next_joins b (led_of s g).waiting) (chosen_differ (batches_joins b) (led_of s g).waiting.joins (a.apart g));
         decides = λ s g q r y ok fair a. led_row s g _ (λ l. refl) (λ z. z) a;
         puts = λ s g e ns stable bs ok fits plain a. (let k = plain_row s g e plain fits (a.tallies g tt) in put_cast Every Every s g e ns stable bs k.1 (λ k u ne. tt) (λ u. k.0) a);
         turns = λ s g e ns stable bs ok fits turning a. put_cast Every (But g) s g e ns stable bs (casts s g e turning (a.tallies g tt)) (λ k u ne. tt) (λ u. absurd (u refl)) a;
@@ -391,8 +393,17 @@ module _ (h : History) where
         opens = λ s g ok a. opened s g (sure ok) a;
       }
 
-  keeping : Keeping Full (λ g. At h (But g)) NamesOnce ⊥
+  keeping : Keeping Full (λ g. At h (But g)) NamesApart ⊥
   keeping = record { order = λ s a. inl a.order; order_between = λ g s a. inl a.order; beside = beside Every; between = λ g. beside (But g); led = leading }
+
+  pub ending : KeepsEnding Full NamesApart
+  ending =
+      record {
+        fails = λ s g a. refl;
+        casts_out = λ s g k out from due a. refl;
+        reflects = λ s g k v i from due a. refl;
+        joins = λ s g a taken. filter_differs (λ (q : ProviderId). not (lacks_source s (chosen_attrs s g).source q.node)) (chosen s g) (chosen_differ (batches_joins (state_of s g).attrs.batch) (led_of s g).waiting.joins (a.apart g));
+      }
 
   -- ---- packets
 
@@ -450,7 +461,7 @@ module _ (h : History) where
   telling s p r y a =
       at_recorded h Every (with_sessions s (take_telling s.sessions p r y)) (happened.Told p r y) tt (at_sessions h Every s (take_telling s.sessions p r y) (λ k i. a.kept k (told_no_more s.sessions p r y k i)) a)
 
-  pub packets : KeepsPackets Full (λ g. At h (But g)) NamesOnce ⊥ Known
+  pub packets : KeepsPackets Full (λ g. At h (But g)) NamesApart ⊥ Known
   unfolding with_tally with_led led_of row_of
   packets =
       record {
@@ -459,6 +470,7 @@ module _ (h : History) where
         reach = λ s x a. record { sends = a.sends; kept = a.kept; lists = a.lists; views = a.views; puts = a.puts; order = a.order; tallies = a.tallies; apart = a.apart };
         named = λ s g n e a. led_by s g n (inl (idle_row s g (unnamed s g e) a)) a;
         requested = λ s q v g p r phases x k to is used a. (noted s g (k.request v g p r phases x is to used) a, inl (k.request v g p r phases x is to used));
+        changes = λ s q v g p r phases x k to is used none fair. ap differ none;
         joins = λ s g q r attrs e a. waits s g q r attrs e a;
         tells = λ s q r y telling_it numbered a. telling s q r y a;
         comes = λ s q v g place stable e bs k to is used at fits a. (let z = k.entry v g place stable e is used at in (put_cast Every Every s g e [] 0 bs (subst (BodyCast (all_of s)) is k.cast) (λ k u ne. tt) (λ u. inl (idle_row s g z a)) a, inl z));

@@ -31,14 +31,14 @@ use Rattle.step_refinement.specs.Rules.{Arises}
 use Rattle.step_refinement.proofs.Acks.{used_is}
 use Rattle.step_refinement.proofs.Leads.{leader_inc, leads_known}
 use Rattle.step_refinement.proofs.RowWorks.{len_is}
-use Rattle.row_laws.specs.honest_votes.Casts.{NamesOnce, BodyCast}
+use Rattle.row_laws.specs.honest_votes.Casts.{BodyCast}
 use Rattle.step_walk.proofs.Called.{at_call}
 use Rattle.step_walk.proofs.Rings.{by_rings}
 use Rattle.step_walk.proofs.Stepping.{called, GivenTo}
 use Rattle.step_walk.proofs.Stepping as stepping
 use Rattle.row_laws.proofs.honest_votes.More.{body_on}
 use Rattle.row_laws.proofs.honest_votes.At.{At}
-use Rattle.row_laws.proofs.honest_votes.Changes.{Every, But, Known, Works, Leaving, beside, packets, calling, entering, ring}
+use Rattle.row_laws.proofs.honest_votes.Changes.{NamesApart, Every, But, Known, Works, Leaving, beside, ending, packets, calling, entering, ring}
 
 pub past_end : (xs : List Entry) (e : Entry) → slice_get xs (length xs) ≡ Some e → ⊥
 past_end [] e q = absurd (cc)
@@ -114,4 +114,4 @@ module _ (w : Scene) (n : ℕ) (s : Core) (were : (p : Packet) → Has p w.sent 
 
   pub at_stepped : (f : Answering) (e : NodeEvent) → Arises w e → At w.before Every (at_work s) → At w.before Every (stepped f s e)
   at_stepped f e arises a =
-      stepping.at_stepped (At w.before Every) (λ g. At w.before (But g)) NamesOnce ⊥ (Known w.before) (Works w.before) (Leaving w.before) (packets w.before) (by_rings (At w.before Every) (Known w.before) (beside w.before Every) (packets w.before).reach (ring w.before)) (entering w.before) f s e (given e arises) (after_call e a)
+      stepping.at_stepped (At w.before Every) (λ g. At w.before (But g)) NamesApart ⊥ (Known w.before) (Works w.before) (Leaving w.before) (packets w.before) (by_rings (At w.before Every) (Known w.before) (beside w.before Every) (packets w.before).reach (ring w.before)) (entering w.before) (ending w.before) f s e (given e arises) (after_call e a)
