@@ -397,6 +397,7 @@ module _ (h : History) where
   keeping = record { order = λ s a. inl a.order; order_between = λ g s a. inl a.order; beside = beside Every; between = λ g. beside (But g); led = leading }
 
   pub ending : KeepsEnding Full NamesApart
+  unfolding led_of row_of
   ending =
       record {
         fails = λ s g a. refl;
