@@ -1,0 +1,10 @@
+pub mod Requests
+pub mod Calls
+pub mod At
+pub mod Changes
+pub mod Ends
+pub mod Known
+pub mod Steps
+pub mod Law
+pub mod Runs
+pub mod Worked
