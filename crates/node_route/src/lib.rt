@@ -7,5 +7,5 @@ mod ways;
 
 pub use envelope::{Envelope, is_carried, wrap};
 pub use route_state::{Front, MAX_HOPS};
-pub use routing::way;
-pub use ways::{Way, pass};
+pub use routing::{course, way};
+pub use ways::{Course, Way, pass};

@@ -2,42 +2,60 @@
 ghost use Rattle.std.specs.Prelude.{◌≡◌, ◌↔◌, None, option_map};
 ghost use Rattle.route_state.specs.Envelope.{envelope_of};
 ghost use Rattle.route_state.specs.Way.{along, course, onward, way_of};
-ghost use Rattle.node_route.specs.InPlace.{way_in};
+ghost use Rattle.node_route.specs.InPlace.{course_in, way_in};
 
 use crate::envelope::Envelope;
-use crate::ways::Way;
+use crate::ways::{Course, Way};
 use node_reach::Reach;
 use route_state::Front;
 
-/// What becomes of an envelope that is for another node.
+/// Where an envelope goes that is for another node.
 #[tactic(auto, unfolding(route_state::specs::Way::onward))]
-fn onward<'a>(reach: &Reach, front: Front, inner: &'a [u8]) -> Way<'a>
-    ensures { way_in result ≡ along inner.now (onward reach.now front) }
+fn onward(reach: &Reach, front: Front) -> Course
+    ensures { course_in result ≡ onward reach.now front }
 {
     if front.hops == 0 {
-        return Way::Drop;
+        return Course::Ends;
     }
     match reach.next_hop(front.target) {
-        None => Way::Drop,
-        Some(to) => Way::Pass {
+        None => Course::Ends,
+        Some(to) => Course::GoesOn {
             to,
-            hops: front.hops - 1,
-            origin: front.origin,
-            target: front.target,
-            inner,
+            front: Front {
+                hops: front.hops - 1,
+                origin: front.origin,
+                target: front.target,
+            },
         },
     }
 }
 
-/// What becomes of an envelope at this node.
+/// Where an envelope goes from this node, by its front alone.
 #[tactic(auto, unfolding(route_state::specs::Way::course))]
-fn course<'a>(me: u8, reach: &Reach, front: Front, inner: &'a [u8]) -> Way<'a>
-    ensures { way_in result ≡ along inner.now (course me reach.now front) }
+pub fn course(me: u8, reach: &Reach, front: Front) -> Course
+    ensures { course_in result ≡ course me reach.now front }
 {
     if front.target == me {
-        return Way::Own(inner);
+        return Course::Arrives;
     }
-    onward(reach, front, inner)
+    onward(reach, front)
+}
+
+/// What becomes of an envelope whose front goes there.
+fn along(inner: &[u8], course: Course) -> Way
+    ensures { way_in result ≡ along inner.now (course_in course) }
+{
+    match course {
+        Course::Arrives => Way::Own(inner),
+        Course::GoesOn { to, front } => Way::Pass {
+            to,
+            hops: front.hops,
+            origin: front.origin,
+            target: front.target,
+            inner,
+        },
+        Course::Ends => Way::Drop,
+    }
 }
 
 /// What becomes of a datagram at this node, where it is an envelope; None exactly where it is none.
@@ -47,6 +65,6 @@ pub fn way<'a>(me: u8, reach: &Reach, bytes: &'a [u8]) -> Option<Way<'a>>
 {
     match Envelope::read(bytes) {
         None => None,
-        Some(envelope) => Some(course(me, reach, envelope.front, envelope.inner)),
+        Some(envelope) => Some(along(envelope.inner, course(me, reach, envelope.front))),
     }
 }

@@ -8,6 +8,15 @@ use route_state::Front;
 use rsct_packet::NoMemory;
 use std::alloc::Global;
 
+/// Where an envelope goes from a node, by its front alone: it is where it was to go; or it goes on to another node, with this
+/// front; or it ends here.
+#[derive(Clone, Copy, Debug, PartialEq, Eq)]
+pub enum Course {
+    Arrives,
+    GoesOn { to: u8, front: Front },
+    Ends,
+}
+
 /// What becomes of an envelope at a node: its packet is for the node; or it is sent on to another node, with one hop less
 /// left; or it is dropped.
 #[derive(Clone, Copy, Debug, PartialEq, Eq)]
