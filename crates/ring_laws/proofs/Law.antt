@@ -21,11 +21,11 @@ one_low s e k le = by (is_beat s e) (is_some (ring_step s e).set) refl refl
     by false false p q = f.silent
 
 -- it counts no more silent ticks than there were
-low : (r : Ring) → r.silent ≡ 0 → (es : List RingEvent) → (after r es).silent ≤ silence r es
+pub low : (r : Ring) → r.silent ≡ 0 → (es : List RingEvent) → (after r es).silent ≤ silence r es
 low r none [] = omega (arith, none)
 low r none (e ∷ es) = one_low (after r es) e (silence r es) (low r none es)
 
-new_silent : (net me inc : ℕ) (s : RingSettings) → (ring_new net me inc s).silent ≡ 0
+pub new_silent : (net me inc : ℕ) (s : RingSettings) → (ring_new net me inc s).silent ≡ 0
 unfolding ring_new
 new_silent net me inc s = refl
 

@@ -1,2 +1,3 @@
 pub mod Fair
 pub mod Law
+pub mod Deaths

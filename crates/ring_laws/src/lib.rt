@@ -3,6 +3,7 @@
 
 pub mod samples;
 
+ghost use Rattle.ring_laws.specs.Deaths.{DeathsAreOfTheSilent};
 ghost use Rattle.ring_laws.specs.Missed.{OnlyTheSilentAreMissed};
 
 /// In each life of an adapter's ring, whatever comes in whatever order: a DEATH is told only of the member that the adapter watches, in a
@@ -11,4 +12,10 @@ ghost use Rattle.ring_laws.specs.Missed.{OnlyTheSilentAreMissed};
 /// gathering of the adapter's own closes, or, alone, after three times as many silent ticks.
 pub fn only_the_silent_are_missed()
     ensures { OnlyTheSilentAreMissed }
+{}
+
+/// Whatever happens to the rings of one network, in whatever order: each DEATH that was sent its sender told in a tick, of the member
+/// that it watched then, in the ring that it was in, where at least `every * misses` of its own ticks were silent.
+pub fn deaths_are_of_the_silent()
+    ensures { DeathsAreOfTheSilent }
 {}
