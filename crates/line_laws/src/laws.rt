@@ -1,0 +1,12 @@
+//! Laws of lines.
+ghost use Rattle.line_laws.specs.Shown.{LinesDiffer, LinesShow};
+
+/// The line of each record is the text of what the record shows.
+pub fn lines_show_their_records()
+    ensures { LinesShow }
+{}
+
+/// Two records that fit and have one line show the same: so records that show different things have different lines.
+pub fn different_records_have_different_lines()
+    ensures { LinesDiffer }
+{}
