@@ -1,3 +1,4 @@
 pub mod Voters
 pub mod Changes
+pub mod Room
 pub mod Worked

@@ -1,12 +1,14 @@
 -- What is said of voters and entries, computed on small states: it has the right changes, and refuses wrong ones.
-use Rattle.std.proofs.Common.{◌≡◌, List, [], ◌∷◌, ◌++◌, Some, refl, subst}
+use Rattle.std.proofs.Common.{◌≡◌, true, false, List, [], ◌∷◌, ◌++◌, Some, refl, subst}
 use Rattle.rsct_packet.specs.Providers.{without_all}
 use Rattle.proposal_core.specs.declared.group_state.Running.{Running}
 use Rattle.proposal_core.specs.Fold.{joins_of}
+use Rattle.proposal_core.specs.Lists.{is_at_limit}
 use Rattle.proposal_core.specs.Samples.{member, place_of}
 use Rattle.fold_laws.specs.Voters.{leavers_of, AreWhoStay}
 use Rattle.fold_laws.specs.Changes.{Changes}
-use Rattle.fold_laws.specs.Samples.{both, expulsion, message, leaving, one_leaves}
+use Rattle.fold_laws.specs.Room.{MayCome}
+use Rattle.fold_laws.specs.Samples.{both, expulsion, message, leaving, one_leaves, list_of, lateness}
 
 not_empty : {A : Type 0} (x : A) (xs : List A) → [] ≡ x ∷ xs → ⊥
 not_empty x xs e = absurd cc
@@ -31,3 +33,17 @@ other_votes = record { running = λ run e. on run (some_is e); idle = λ e. absu
 
 pub nobody_votes : AreWhoStay one_leaves [] → ⊥
 nobody_votes h = not_empty (member 2) [] (h.running leaving refl)
+
+pub last_begins : MayCome (list_of 4095) false message
+unfolding is_at_limit
+last_begins = refl
+
+pub full_takes_none : MayCome (list_of 4096) false message → ⊥
+unfolding is_at_limit
+full_takes_none h = absurd cc
+
+pub lateness_is_said : MayCome (list_of 4096) false lateness
+lateness_is_said = refl
+
+pub lateness_is_said_once : MayCome (list_of 5) true lateness → ⊥
+lateness_is_said_once h = absurd cc

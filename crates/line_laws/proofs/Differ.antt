@@ -1,15 +1,13 @@
 -- Two records that fit and have one line show the same.
-use Rattle.std.proofs.Common.{◌≡◌, ℕ, true, List, [], ◌∷◌, ◌++◌, Option, Some, refl, sym, ◌∙◌, ap}
+use Rattle.std.proofs.Common.{◌≡◌, Some, sym, ◌∙◌, ap}
 use Rattle.std.specs.Prelude.{codes}
 use Rattle.std.proofs.lemmas.List.{append_cancel_right}
 use Rattle.record_lines.specs.declared.line.Line.{Line}
-use Rattle.record_lines.specs.Fits.{line_fits}
 use Rattle.record_lines.specs.Reading.{line_read}
 use Rattle.record_lines.specs.Writing.{line_text}
 use Rattle.record_lines.proofs.ReadLaws.{line_back}
-use Rattle.node_state.specs.declared.happened.Happened.{Happened}
 use Rattle.world_model.specs.Text.{record_text, line_of}
-use Rattle.line_laws.specs.Shown.{ShowsWhole, LinesDiffer}
+use Rattle.line_laws.specs.Shown.{LinesDiffer}
 use Rattle.line_laws.proofs.Texts.{lines_show}
 
 some_is : (l m : Line) → Some l ≡ Some m → l ≡ m

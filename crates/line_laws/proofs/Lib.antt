@@ -1,3 +1,4 @@
 pub mod Texts
 pub mod Differ
+pub mod Parts
 pub mod Worked

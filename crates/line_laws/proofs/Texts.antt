@@ -1,5 +1,5 @@
 -- The line of each record is the text of what the record shows.
-use Rattle.std.proofs.Common.{◌≡◌, ℕ, List, [], ◌∷◌, ◌++◌, Option, Some, None, refl, sym, ◌∙◌, ap, append_assoc, append-nil}
+use Rattle.std.proofs.Common.{◌≡◌, ℕ, List, ◌∷◌, ◌++◌, Option, Some, None, refl, sym, ◌∙◌, ap, append_assoc, append-nil}
 use Rattle.std.specs.Prelude.{codes, decimal}
 use Rattle.rsct_packet.specs.declared.ids.Member.{Member}
 use Rattle.rsct_packet.specs.declared.ids.ProviderId.{ProviderId}
@@ -34,10 +34,9 @@ use Rattle.record_lines.specs.declared.line.Status.{Status}
 use Rattle.record_lines.specs.declared.line.Status.TheVariants as status
 use Rattle.record_lines.specs.Writing.{kind_name, what_name, open_text, ballot_text, client_text, place_text, note_words, status_words, words_of, line_text}
 use Rattle.record_lines.proofs.TextLaws.{up_is, down_is, ring_is, in_is, base_is, put_is, heard_is, cast_is, asked_is, told_is, noted_is, group_note_is, hosts_note_is, refused_is}
-use Rattle.node_state.specs.declared.happened.Happened.{Happened}
 use Rattle.node_state.specs.declared.happened.Happened.TheVariants as happened
 use Rattle.world_model.specs.Text as text
-use Rattle.line_laws.specs.Shown.{entry_shown, what_shown, open_shown, base_shown, attr_fault_shown, fault_shown, IsNote, Shows, LinesShow}
+use Rattle.line_laws.specs.Shown.{entry_shown, what_shown, open_shown, base_shown, attr_fault_shown, fault_shown, IsNote, LinesShow}
 
 -- ---- what a line leaves out is not in the text
 
@@ -199,9 +198,14 @@ group_note place group ms value =
     group_flat group (text.place_option_text place) (providers_text ms) (value_text value)
     ∙ (ap (λ z. word group ++ z ++ codes " " ++ word (providers_text ms) ++ value_text value) (place_same place) ∙ sym (group_note_is place group ms value))
 
+-- after any head
+behind_flat : (h at ms : List ℕ) → h ++ word at ++ word ms ++ codes "=" ≡ h ++ at ++ codes " " ++ word ms ++ codes "="
+unfolding word
+behind_flat h at ms = simp append_assoc refl
+
 hosts_flat : (at ms : List ℕ) → codes "HostMembership " ++ word at ++ word ms ++ codes "=" ≡ word (codes "HostMembership") ++ at ++ codes " " ++ word ms ++ codes "="
 unfolding word
-hosts_flat at ms = simp append_assoc refl
+hosts_flat at ms = behind_flat (codes "HostMembership ") at ms
 
 hosts_note : (place : Option ℕ) (view : ViewId) (ms : List Member) → text.note_text place (told.Hosts view ms) ≡ spaced (note_words place (note.Hosts ms))
 unfolding text.note_text

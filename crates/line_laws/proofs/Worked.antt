@@ -1,15 +1,13 @@
 -- What records show, computed on small ones: it has the right line, and refuses a wrong one.
 use Rattle.std.proofs.Common.{◌≡◌, ℕ, true, List, [], ◌∷◌, refl}
 use Rattle.std.specs.Prelude.{codes}
-use Rattle.rsct_packet.specs.Mask.{is_node}
-use Rattle.rsct_packet.specs.Text.{is_name_of}
 use Rattle.word_laws.specs.Ranges.{ranges_open}
 use Rattle.record_lines.specs.declared.line.Line.{Line}
 use Rattle.record_lines.specs.declared.line.Line.TheVariants as line
 use Rattle.record_lines.specs.Fits.{fits_opens, line_fits}
 use Rattle.node_state.specs.declared.happened.Happened.TheVariants.{Up}
 use Rattle.line_laws.specs.Shown.{Shows, ShowsWhole}
-use Rattle.line_laws.specs.Samples.{message, put_in, line_in}
+use Rattle.line_laws.specs.Samples.{put_in, line_in}
 
 pub shows_group : ShowsWhole (put_in (codes "db")) (line_in (codes "db"))
 unfolding ranges_open fits_opens

@@ -1,5 +1,5 @@
 -- What the line of a record shows, and that records which show different things have different lines.
-use Rattle.std.specs.Prelude.{◌≡◌, ℕ, true, List, Option, Some, None}
+use Rattle.std.specs.Prelude.{◌≡◌, ℕ, true, Option, Some, None}
 use Rattle.rsct_packet.specs.declared.ids.ViewId.{ViewId}
 use Rattle.rsct_packet.specs.Mask.{nodes_of}
 use Rattle.group_attr.specs.declared.attrs.AttrFault.{AttrFault}

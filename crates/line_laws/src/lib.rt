@@ -4,4 +4,6 @@
 mod laws;
 pub mod samples;
 
-pub use laws::{different_records_have_different_lines, lines_show_their_records};
+pub use laws::{
+    different_records_have_different_lines, lines_show_their_records, records_are_lines,
+};
