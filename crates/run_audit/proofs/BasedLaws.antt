@@ -189,13 +189,13 @@ groups_on n v g b es fs ls up are q t = ap (list_all t) (up q) ∙ by (same_stay
 
 -- ---- the first base line of a list
 
-pub list_found : (key : ListKey) (v : ViewId) (g : List ℕ) (es : List (ListKey × ℕ)) → key.view ≡ view_key v → key.group.items ≡ g → lookup (same_list_key key) es ≡ lookup (is_list_key v g) es
+pub list_found : {V : Type 0} (key : ListKey) (v : ViewId) (g : List ℕ) (es : List (ListKey × V)) → key.view ≡ view_key v → key.group.items ≡ g → lookup (same_list_key key) es ≡ lookup (is_list_key v g) es
 list_found key v g es a b = λ i. lookup (λ (q : ListKey). same_view_key (a i) q.view && bytes_eq (b i) q.group.items) es
 
-same_list : ListAt → ListAt → Bool
+unfoldable pub same_list : ListAt → ListAt → Bool
 same_list a b = same_view_key (view_key a.view) (view_key b.view) && bytes_eq a.group b.group
 
-list_equal : (a q : ListAt) (es : List (ListKey × ℕ)) → same_list a q ≡ true → lookup (is_list_key q.view q.group) es ≡ lookup (is_list_key a.view a.group) es
+list_equal : {V : Type 0} (a q : ListAt) (es : List (ListKey × V)) → same_list a q ≡ true → lookup (is_list_key q.view q.group) es ≡ lookup (is_list_key a.view a.group) es
 unfolding same_list
 list_equal a q es e =
     let y = and_parts (same_view_key (view_key a.view) (view_key q.view)) (bytes_eq a.group q.group) e in
@@ -221,7 +221,7 @@ list_joined : (a q : ListAt) (k : ListKey) → list_test_of a k ≡ true → lis
 unfolding same_list list_test_of
 list_joined a q k e f = let p = list_parts q k f in (λ i. same_view_key (view_key a.view) (p.0 i) && bytes_eq a.group (p.1 i)) ∙ e
 
-list_put : (a q : ListAt) (key : ListKey) (x : ℕ) (es fs : List (ListKey × ℕ)) → key.view ≡ view_key a.view → key.group.items ≡ a.group → lookup (same_list_key key) fs ≡ Some x → KeepsOthers same_list_key (same_list_key key) es fs
+pub list_put : {V : Type 0} (a q : ListAt) (key : ListKey) (x : V) (es fs : List (ListKey × V)) → key.view ≡ view_key a.view → key.group.items ≡ a.group → lookup (same_list_key key) fs ≡ Some x → KeepsOthers same_list_key (same_list_key key) es fs
     → lookup (is_list_key q.view q.group) fs ≡ cond (same_list a q) (Some x) (lookup (is_list_key q.view q.group) es)
 unfolding list_test_of
 list_put a q key x es fs v g put others =

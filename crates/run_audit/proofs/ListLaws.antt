@@ -78,7 +78,7 @@ unfolding row_line
 number_is None = refl
 number_is (Some x) = refl
 
-row_line_is : (r : RowAt) (ls : List Line) → last_no (is_put_of r.node r.view r.group) ls ≡ row_line (last_given (last_put_at r) ls)
+pub row_line_is : (r : RowAt) (ls : List Line) → last_no (is_put_of r.node r.view r.group) ls ≡ row_line (last_given (last_put_at r) ls)
 row_line_is r ls = last_line (is_put_of r.node r.view r.group) (last_put_at r) (λ (x : LastPut). x.number) (given_number r) ls ∙ number_is (last_given (last_put_at r) ls)
 
 -- ---- as the code has them
@@ -131,7 +131,7 @@ row_parts r k e =
     let y = and_parts (same_view_key (view_key r.view) k.list.view) (bytes_eq r.group k.list.group.items) x.1 in
     (equal r.node k.node x.0, view_key_same (view_key r.view) k.list.view y.0, text_same r.group k.list.group.items y.1)
 
-row_test : (r : RowAt) → IsKeyTest same_row_key (is_row_key r)
+pub row_test : (r : RowAt) → IsKeyTest same_row_key (is_row_key r)
 row_test r x y e = let p = row_parts r x e in λ i. (p.0 i == y.node) && (same_view_key (p.1 i) y.list.view && bytes_eq (p.2 i) y.list.group.items)
 
 row_joined : (a q : RowAt) (k : RowKey) → is_row_key a k ≡ true → is_row_key q k ≡ true → same_row a q ≡ true

@@ -74,7 +74,7 @@ first_step test l ls = by (first_no test ls) (test l)
 
 -- ---- asked
 
-kinds_same : (a b : Kind) → (kind_number a == kind_number b) ≡ same_kind a b
+pub kinds_same : (a b : Kind) → (kind_number a == kind_number b) ≡ same_kind a b
 unfolding kind_number same_kind kind_name
 kinds_same kinds.Join kinds.Join = refl
 kinds_same kinds.Join kinds.Leave = refl

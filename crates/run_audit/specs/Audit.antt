@@ -15,14 +15,10 @@ use Rattle.record_lines.specs.declared.line.Line.{Line}
 use Rattle.record_lines.specs.Fits.{fits_opens}
 use Rattle.record_lines.specs.Reading.{line_read, reading_opens}
 use Rattle.record_lines.specs.Writing.{writing_opens}
-use Rattle.run_audit.specs.declared.broken.Verdict.{Verdict}
+use Rattle.run_audit.specs.declared.broken.Judged.{Judged}
+use Rattle.run_audit.specs.declared.broken.Judged.TheVariants.{Is, NoRecord}
 use Rattle.run_audit.specs.Past.{past_opens}
 use Rattle.run_audit.specs.Table.{table_opens, verdict_of}
-
--- a transcript is no record from a line on, or it is judged
-pub data Judged : Type 0 where
-  NoRecord : (line : ℕ) → Judged
-  Is : (v : Verdict) → Judged
 
 -- the pieces between line feeds, the last of which has to be empty, behind these lines, the latest first
 unfoldable pub judged : List (List ℕ) → List Line → Judged

@@ -23,8 +23,9 @@ pub struct AskedKey {
     pub kind: u8,
 }
 
+/// A number for each kind.
 #[tactic(auto, unfolding(crate::specs::Requests::kind_number))]
-fn kind_number(kind: Kind) -> u8
+pub fn kind_number(kind: Kind) -> u8
     ensures { result ≡ kind_number kind }
 {
     match kind {

@@ -165,7 +165,7 @@ impl FirstBases {
     }
 
     /// The line of this number is a base line.
-    fn note(
+    pub fn note(
         &mut self,
         alloc: Global,
         view: ViewId,

@@ -19,7 +19,7 @@ use rsct_packet::{NoMemory, ProviderId};
 use std::alloc::Global;
 use vote_phases::vote_of_row;
 
-fn is_same_provider(one: ProviderId, other: ProviderId) -> bool
+pub fn is_same_provider(one: ProviderId, other: ProviderId) -> bool
     ensures { result ≡ same_provider one other }
 {
     one == other

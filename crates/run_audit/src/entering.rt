@@ -17,7 +17,7 @@ use crate::views::Views;
 use rsct_packet::{Member, ViewId};
 
 /// Is the view less than the other?
-fn is_less(view: ViewId, other: ViewId) -> bool
+pub fn is_less(view: ViewId, other: ViewId) -> bool
     ensures { result ≡ view_lt view other }
 {
     view < other
@@ -34,7 +34,7 @@ fn is_above(old: Option<ViewId>, view: ViewId) -> bool
     }
 }
 
-fn is_member(members: &[Member], node: u8, inc: u32) -> bool
+pub fn is_member(members: &[Member], node: u8, inc: u32) -> bool
     ensures { result ≡ is_member members.now node inc }
 {
     members.iter().any(|m| m.node == node && m.inc == inc)

@@ -29,17 +29,19 @@ mod stays;
 mod views;
 pub mod worked;
 
-pub use asked::{Asked, AskedKey};
+pub use asked::{Asked, AskedKey, kind_number};
 pub use based::{Based, FirstBases, OwnBases, bases_fault};
-pub use broken::{Fault, Rule, Verdict};
+pub use broken::{Fault, Judged, Rule, Verdict};
 pub use casts::{Casts, FirstCast, closed_in};
-pub use closing::{fits_fault, tally_fault};
-pub use entering::in_fault;
+pub use closing::{fits_fault, is_same_provider, tally_fault};
+pub use entering::{in_fault, is_less, is_member};
 pub use first_lines::FirstLines;
 pub use groups::GroupLists;
-pub use keys::{CastKey, PassKey, ProviderKey, RequestKey, StayKey, ViewKey};
+pub use keys::{
+    CastKey, PassKey, ProviderKey, RequestKey, StayKey, ViewKey, provider_key, stay_key, view_key,
+};
 pub use leavers::{Entrant, Leavers};
-pub use lists::{LastPut, ListKey, RowKey, Rows};
+pub use lists::{LastPut, ListKey, RowKey, Rows, is_at, list_key, row_key};
 pub use opened::{HeardOpen, cast_fault};
 pub use openings::{OpenPut, Opening, Openings, opening_line};
 pub use passing::{PutGroups, pass_fault};

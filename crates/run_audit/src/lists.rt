@@ -8,7 +8,8 @@ ghost use Rattle.run_audit.specs.declared.broken.Rule.TheVariants as rule;
 ghost use Rattle.run_audit.specs.Keys.{view_key};
 ghost use Rattle.run_audit.specs.Kept.{Keep, fault_of};
 ghost use Rattle.run_audit.specs.Lists.{AreRows, is_next_place, is_row_key, row_line};
-ghost use Rattle.run_audit.specs.Past.{is_at};
+ghost use Rattle.run_audit.specs.Past.{is_at, last_no};
+ghost use Rattle.run_audit.specs.Table.{is_put_of};
 ghost use Rattle.run_audit.specs.Views.{AreStays};
 
 use crate::broken::{Fault, Rule};
@@ -64,7 +65,7 @@ pub fn row_key(alloc: Global, node: u8, view: ViewId, group: &[u8]) -> Result<Ro
 
 /// Is the node in the view?
 #[tactic(auto, unfolding(crate::specs::Past::is_at))]
-fn is_at(view: ViewId, at: Option<ViewId>) -> bool
+pub fn is_at(view: ViewId, at: Option<ViewId>) -> bool
     ensures { result ≡ is_at view at }
 {
     match at {
@@ -141,6 +142,21 @@ impl Rows {
     {
         let key = row_key(alloc, node, view, group)?;
         Ok(self.by_key.get(&key).copied())
+    }
+
+    /// The number of the line of the node's last put into the list.
+    pub fn line(
+        &self,
+        alloc: Global,
+        node: u8,
+        view: ViewId,
+        group: &[u8],
+    ) -> Result<Option<u32>, NoMemory>
+        ensures { IfOk result (λ x. (ls : List Line) → AreRows ls self.now
+            → x ≡ last_no (is_put_of node view group.now) ls) }
+    {
+        let last = self.last(alloc, node, view, group)?;
+        Ok(row_line(last))
     }
 
     /// What the table says of the rule on places: nothing where a put at this place keeps it.

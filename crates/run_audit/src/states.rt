@@ -1,9 +1,11 @@
 //! The state of a list, entry by entry.
 ghost use Rattle.std.specs.Prelude.{◌≡◌, IfOk, OnOk};
-ghost use Rattle.proposal_core.specs.Fold.{after, empty_state, fits, voters};
+ghost use Rattle.proposal_core.specs.Fold.{after, empty_state, fits, joiners_in, voters};
+ghost use Rattle.run_audit.specs.Table.{same_open};
 
 use proposal_core::{Entry, GroupState};
-use rsct_packet::{NoMemory, Providers, ViewId};
+use record_lines::OpenPhase;
+use rsct_packet::{NoMemory, ProviderId, Providers, ViewId};
 use std::alloc::Global;
 use std::marker::Model;
 
@@ -73,6 +75,56 @@ impl State {
             self.inner.apply(alloc, view, place, entry)
         } else {
             Ok(())
+        }
+    }
+
+    /// These are the failed now.
+    #[tactic(auto, unfolding(proposal_core::specs::Fold::joiners_fit, proposal_core::specs::Fold::joiners_fit_at, proposal_core::specs::Fold::can_begin))]
+    pub fn set_failed(&mut self, failed: Providers)
+        ensures { self.new ≡ record self.old { failed = failed } }
+    {
+        self.inner.failed = failed;
+    }
+
+    pub fn failed(&self) -> &[ProviderId]
+        ensures { result.now ≡ self.now.failed }
+    {
+        self.inner.failed.as_slice()
+    }
+
+    pub fn members(&self) -> &[ProviderId]
+        ensures { result.now ≡ self.now.members }
+    {
+        self.inner.members.as_slice()
+    }
+
+    /// The joiners of what runs.
+    pub fn joiners(&self) -> &[ProviderId]
+        ensures { result.now ≡ joiners_in self.now.running }
+    {
+        self.inner.joiners()
+    }
+
+    pub fn value(&self) -> &[u8]
+        ensures { result.now ≡ self.now.value }
+    {
+        self.inner.value.bytes()
+    }
+
+    /// Is this the phase that runs, or does nothing?
+    #[tactic(auto, unfolding(crate::specs::Table::same_open))]
+    pub fn is_open(&self, phase: Option<OpenPhase>) -> bool
+        ensures { result ≡ same_open phase self.now.running }
+    {
+        match phase {
+            None => match &self.inner.running {
+                None => true,
+                Some(_) => false,
+            },
+            Some(phase) => match &self.inner.running {
+                None => false,
+                Some(run) => phase.proto == run.proto && phase.phase == run.phase,
+            },
         }
     }
 }
