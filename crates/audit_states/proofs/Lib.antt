@@ -1,0 +1,4 @@
+pub mod BasingLaws
+pub mod ComingLaws
+pub mod RefoldLaws
+pub mod StateLaws

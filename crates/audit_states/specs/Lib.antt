@@ -1,0 +1,3 @@
+pub mod Basing
+pub mod Comings
+pub mod States
