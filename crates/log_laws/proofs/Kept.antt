@@ -224,3 +224,18 @@ module _ (rs ls : List Happened) (k : Logs rs ls) (n : ℕ) (up : is_up n rs ≡
         enters_other = λ m v ms a ne. if_other m n (record { view = v; base = empty_state; entries = [] } ∷ a) a ne;
         rings = λ m network id ms b a. refl;
       }
+
+  -- and that it is up
+  pub same_up : is_up n rs ≡ is_up n ls
+  same_up = in_life n (is_up n) (up_after n) life rs ls k up same
+    where
+      life : OfLife n (is_up n) (up_after n)
+      life = record {
+        goes = λ r rs. refl;
+        begins = true;
+        starts = λ m j a e. if_same m n true a e;
+        starts_other = λ m j a ne. if_other m n true a ne;
+        stops_other = λ m a ne. if_other m n false a ne;
+        enters_other = λ m v ms a ne. refl;
+        rings = λ m network id ms b a. refl;
+      }

@@ -12,6 +12,6 @@ use Rattle.log_laws.proofs.Groups.{bases_come}
 pub every_run_is_seen_in_logs : EveryRunIsSeenInLogs
 every_run_is_seen_in_logs c w k free ls l =
     record {
-      seen = logs_are_seen (records_of w.before) ls l (traces_seen c w k) (runs_upright c w k free) (bases_come (opening_of w.config) w.before (reached_runs c w k).0);
+      seen = logs_are_seen (records_of w.before) ls l (traces_seen c w k) (runs_upright c w k) (bases_come (opening_of w.config) w.before (reached_runs c w k).0);
       rings = λ net fit. rings_are_seen net (records_of w.before) ls l (every_ring_seen c w k net fit);
     }

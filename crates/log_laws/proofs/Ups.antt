@@ -1,5 +1,5 @@
--- In every run outside of mode fixed a node enters views while it is up, and notes bases of the view that it is in.
-use Rattle.std.proofs.Common.{◌≡◌, ◌≢◌, ℕ, ◌+◌, inl, inr, refl, sym, ap, ◌∙◌, subst, true, false, List, [], ◌∷◌, ◌++◌, Option, Some, None}
+-- In every run a node enters views while it is up, and notes bases of the view that it is in.
+use Rattle.std.proofs.Common.{◌≡◌, ◌≢◌, ℕ, ◌+◌, inl, inr, refl, sym, ap, ◌∙◌, subst, true, false, List, [], ◌∷◌, ◌++◌, Option, Some, None, append_assoc}
 use Rattle.std.specs.Prelude.{◌==◌, ◌&&◌, map, reverse, if◌then◌else◌}
 use Rattle.std.proofs.lemmas.Bool.{and_parts}
 use Rattle.rsct_packet.specs.declared.ids.ViewId.{ViewId}
@@ -11,13 +11,13 @@ use Rattle.node_state.specs.declared.config.Config.{Config}
 use Rattle.node_state.specs.declared.happened.Happened.{Happened}
 use Rattle.node_state.specs.declared.happened.Happened.TheVariants as happened
 use Rattle.node_state.specs.declared.state.Core.{Core}
-use Rattle.node_state.specs.Settings.{is_fixed}
 use Rattle.node_state.specs.HandOn.{Answering}
 use Rattle.node_state.specs.Step.{NodeEvent, own_rings, ring_record, first_view, first_members, started, stepped}
 use Rattle.world_model.specs.declared.event.Event.{Event}
 use Rattle.run_safety.specs.Past.{History, records_of, Within, view_now}
 use Rattle.step_refinement.specs.Tied.{Scene, NodeIs, NodeIsIf}
-use Rattle.step_refinement.specs.Rules.{ended}
+use Rattle.run_induction.proofs.Ran.{all_start_holds}
+use Rattle.step_refinement.specs.Rules.{at_node, ended, starts_too, with_records}
 use Rattle.step_refinement.specs.Runs.{IsNote, Reached, Nothing, AllStart, Starts, Stops, Steps, Notes}
 use Rattle.step_refinement.proofs.Changed.{each_set}
 use Rattle.step_refinement.proofs.RunLaw.{reached_rests}
@@ -132,19 +132,35 @@ module _ (c : Config) (w : Scene) (k : Reached c w) (n : ℕ) (f : Answering) (s
       goes_on : Goes rs (records_of w.before)
       goes_on = mine_go n rs (records_of w.before) mine here old.enter
 
-stands : (c : Config) (w : Scene) → Reached c w → is_fixed c.mode ≡ false → Stand w
-stands c _ Nothing free = record { up = λ n. tt; enter = tt }
-stands c _ (AllStart fixed) free = absurd (let z : true ≡ false = sym fixed ∙ free in cc)
-stands c _ (Starts w n e k real nz down) free =
-    let old : Stand w = stands c w k free in
+-- a node that starts in the event that goes on
+records_with : (before : History) (rs : List Happened) → records_of (with_records before rs) ≡ reverse rs ++ records_of before
+records_with [] rs = refl
+records_with (h ∷ before) rs = append_assoc (reverse rs) h.records (records_of before)
+
+starts_standing : (w : Scene) (n : ℕ) → Stand w → Stand (starts_too w n None)
+starts_standing w n old =
+    let rs : List Happened = (started w.config n (w.incs n + 1)).records in
+    let q = begins w.config n (w.incs n + 1) (records_of w.before) old.enter in
+    let cores : (m : ℕ) → UpIf (reverse rs ++ records_of w.before) m (at_node w.cores n (Some (started w.config n (w.incs n + 1))) m) =
+        each_set (λ m o. UpIf (reverse rs ++ records_of w.before) m o) w.cores n (Some (started w.config n (w.incs n + 1))) q.1 (λ m ne. up_same (records_of w.before) (reverse rs ++ records_of w.before) m (q.2 m ne) (w.cores m) (old.up m)) in
+    record {
+      up = λ m. subst (λ xs. UpIf xs m (at_node w.cores n (Some (started w.config n (w.incs n + 1))) m)) (sym (records_with w.before rs)) (cores m);
+      enter = subst AllEnterUp (sym (records_with w.before rs)) q.0;
+    }
+
+stands : (c : Config) (w : Scene) → Reached c w → Stand w
+stands c _ Nothing = record { up = λ n. tt; enter = tt }
+stands c _ (AllStart fixed) = (all_start_holds c Stand (λ w n k there down old. starts_standing w n old) (record { up = λ n. tt; enter = tt })).1
+stands c _ (Starts w n e k real nz down) =
+    let old : Stand w = stands c w k in
     let q = begins w.config n (w.incs n + 1) (records_of w.before) old.enter in
     record { up = each_set (λ m o. UpIf (reverse (started w.config n (w.incs n + 1)).records ++ records_of w.before) m o) w.cores n (Some (started w.config n (w.incs n + 1))) q.1 (λ m ne. up_same (records_of w.before) (reverse (started w.config n (w.incs n + 1)).records ++ records_of w.before) m (q.2 m ne) (w.cores m) (old.up m)); enter = q.0 }
-stands c _ (Stops w n e s k up) free =
-    let old : Stand w = stands c w k free in
+stands c _ (Stops w n e s k up) =
+    let old : Stand w = stands c w k in
     record { up = each_set (λ m o. UpIf (happened.Down n ∷ records_of w.before) m o) w.cores n None tt (λ m ne. up_same (records_of w.before) (happened.Down n ∷ records_of w.before) m (if_other n m false (is_up m (records_of w.before)) (λ e. ne (sym e))) (w.cores m) (old.up m)); enter = (tt, old.enter) }
-stands c _ (Steps w n f s e v k up arises) free = step_stands c w k n f s e v up (stands c w k free)
-stands c _ (Notes w e rs k notes) free =
-    let old : Stand w = stands c w k free in
+stands c _ (Steps w n f s e v k up arises) = step_stands c w k n f s e v up (stands c w k)
+stands c _ (Notes w e rs k notes) =
+    let old : Stand w = stands c w k in
     let q : Goes (reverse rs) (records_of w.before) = notes_go (reverse rs) (records_of w.before) (λ r h. notes r (has_reverse r rs h)) old.enter in
     record { up = λ m. up_same (records_of w.before) (reverse rs ++ records_of w.before) m (q.same m) (w.cores m) (old.up m); enter = q.enter }
 
@@ -179,5 +195,5 @@ upright_all [] follows enter = tt
 upright_all (e ∷ before) follows enter =
     upright_now e.records before follows.0 enter (upright_all before follows.1 (enter_before e.records (records_of before) enter))
 
-pub runs_upright : (c : Config) (w : Scene) → Reached c w → is_fixed c.mode ≡ false → AllUpright (records_of w.before)
-runs_upright c w k free = upright_all w.before (each_base_follows c w k) (stands c w k free).enter
+pub runs_upright : (c : Config) (w : Scene) → Reached c w → AllUpright (records_of w.before)
+runs_upright c w k = upright_all w.before (each_base_follows c w k) (stands c w k).enter
