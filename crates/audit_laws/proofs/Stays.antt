@@ -106,7 +106,7 @@ part_here : (p : ProviderId) (xs : List stay.Stay) (ys : List Stay) (x : stay.St
 unfolding part part_with
 part_here p xs ys x y k older =
     let first : first_in p y.entries (y.on && passes p y.base (part p ys)) ≡ stay.first_in p x.entries (stay.passes p x.base (stay.part p xs)) =
-        (λ i. first_in p (k.entries i) (on_same p xs ys x y k older i)) ∙ first_same p x.entries (stay.passes p x.base (stay.part p xs)) in
+    (λ i. first_in p (k.entries i) (on_same p xs ys x y k older i)) ∙ first_same p x.entries (stay.passes p x.base (stay.part p xs)) in
     record {
       first = first;
       last = ap (last_in p y) first ∙ last_in_same p y x k.view k.base k.entries (stay.first_in p x.entries (stay.passes p x.base (stay.part p xs)));
@@ -203,13 +203,15 @@ leaver_knows n w ms u g rs s at k m t len x h =
 
 -- the stay that a node leaves is over
 left_behind : (n : ℕ) (w : ViewId) (ms : List Member) (u : ViewId) (g : List ℕ) (rs : List Happened) → Seen rs → SeenAt rs (happened.In n w ms) → Entered n u rs → (k : Staying n g u rs) → AreStays (k.now ∷ k.before) (k.line ∷ k.lines_before)
-left_behind n w ms u g rs s at e k =
-    (record {
-      view = k.line_view ∙ sym k.view;
-      on = k.on;
-      base = k.line_base ∙ (base_is rs s n u g (leaver_knows n w ms u g rs s at e) ∙ sym k.base);
-      entries = k.entries;
-    }, k.over)
+left_behind n w ms u g rs s at e k = (
+  record {
+    view = k.line_view ∙ sym k.view;
+    on = k.on;
+    base = k.line_base ∙ (base_is rs s n u g (leaver_knows n w ms u g rs s at e) ∙ sym k.base);
+    entries = k.entries;
+  },
+  k.over,
+)
 
 other_view : (y u v : ViewId) → y ≡ v → same_view y u ≡ false → same_view u v ≡ false
 other_view y u v e f = by (same_view u v) refl
@@ -242,11 +244,19 @@ keep n g r rs a b None c k = a ∙ k
 keep n g r rs a b (Some v) c k =
     let x = c v refl in
     record {
-      now = k.now; before = k.before; line = k.line; lines_before = k.lines_before;
-      are = a ∙ k.are; lines_are = b ∙ k.lines_are;
-      view = k.view; line_view = k.line_view; on = k.on;
-      base = k.base ∙ sym x.0; line_base = k.line_base ∙ sym x.1;
-      entries = k.entries; over = k.over;
+      now = k.now;
+      before = k.before;
+      line = k.line;
+      lines_before = k.lines_before;
+      are = a ∙ k.are;
+      lines_are = b ∙ k.lines_are;
+      view = k.view;
+      line_view = k.line_view;
+      on = k.on;
+      base = k.base ∙ sym x.0;
+      line_base = k.line_base ∙ sym x.1;
+      entries = k.entries;
+      over = k.over;
     }
 
 no_stay_base : (b : Bool) (s : GroupState) (xs : List stay.Stay) → xs ≡ [] → (if b then stay.with_base s xs else xs) ≡ []
@@ -490,9 +500,9 @@ part_is p v g rs k here knows =
     let st : Staying p.node g v rs = subst (StaysAt p.node g rs) here (stays_are p.node g rs k) in
     let at : same_view st.line.view v ≡ true = subst (λ z. same_view st.line.view z ≡ true) st.line_view (view_self st.line.view) in
     let to : stays_to v (stays p.node g (lines rs)) ≡ st.line ∷ st.lines_before =
-        ap (stays_to v) st.lines_are ∙ ap (λ z. elim z [ true ↦ st.line ∷ st.lines_before | false ↦ stays_to v st.lines_before ]) at in
+    ap (stays_to v) st.lines_are ∙ ap (λ z. elim z [ true ↦ st.line ∷ st.lines_before | false ↦ stays_to v st.lines_before ]) at in
     let whole : AreStays (st.now ∷ st.before) (st.line ∷ st.lines_before) =
-        (record { view = st.line_view ∙ sym st.view; on = st.on; base = st.line_base ∙ (base_is rs k.seen p.node v g knows ∙ sym st.base); entries = st.entries }, st.over) in
+    (record { view = st.line_view ∙ sym st.view; on = st.on; base = st.line_base ∙ (base_is rs k.seen p.node v g knows ∙ sym st.base); entries = st.entries }, st.over) in
     let same : SamePart (stay.part p (st.now ∷ st.before)) (part p (st.line ∷ st.lines_before)) = parts_same p (st.now ∷ st.before) (st.line ∷ st.lines_before) refl whole in
     record {
       first = ap (λ z. (part p z).first) to ∙ (same.first ∙ ap (λ z. (stay.part p z).first) (sym st.are));
