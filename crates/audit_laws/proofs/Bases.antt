@@ -1,15 +1,14 @@
 -- A base is what the old list comes to, and who leaves a view noted the bases there that others noted.
-use Rattle.std.proofs.Common.{◌≡◌, ℕ, ◌+◌, ◌≤◌, Bool, true, false, List, [], ◌∷◌, ◌++◌, length, take, Option, Some, None, inl, inr, refl, sym, ◌∙◌, ap, subst, arith}
-use Rattle.std.specs.Prelude.{◌==◌, ◌&&◌, ◌||◌, not, filter, nat_le, is_none, if◌then◌else◌}
+use Rattle.std.proofs.Common.{◌≡◌, ℕ, ◌≤◌, Bool, true, false, List, [], ◌∷◌, length, take, Option, Some, None, inl, inr, refl, sym, ◌∙◌, ap, subst, arith}
+use Rattle.std.specs.Prelude.{◌==◌, ◌&&◌, not, filter, nat_le}
 use Rattle.std.specs.List.{list_any, list_all}
 use Rattle.std.specs.Str.{bytes_eq}
 use Rattle.std.proofs.lemmas.Bool.{and_parts, eqb-true}
 use Rattle.std.proofs.lemmas.Bool.Decides.{nat_tests}
 use Rattle.rsct_packet.specs.declared.ids.Member.{Member}
-use Rattle.rsct_packet.specs.declared.ids.ProtoId.{ProtoId}
 use Rattle.rsct_packet.specs.declared.ids.ProviderId.{ProviderId}
 use Rattle.rsct_packet.specs.declared.ids.ViewId.{ViewId}
-use Rattle.rsct_packet.specs.Ids.{same_view, same_proto, is_member}
+use Rattle.rsct_packet.specs.Ids.{same_view, is_member}
 use Rattle.rsct_packet.specs.Providers.{same_provider}
 use Rattle.rsct_packet.specs.Search.{Has}
 use Rattle.view_state.proofs.ViewOrder.{same_view_is}
@@ -29,9 +28,8 @@ use Rattle.line_laws.specs.Shown.{open_shown, base_shown}
 use Rattle.run_audit.specs.declared.broken.Rule.TheVariants as rule
 use Rattle.run_audit.specs.Past.{view_of, is_at, members_of, listed, from_of, puts_of, list_of, fold_from, base_of, base_state}
 use Rattle.run_audit.specs.Table.{all_same, same_base, if_some, is_in, based_groups, same_groups, or_node, first_node, bases_agree, lives, same_open, shows_cut, base_holds, holds}
-use Rattle.run_audit.proofs.ListLaws.{text_same}
 use Rattle.audit_laws.specs.Lines.{shown, lines}
-use Rattle.audit_laws.specs.Records.{OfRun, Keeps}
+use Rattle.audit_laws.specs.Records.{Keeps}
 use Rattle.audit_laws.proofs.Lists.{puts_length, front, prefix_length}
 use Rattle.audit_laws.proofs.Nodes.{at_view, view_is, view_was, members_are, from_same}
 use Rattle.audit_laws.proofs.States.{base_was, bases_are, cut_state}

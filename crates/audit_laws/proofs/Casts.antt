@@ -1,9 +1,8 @@
 -- A provider casts after it heard the entry that opened the phase, and once in it.
-use Rattle.std.proofs.Common.{◌≡◌, ℕ, zero, suc, ◌+◌, Bool, true, false, List, [], ◌∷◌, ◌++◌, length, Option, Some, None, inl, inr, refl, sym, ◌∙◌, ap, subst, arith, length-append}
+use Rattle.std.proofs.Common.{◌≡◌, ℕ, zero, suc, ◌+◌, Bool, true, false, List, [], ◌∷◌, ◌++◌, length, Option, Some, inl, inr, refl, sym, ◌∙◌, ap, subst, arith, length-append}
 use Rattle.std.specs.Prelude.{◌==◌, ◌&&◌, ◌||◌, not, map, slice_get, if◌then◌else◌}
 use Rattle.std.specs.List.{list_any}
 use Rattle.std.specs.Str.{bytes_eq}
-use Rattle.std.specs.Option.{option_map}
 use Rattle.std.proofs.lemmas.Bool.{and_parts, eqb-true}
 use Rattle.std.proofs.lemmas.Bool.Decides.{nat_tests}
 use Rattle.rsct_packet.specs.declared.ids.ProtoId.{ProtoId}
@@ -23,7 +22,6 @@ use Rattle.run_safety.specs.Past as past
 use Rattle.run_safety.specs.SafeHeard.{latest_put}
 use Rattle.run_safety.proofs.Prefix.{at_end}
 use Rattle.provider_laws.specs.single_casts.Ballots.{opens}
-use Rattle.provider_laws.specs.single_casts.Single.{HeardOpened}
 use Rattle.run_laws.specs.seen_runs.Seen.{Seen}
 use Rattle.line_laws.specs.Shown.{entry_shown}
 use Rattle.run_audit.specs.declared.broken.Rule.TheVariants as rule
@@ -32,7 +30,7 @@ use Rattle.run_audit.specs.Table.{is_cast_of, opens_phase, heard_open, holds}
 use Rattle.run_audit.proofs.KeyLaws.{provider_same, proto_same}
 use Rattle.run_audit.proofs.ListLaws.{text_same}
 use Rattle.audit_laws.specs.Lines.{shown, lines}
-use Rattle.audit_laws.specs.Records.{OfRun, Keeps}
+use Rattle.audit_laws.specs.Records.{Keeps}
 use Rattle.audit_laws.proofs.Lists.{puts_are}
 use Rattle.audit_laws.proofs.Tests.{both, eq_self, provider_self, none_any}
 

@@ -1,20 +1,18 @@
 -- A node enters greater views, as a member of them in its incarnation, and all name the same members.
-use Rattle.std.proofs.Common.{◌≡◌, ℕ, ◌<◌, Bool, true, false, List, [], ◌∷◌, Option, Some, None, refl, sym, ◌∙◌, ap, subst}
+use Rattle.std.proofs.Common.{◌≡◌, ℕ, true, List, Option, Some, None, refl, sym, ◌∙◌, ap}
 use Rattle.std.specs.Prelude.{◌&&◌}
 use Rattle.rsct_packet.specs.declared.ids.Member.{Member}
 use Rattle.rsct_packet.specs.declared.ids.ViewId.{ViewId}
-use Rattle.rsct_packet.specs.Ids.{same_member, view_lt, is_member}
-use Rattle.rsct_packet.specs.Search.{Has}
+use Rattle.rsct_packet.specs.Ids.{same_member, view_lt}
 use Rattle.node_state.specs.declared.happened.Happened.{Happened}
 use Rattle.node_state.specs.declared.happened.Happened.TheVariants as happened
-use Rattle.run_safety.specs.Past as past
 use Rattle.run_safety.specs.ViewOrder.{is_before}
 use Rattle.run_laws.specs.seen_runs.Seen.{Seen, SeenAt}
 use Rattle.run_audit.specs.declared.broken.Rule.TheVariants as rule
 use Rattle.run_audit.specs.Past.{inc_of, view_of, members_of}
 use Rattle.run_audit.specs.Table.{all_same, if_some, is_above, is_own, in_holds, holds}
 use Rattle.audit_laws.specs.Lines.{shown, lines}
-use Rattle.audit_laws.specs.Records.{OfRun, Keeps}
+use Rattle.audit_laws.specs.Records.{Keeps}
 use Rattle.audit_laws.proofs.Nodes.{inc_is, view_was, members_were}
 use Rattle.audit_laws.proofs.Tests.{both, all_equal, member_self}
 

@@ -1,11 +1,10 @@
 -- No line that fits has a line feed.
-use Rattle.std.proofs.Common.{◌≡◌, ℕ, ◌<◌, ◌≤◌, Bool, true, false, List, [], ◌∷◌, ◌++◌, length, Option, Some, None, inl, refl, sym, ◌∙◌, ap, subst, arith}
+use Rattle.std.proofs.Common.{◌≡◌, ℕ, ◌≤◌, Bool, true, false, List, [], ◌∷◌, ◌++◌, length, Option, Some, None, inl, refl, sym, subst, arith}
 use Rattle.std.specs.Prelude.{◌==◌, ◌&&◌, not, flat_map, nat_le, codes, decimal, if◌then◌else◌}
 use Rattle.std.specs.List.{list_all}
 use Rattle.std.specs.Str.{bytes_eq}
 use Rattle.std.proofs.lemmas.Bool.Decides.{nat_tests}
 use Rattle.rsct_packet.specs.declared.ids.Member.{Member}
-use Rattle.rsct_packet.specs.declared.ids.ProtoId.{ProtoId}
 use Rattle.rsct_packet.specs.declared.ids.ProviderId.{ProviderId}
 use Rattle.rsct_packet.specs.declared.ids.ViewId.{ViewId}
 use Rattle.rsct_packet.specs.Mask.{is_node}
@@ -40,7 +39,7 @@ use Rattle.session_state.specs.declared.fault.Field.TheVariants as field
 use Rattle.session_state.specs.declared.fault.GsFault.{GsFault}
 use Rattle.session_state.specs.declared.fault.GsFault.TheVariants as fault
 use Rattle.value_words.specs.Words.{split_on, push_head}
-use Rattle.value_words.specs.Wording.{view_text, provider_text, ring_text, proto_text, member_text, joined, nodes_text, members_text, providers_text, escaped, value_text}
+use Rattle.value_words.specs.Wording.{provider_text, proto_text, member_text, joined, nodes_text, members_text, providers_text, escaped, value_text}
 use Rattle.entry_words.specs.declared.attrs.AttrKey.{AttrKey}
 use Rattle.entry_words.specs.declared.attrs.AttrKey.TheVariants as key
 use Rattle.entry_words.specs.Words.{phases_value, batch_value, default_value, limit_value, every_key, attr_row}

@@ -1,6 +1,6 @@
 -- Entries fit, and what closes a phase has the voters' rows and their tally, and votes that were cast.
-use Rattle.std.proofs.Common.{◌≡◌, ◌⊎◌, ℕ, ◌+◌, ◌<◌, ◌≤◌, Bool, true, false, List, [], ◌∷◌, ◌++◌, length, take, Option, Some, None, inl, inr, refl, sym, ◌∙◌, ap, subst, arith}
-use Rattle.std.specs.Prelude.{◌==◌, ◌&&◌, ◌||◌, not, map, nat_lt, is_none, if◌then◌else◌}
+use Rattle.std.proofs.Common.{◌≡◌, ◌⊎◌, ℕ, ◌+◌, ◌<◌, ◌≤◌, Bool, true, false, List, [], ◌∷◌, length, take, Option, Some, None, inl, inr, refl, sym, ◌∙◌, ap, subst, arith}
+use Rattle.std.specs.Prelude.{◌==◌, ◌&&◌, ◌||◌, map, nat_lt, if◌then◌else◌}
 use Rattle.std.specs.List.{list_any, list_all}
 use Rattle.std.proofs.Math.Seq.{take-length}
 use Rattle.std.proofs.lemmas.Bool.{and_parts, eqb-true}
@@ -8,10 +8,9 @@ use Rattle.std.proofs.lemmas.Bool.Decides.{nat_tests}
 use Rattle.rsct_packet.specs.declared.ids.ProtoId.{ProtoId}
 use Rattle.rsct_packet.specs.declared.ids.ProviderId.{ProviderId}
 use Rattle.rsct_packet.specs.declared.ids.ViewId.{ViewId}
-use Rattle.rsct_packet.specs.Ids.{same_view, same_proto}
+use Rattle.rsct_packet.specs.Ids.{same_proto}
 use Rattle.rsct_packet.specs.Providers.{same_provider}
 use Rattle.rsct_packet.specs.Search.{Has}
-use Rattle.proposal_core.specs.declared.proposal.Proposal.{Proposal}
 use Rattle.proposal_core.specs.declared.entry.Vote.{Vote}
 use Rattle.proposal_core.specs.declared.entry.Vote.TheVariants as vote
 use Rattle.proposal_core.specs.declared.entry.RowVote.{RowVote}
@@ -40,7 +39,7 @@ use Rattle.run_audit.specs.Table.{all_same, same_vote, if_some, is_vote_of, is_t
 use Rattle.audit_laws.specs.Lines.{shown, lines}
 use Rattle.audit_laws.specs.Records.{OfRun, Keeps}
 use Rattle.audit_laws.proofs.States.{Knows, state_is, fits_shown}
-use Rattle.audit_laws.proofs.Tests.{both, all_equal, all_by, eq_self, view_self, provider_self}
+use Rattle.audit_laws.proofs.Tests.{both, all_equal, all_by, eq_self, provider_self}
 
 -- who puts something knows the base
 pub put_knows : (n : ℕ) (v : ViewId) (g : List ℕ) (i : ℕ) (e : Entry) (rs : List Happened) → OfRun (happened.Put n v g i e ∷ rs) → Knows n v g rs

@@ -1,10 +1,9 @@
 -- What a provider hears is what its node put last, in turn, with the members and the value that the node's list makes of its base.
-use Rattle.std.proofs.Common.{◌≡◌, ◌⊎◌, ℕ, ◌+◌, Bool, true, false, List, [], ◌∷◌, ◌++◌, length, take, Option, Some, None, inl, inr, refl, sym, ◌∙◌, ap, subst, arith}
-use Rattle.std.specs.Prelude.{◌==◌, ◌&&◌, map, slice_get, nat_le, IsTrue, if◌then◌else◌}
+use Rattle.std.proofs.Common.{◌≡◌, ℕ, ◌+◌, Bool, true, false, List, [], ◌∷◌, length, take, Option, Some, None, inl, inr, refl, sym, ◌∙◌, ap, subst, arith}
+use Rattle.std.specs.Prelude.{◌==◌, ◌&&◌, slice_get, IsTrue, if◌then◌else◌}
 use Rattle.std.specs.Str.{bytes_eq}
 use Rattle.std.proofs.Math.Seq.{take-length}
 use Rattle.std.proofs.lemmas.Bool.{and_parts, eqb-true}
-use Rattle.std.proofs.lemmas.Bool.Decides.{nat_tests}
 use Rattle.rsct_packet.specs.declared.ids.ProviderId.{ProviderId}
 use Rattle.rsct_packet.specs.declared.ids.ViewId.{ViewId}
 use Rattle.rsct_packet.specs.Ids.{same_view}
@@ -23,7 +22,6 @@ use Rattle.run_safety.specs.SafeHeard.{latest_put, heard_count, is_after}
 use Rattle.run_safety.specs.Stays as stay
 use Rattle.row_laws.specs.hearing.Hearing as hearing
 use Rattle.provider_laws.specs.attending.Places.{IsNext}
-use Rattle.run_laws.specs.seen_runs.Seen.{Seen}
 use Rattle.line_laws.specs.Shown.{entry_shown, what_shown}
 use Rattle.run_audit.specs.declared.broken.Rule.TheVariants as rule
 use Rattle.run_audit.specs.Past.{is_list, puts_of, state_of, Part, part_of, from_first, up_to_last, takes_part, heard_after, last_heard}

@@ -1,5 +1,5 @@
 -- Lines of a run keep every rule, so the verdict on them is that they are seen.
-use Rattle.std.proofs.Common.{◌≡◌, ℕ, ◌+◌, Bool, true, false, List, [], ◌∷◌, length, Option, Some, None, refl, sym, ◌∙◌, ap, arith}
+use Rattle.std.proofs.Common.{◌≡◌, ◌+◌, true, false, List, [], ◌∷◌, length, Some, None, refl, ◌∙◌, ap, arith}
 use Rattle.record_lines.specs.declared.line.Line.{Line}
 use Rattle.node_state.specs.declared.happened.Happened.{Happened}
 use Rattle.run_audit.specs.declared.broken.Rule.{Rule}
@@ -9,7 +9,7 @@ use Rattle.run_audit.specs.declared.broken.Verdict.TheVariants.{Seen, Broken}
 use Rattle.run_audit.specs.Table.{holds, rules_of, first_broken, broken_in, verdict_at, verdict_of}
 use Rattle.audit_laws.specs.Judging.{LinesAreSeen}
 use Rattle.audit_laws.specs.Lines.{shown, lines}
-use Rattle.audit_laws.specs.Records.{OfRun, Keeps}
+use Rattle.audit_laws.specs.Records.{Keeps}
 use Rattle.audit_laws.proofs.Bases.{bases_kept, bases_agreed}
 use Rattle.audit_laws.proofs.Casts.{casts_kept}
 use Rattle.audit_laws.proofs.Enters.{entering_kept}

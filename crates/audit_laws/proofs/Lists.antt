@@ -1,9 +1,8 @@
 -- The lists of nodes, and that they are fronts of the view's list.
-use Rattle.std.proofs.Common.{◌≡◌, ◌⊎◌, ⊎_elim, ℕ, zero, suc, ◌+◌, ◌<◌, ◌≤◌, Bool, true, false, List, [], ◌∷◌, ◌++◌, length, take, Option, Some, None, inl, inr, refl, sym, ◌∙◌, ap, subst, arith}
+use Rattle.std.proofs.Common.{◌≡◌, ◌⊎◌, ⊎_elim, ℕ, zero, suc, ◌<◌, ◌≤◌, Bool, true, false, List, [], ◌∷◌, ◌++◌, length, Option, Some, None, inl, inr, refl, sym, ◌∙◌, ap, subst, arith}
 use Rattle.std.specs.Prelude.{◌==◌, ◌&&◌, map, slice_get, if◌then◌else◌}
 use Rattle.std.specs.Str.{bytes_eq}
 use Rattle.std.proofs.lemmas.Bool.{and_parts, eqb-true}
-use Rattle.std.proofs.lemmas.List.{append-nil}
 use Rattle.rsct_packet.specs.declared.ids.ViewId.{ViewId}
 use Rattle.rsct_packet.specs.Ids.{same_view}
 use Rattle.rsct_packet.specs.Search.{Has}
@@ -12,7 +11,7 @@ use Rattle.entry_words.specs.Wording.{entry_text}
 use Rattle.node_state.specs.declared.happened.Happened.{Happened}
 use Rattle.node_state.specs.declared.happened.Happened.TheVariants as happened
 use Rattle.run_safety.specs.Past as past
-use Rattle.run_safety.proofs.Prefix.{IsPrefix, prefix_refl, prefix_nil, prefix_trans, prefix_push, prefix_get, prefix_next, at_end}
+use Rattle.run_safety.proofs.Prefix.{IsPrefix, prefix_refl, prefix_nil, prefix_trans, prefix_push, prefix_next}
 use Rattle.run_laws.specs.seen_runs.Seen.{Seen, SeenAt}
 use Rattle.line_laws.specs.Shown.{entry_shown}
 use Rattle.run_audit.specs.declared.broken.Rule.TheVariants as rule
@@ -21,7 +20,7 @@ use Rattle.run_audit.specs.Table.{holds, same_entry, if_some}
 use Rattle.run_audit.proofs.ListLaws.{list_same}
 use Rattle.run_audit.proofs.PlaceLaws.{get_in, apart}
 use Rattle.audit_laws.specs.Lines.{shown, lines}
-use Rattle.audit_laws.specs.Records.{OfRun, Keeps}
+use Rattle.audit_laws.specs.Records.{Keeps}
 use Rattle.audit_laws.proofs.Nodes.{view_is, at_view}
 use Rattle.audit_laws.proofs.Tests.{both, eq_self, text_self, map_length, map_end}
 

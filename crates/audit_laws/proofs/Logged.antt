@@ -1,7 +1,6 @@
 -- What logs have of a run's records are such records too.
-use Rattle.std.proofs.Common.{◌≡◌, ℕ, true, List, [], ◌∷◌, refl, sym, ◌∙◌, subst}
+use Rattle.std.proofs.Common.{◌≡◌, true, List, [], ◌∷◌, sym, ◌∙◌}
 use Rattle.std.specs.Prelude.{reverse}
-use Rattle.rsct_packet.specs.Search.{Has}
 use Rattle.node_state.specs.declared.happened.Happened.{Happened}
 use Rattle.node_state.specs.declared.happened.Happened.TheVariants as happened
 use Rattle.run_safety.specs.Past.{records_of}
@@ -13,7 +12,7 @@ use Rattle.log_laws.proofs.Kept.{was_recorded, work_logged, same_puts, same_view
 use Rattle.log_laws.proofs.Law.{logs_are_seen, rings_are_seen}
 use Rattle.log_laws.proofs.Past.{view_up}
 use Rattle.audit_laws.specs.Law.{LogsAreAudited, LogTextsAreSeen}
-use Rattle.audit_laws.specs.Records.{InTurn, AllInTurn, BasesAreKnown, OfRun}
+use Rattle.audit_laws.specs.Records.{InTurn, AllInTurn, BasesAreKnown}
 use Rattle.audit_laws.proofs.Runs.{runs_are_audited}
 use Rattle.audit_laws.proofs.Texts.{texts_are_seen}
 

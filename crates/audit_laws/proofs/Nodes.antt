@@ -6,15 +6,15 @@ use Rattle.rsct_packet.specs.declared.ids.Member.{Member}
 use Rattle.rsct_packet.specs.declared.ids.ViewId.{ViewId}
 use Rattle.rsct_packet.specs.Ids.{same_view, view_lt}
 use Rattle.rsct_packet.specs.Search.{Has}
-use Rattle.view_state.proofs.ViewOrder.{not_before_itself, not_before_and_after, same_view_is}
+use Rattle.view_state.proofs.ViewOrder.{same_view_is}
 use Rattle.node_state.specs.declared.happened.Happened.{Happened}
 use Rattle.node_state.specs.declared.happened.Happened.TheVariants as happened
 use Rattle.run_safety.specs.Past as past
 use Rattle.run_safety.specs.Sight as sight
-use Rattle.run_safety.specs.ViewOrder.{is_before, Lt}
+use Rattle.run_safety.specs.ViewOrder.{is_before}
 use Rattle.run_laws.specs.seen_runs.Seen as seen
 use Rattle.run_laws.specs.seen_runs.Seen.{Seen}
-use Rattle.run_audit.specs.Past.{inc_after, inc_of, view_after, view_of, is_at, or_members, members_after, members_of, listed, inc_in, greater, from_after, from_of}
+use Rattle.run_audit.specs.Past.{inc_after, inc_of, view_after, view_of, is_at, or_members, members_after, members_of, inc_in, greater, from_after, from_of}
 use Rattle.audit_laws.specs.Lines.{shown, lines}
 use Rattle.audit_laws.proofs.Tests.{view_self}
 

@@ -1,7 +1,6 @@
 -- Who enters a view leaves the one before with the same lists as each who came from there.
-use Rattle.std.proofs.Common.{◌≡◌, ◌⊎◌, ⊎_elim, ℕ, ◌+◌, Bool, true, false, List, [], ◌∷◌, ◌++◌, length, Option, Some, None, inl, inr, refl, sym, ◌∙◌, ap, subst}
-use Rattle.std.specs.Prelude.{◌==◌, ◌&&◌, not, find, map, is_none, if◌then◌else◌}
-use Rattle.std.specs.List.{list_all}
+use Rattle.std.proofs.Common.{◌≡◌, ⊎_elim, ℕ, ◌+◌, Bool, true, false, List, [], ◌∷◌, ◌++◌, length, Option, Some, None, inl, inr, refl, sym, ◌∙◌, ap, subst}
+use Rattle.std.specs.Prelude.{◌==◌, ◌&&◌, not, map, is_none, if◌then◌else◌}
 use Rattle.std.proofs.lemmas.Bool.{and_parts, eqb-true}
 use Rattle.rsct_packet.specs.declared.ids.Member.{Member}
 use Rattle.rsct_packet.specs.declared.ids.ViewId.{ViewId}
@@ -15,7 +14,7 @@ use Rattle.node_state.specs.declared.happened.Happened.{Happened}
 use Rattle.node_state.specs.declared.happened.Happened.TheVariants as happened
 use Rattle.run_safety.specs.Past as past
 use Rattle.run_safety.specs.Sight as sight
-use Rattle.run_safety.specs.ViewOrder.{is_before, Lt}
+use Rattle.run_safety.specs.ViewOrder.{is_before}
 use Rattle.run_laws.specs.seen_runs.Seen as seen
 use Rattle.run_laws.specs.seen_runs.Seen.{Seen, SeenAt}
 use Rattle.line_laws.specs.Shown.{entry_shown}
@@ -24,7 +23,7 @@ use Rattle.run_audit.specs.Past.{view_of, is_at, puts_of}
 use Rattle.run_audit.specs.Table.{all_same, same_entry, Leaver, leavers, groups_put, same_lists, parts_from, who_parts, holds}
 use Rattle.audit_laws.specs.Lines.{shown, lines}
 use Rattle.audit_laws.specs.Records.{OfRun, Keeps}
-use Rattle.audit_laws.proofs.Nodes.{view_was, view_at, from_view}
+use Rattle.audit_laws.proofs.Nodes.{view_at, from_view}
 use Rattle.audit_laws.proofs.Enters.{goes_up}
 use Rattle.audit_laws.proofs.Lists.{puts_are}
 use Rattle.audit_laws.proofs.Tests.{all_equal, all_by, found_none, and_not, text_self}

@@ -1,12 +1,12 @@
 -- A request of a provider of the node begins once there, after it was asked and not after it was told a refusal.
 use Rattle.std.proofs.Common.{◌≡◌, ◌⊎◌, ℕ, Bool, true, false, List, [], ◌∷◌, Option, Some, None, inl, inr, refl, sym, ◌∙◌, ap, subst}
-use Rattle.std.specs.Prelude.{◌==◌, ◌&&◌, ◌||◌, not, find, map, is_none, IsTrue, if◌then◌else◌}
+use Rattle.std.specs.Prelude.{◌==◌, ◌&&◌, ◌||◌, not, is_none}
 use Rattle.std.specs.List.{list_any}
 use Rattle.std.specs.Str.{bytes_eq}
 use Rattle.std.proofs.lemmas.Bool.{and_parts, eqb-true}
 use Rattle.rsct_packet.specs.declared.ids.ProviderId.{ProviderId}
 use Rattle.rsct_packet.specs.declared.ids.ViewId.{ViewId}
-use Rattle.rsct_packet.specs.Providers.{same_provider, among}
+use Rattle.rsct_packet.specs.Providers.{same_provider}
 use Rattle.rsct_packet.specs.Search.{Has}
 use Rattle.proposal_core.specs.declared.proposal.Proposal.{Proposal}
 use Rattle.proposal_core.specs.declared.proposal.Proposal.TheVariants as proposal
@@ -27,8 +27,8 @@ use Rattle.run_audit.specs.declared.broken.Rule.TheVariants as rule
 use Rattle.run_audit.specs.Table.{same_kind, requests_of, proposal_in, carried_by, same_request, carries, is_told_of, is_asked_of, is_due, is_undue, undue_in, holds}
 use Rattle.run_audit.proofs.KeyLaws.{provider_same}
 use Rattle.audit_laws.specs.Lines.{shown, lines}
-use Rattle.audit_laws.specs.Records.{OfRun, Keeps}
-use Rattle.audit_laws.proofs.Tests.{both, and_not, eq_self, text_self, provider_self, found_none, none_any}
+use Rattle.audit_laws.specs.Records.{Keeps}
+use Rattle.audit_laws.proofs.Tests.{both, eq_self, text_self, provider_self, found_none, none_any}
 
 -- ---- the same words, of records and of lines
 

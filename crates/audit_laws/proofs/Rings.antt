@@ -1,7 +1,6 @@
 -- Two records of one ring have the same members, with the node, the id's leader and the neighbour among them.
-use Rattle.std.proofs.Common.{◌≡◌, ℕ, Bool, true, false, List, [], ◌∷◌, Option, Some, None, inl, inr, refl, sym, ◌∙◌, ap, subst}
+use Rattle.std.proofs.Common.{◌≡◌, ℕ, Bool, true, false, List, [], ◌∷◌, Option, Some, None, inl, inr, refl, sym, ◌∙◌, ap}
 use Rattle.std.specs.Prelude.{◌==◌, ◌&&◌, ◌||◌, IsTrue, if◌then◌else◌}
-use Rattle.std.specs.List.{list_any}
 use Rattle.std.proofs.lemmas.Bool.{and_parts, eqb-true}
 use Rattle.rsct_packet.specs.declared.ids.RingId.{RingId}
 use Rattle.rsct_packet.specs.declared.mask.Mask.{Mask}
@@ -17,7 +16,7 @@ use Rattle.run_laws.specs.seen_runs.Rings.{RingSeenAt}
 use Rattle.run_audit.specs.declared.broken.Rule.TheVariants as rule
 use Rattle.run_audit.specs.Table.{all_same, if_some, nodes_after, first_nodes, has_node, ring_holds, holds}
 use Rattle.audit_laws.specs.Lines.{shown, lines}
-use Rattle.audit_laws.specs.Records.{OfRun, Keeps}
+use Rattle.audit_laws.specs.Records.{Keeps}
 use Rattle.audit_laws.proofs.Tests.{both, all_equal, eq_self}
 
 ring_same : (a b : RingId) → same_ring a b ≡ true → a ≡ b

@@ -1,5 +1,5 @@
 -- The records of every run are such records.
-use Rattle.std.proofs.Common.{◌≡◌, ℕ, Bool, true, false, List, [], ◌∷◌, ◌++◌, Option, Some, None, inl, inr, refl, sym, ◌∙◌, ap, subst}
+use Rattle.std.proofs.Common.{◌≡◌, ℕ, Bool, true, false, List, [], ◌∷◌, ◌++◌, inl, inr, refl, sym, ◌∙◌, subst}
 use Rattle.std.specs.Prelude.{◌==◌, ◌&&◌, if◌then◌else◌}
 use Rattle.std.specs.Str.{bytes_eq}
 use Rattle.std.proofs.lemmas.Bool.{and_parts, eqb-true}
@@ -9,7 +9,6 @@ use Rattle.rsct_packet.specs.Ids.{same_view}
 use Rattle.rsct_packet.specs.Search.{Has}
 use Rattle.view_state.proofs.ViewOrder.{same_view_is}
 use Rattle.proposal_core.specs.declared.entry.Entry.{Entry}
-use Rattle.proposal_core.specs.declared.group_state.GroupState.{GroupState}
 use Rattle.node_state.specs.declared.config.Config.{Config}
 use Rattle.node_state.specs.declared.happened.Happened.{Happened}
 use Rattle.node_state.specs.declared.happened.Happened.TheVariants as happened
@@ -33,7 +32,7 @@ use Rattle.log_laws.proofs.Past.{view_entered}
 use Rattle.log_laws.proofs.Ups.{runs_upright}
 use Rattle.run_audit.proofs.ListLaws.{text_same}
 use Rattle.audit_laws.specs.Law.{RunsAreAudited}
-use Rattle.audit_laws.specs.Records.{InTurn, AllInTurn, BasesAreKnown, OfRun}
+use Rattle.audit_laws.specs.Records.{InTurn, AllInTurn, BasesAreKnown}
 use Rattle.audit_laws.proofs.Stays.{new_view}
 
 -- ---- bases before entries

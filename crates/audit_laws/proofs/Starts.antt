@@ -9,7 +9,7 @@ use Rattle.node_state.specs.declared.happened.Happened.TheVariants as happened
 use Rattle.run_audit.specs.declared.broken.Rule.TheVariants as rule
 use Rattle.run_audit.specs.Table.{holds, starts_below}
 use Rattle.audit_laws.specs.Lines.{shown, lines}
-use Rattle.audit_laws.specs.Records.{OfRun, Keeps}
+use Rattle.audit_laws.specs.Records.{Keeps}
 use Rattle.audit_laws.proofs.Tests.{both}
 
 below : (n j m k : ℕ) → ((m ≡ n) → k < j) → (not (m == n) || nat_lt k j) ≡ true

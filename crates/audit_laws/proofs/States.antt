@@ -1,10 +1,9 @@
 -- The states of groups: what the lines make of bases and entries is what the records make of them.
 use Rattle.std.proofs.Common.{◌≡◌, ℕ, zero, suc, arith, ◌+◌, ◌≤◌, Bool, true, false, List, [], ◌∷◌, ◌++◌, length, take, Option, Some, None, inl, inr, refl, sym, ◌∙◌, ap, subst}
-use Rattle.std.specs.Prelude.{◌==◌, ◌&&◌, not, filter, map, is_none, if◌then◌else◌}
+use Rattle.std.specs.Prelude.{◌==◌, ◌&&◌, map, is_none, if◌then◌else◌}
 use Rattle.std.specs.Str.{bytes_eq}
-use Rattle.std.proofs.lemmas.Bool.{and_parts, eqb-true}
+use Rattle.std.proofs.lemmas.Bool.{and_parts}
 use Rattle.rsct_packet.specs.declared.ids.Member.{Member}
-use Rattle.rsct_packet.specs.declared.ids.ProviderId.{ProviderId}
 use Rattle.rsct_packet.specs.declared.ids.ViewId.{ViewId}
 use Rattle.rsct_packet.specs.Ids.{same_view}
 use Rattle.rsct_packet.specs.Search.{Has}
@@ -12,7 +11,7 @@ use Rattle.view_state.proofs.ViewOrder.{same_view_is}
 use Rattle.proposal_core.specs.declared.entry.Entry.{Entry}
 use Rattle.proposal_core.specs.declared.entry.Entry.TheVariants as entry
 use Rattle.proposal_core.specs.declared.group_state.GroupState.{GroupState}
-use Rattle.proposal_core.specs.Fold.{empty_state, fits, apply, after_if, after, present}
+use Rattle.proposal_core.specs.Fold.{empty_state, fits, apply, after_if, after}
 use Rattle.record_lines.specs.declared.line.BaseLine.{BaseLine}
 use Rattle.node_state.specs.declared.happened.Happened.{Happened}
 use Rattle.node_state.specs.declared.happened.Happened.TheVariants as happened
@@ -26,7 +25,7 @@ use Rattle.run_audit.proofs.ListLaws.{list_same, text_same}
 use Rattle.run_audit.proofs.PlaceLaws.{list_self}
 use Rattle.audit_laws.specs.Lines.{shown, lines}
 use Rattle.audit_laws.proofs.Lists.{puts_are, puts_length, front}
-use Rattle.audit_laws.proofs.Tests.{both, eq_self, view_self, text_self, map_take, map_length}
+use Rattle.audit_laws.proofs.Tests.{both, eq_self, view_self, text_self, map_take}
 
 -- ---- a message changes no state, nor does the value of what is rejected
 

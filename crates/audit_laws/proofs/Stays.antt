@@ -1,9 +1,9 @@
 -- The stays of a node, by the lines, are those of its records since it started; so a provider takes part where it does by the records.
-use Rattle.std.proofs.Common.{◌≡◌, ℕ, suc, ◌+◌, ◌<◌, take, Bool, true, false, List, [], ◌∷◌, ◌++◌, Option, Some, None, inl, inr, refl, sym, ◌∙◌, ap, subst}
+use Rattle.std.proofs.Common.{◌≡◌, ℕ, suc, ◌+◌, take, Bool, true, false, List, [], ◌∷◌, ◌++◌, Option, Some, None, inl, inr, refl, sym, ◌∙◌, ap, subst}
 use Rattle.std.specs.Prelude.{◌==◌, ◌&&◌, not, map, is_some, is_none, nat_le, if◌then◌else◌}
 use Rattle.std.specs.Str.{bytes_eq}
 use Rattle.std.specs.Option.{option_map}
-use Rattle.std.proofs.lemmas.Bool.{and_parts, eqb-true, eq-eqb}
+use Rattle.std.proofs.lemmas.Bool.{and_parts, eqb-true}
 use Rattle.rsct_packet.specs.declared.ids.Member.{Member}
 use Rattle.rsct_packet.specs.declared.ids.ProviderId.{ProviderId}
 use Rattle.rsct_packet.specs.declared.ids.ViewId.{ViewId}
@@ -14,7 +14,7 @@ use Rattle.view_state.proofs.ViewOrder.{not_before_itself, same_view_is}
 use Rattle.proposal_core.specs.declared.entry.Entry.{Entry}
 use Rattle.proposal_core.specs.declared.entry.Entry.TheVariants as entry
 use Rattle.proposal_core.specs.declared.group_state.GroupState.{GroupState}
-use Rattle.proposal_core.specs.Fold.{empty_state, after, joins_of, present}
+use Rattle.proposal_core.specs.Fold.{empty_state, after, present}
 use Rattle.node_state.specs.declared.happened.Happened.{Happened}
 use Rattle.node_state.specs.declared.happened.Happened.TheVariants as happened
 use Rattle.run_safety.specs.Past as past
@@ -23,15 +23,15 @@ use Rattle.run_safety.specs.Stays as stay
 use Rattle.run_safety.specs.ViewOrder.{is_before}
 use Rattle.log_laws.specs.Logs.{is_up}
 use Rattle.run_laws.specs.seen_runs.Seen.{Seen, SeenAt}
-use Rattle.line_laws.specs.Shown.{entry_shown, base_shown}
-use Rattle.run_audit.specs.Past.{view_of, view_after, is_list, list_of, fold_from, base_of, base_state, Stay, with_base, with_entry, stays, stays_to, is_join_of, Part, no_part, passes, first_in, last_from, last_in, part_with, part, part_of}
+use Rattle.line_laws.specs.Shown.{entry_shown}
+use Rattle.run_audit.specs.Past.{view_of, view_after, is_list, list_of, fold_from, base_of, base_state, Stay, with_base, with_entry, stays, stays_to, is_join_of, Part, passes, first_in, last_from, last_in, part_with, part, part_of}
 use Rattle.run_audit.proofs.ListLaws.{text_same}
 use Rattle.audit_laws.specs.Lines.{shown, lines}
-use Rattle.audit_laws.specs.Records.{OfRun, InTurn}
+use Rattle.audit_laws.specs.Records.{OfRun}
 use Rattle.audit_laws.proofs.Nodes.{Entered, view_was}
 use Rattle.audit_laws.proofs.Past.{older}
 use Rattle.audit_laws.proofs.States.{Knows, base_is, after_shown}
-use Rattle.audit_laws.proofs.Tests.{both, eq_self, view_self, text_self, map_end}
+use Rattle.audit_laws.proofs.Tests.{both, view_self, map_end}
 
 -- ---- the same words, of records and of lines
 

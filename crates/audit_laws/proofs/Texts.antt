@@ -1,7 +1,6 @@
 -- The text of records is read line by line.
-use Rattle.std.proofs.Common.{◌≡◌, ℕ, ◌+◌, Bool, true, false, List, [], ◌∷◌, ◌++◌, length, Option, Some, None, refl, sym, ◌∙◌, ap, subst, append_assoc, arith}
-use Rattle.std.specs.Prelude.{codes, decimal, flat_map, reverse}
-use Rattle.std.proofs.lemmas.List.{append-nil}
+use Rattle.std.proofs.Common.{◌≡◌, ℕ, ◌+◌, false, List, [], ◌∷◌, ◌++◌, length, Option, Some, None, refl, sym, ◌∙◌, ap, subst, append_assoc, arith}
+use Rattle.std.specs.Prelude.{codes}
 use Rattle.rsct_packet.specs.Lists.{is_empty, reverse_onto}
 use Rattle.client_callbacks.specs.declared.told.Told.{Told}
 use Rattle.client_callbacks.specs.declared.told.Told.TheVariants as told
@@ -11,17 +10,17 @@ use Rattle.word_laws.proofs.Pieces.{split_first}
 use Rattle.record_lines.specs.declared.line.Line.{Line}
 use Rattle.record_lines.specs.declared.line.Line.TheVariants as line
 use Rattle.record_lines.specs.declared.line.Note.{Note}
-use Rattle.record_lines.specs.Fits.{line_fits}
 use Rattle.record_lines.specs.Reading.{line_read}
 use Rattle.record_lines.specs.Writing.{line_text}
 use Rattle.record_lines.proofs.ReadLaws.{line_back}
 use Rattle.node_state.specs.declared.happened.Happened.{Happened}
 use Rattle.node_state.specs.declared.happened.Happened.TheVariants as happened
 use Rattle.world_model.specs.Text.{record_text, line_of}
-use Rattle.line_laws.specs.Shown.{IsNote, Shows, ShowsWhole}
+use Rattle.line_laws.specs.Shown.{IsNote, ShowsWhole}
 use Rattle.line_laws.proofs.Texts.{lines_show}
 use Rattle.run_audit.specs.declared.broken.Verdict.TheVariants.{Seen}
-use Rattle.run_audit.specs.Audit.{Judged, NoRecord, Is, judged, judged_text}
+use Rattle.run_audit.specs.declared.broken.Judged.TheVariants.{NoRecord, Is}
+use Rattle.run_audit.specs.Audit.{judged, judged_text}
 use Rattle.run_audit.specs.Table.{verdict_of}
 use Rattle.world_safety.proofs.Turned.{onto_none}
 use Rattle.audit_laws.specs.Law.{AreShown, text_of, TextsAreSeen}

@@ -1,21 +1,16 @@
 -- Runs of events, and of scripts.
-use Rattle.std.proofs.Common.{◌≡◌, ℕ, Bool, true, false, List, [], ◌∷◌, length, refl, sym, ◌∙◌, ap, subst}
+use Rattle.std.proofs.Common.{◌≡◌, ℕ, Bool, true, false, List, [], ◌∷◌, refl, sym, ◌∙◌, ap, subst}
 use Rattle.std.specs.Prelude.{reverse}
-use Rattle.rsct_packet.specs.Lists.{reverse_onto}
 use Rattle.node_state.specs.declared.config.Config.{Config}
-use Rattle.node_state.specs.declared.happened.Happened.{Happened}
 use Rattle.world_model.specs.declared.event.Event.{Event}
-use Rattle.world_model.specs.declared.script.Script.{Script}
 use Rattle.world_model.specs.Play.{events_of, played_records, script_records}
 use Rattle.world_model.specs.Run.{trace_of}
-use Rattle.world_model.specs.World.{World}
-use Rattle.run_safety.specs.Past.{records_of, history_of}
+use Rattle.run_safety.specs.Past.{records_of}
 use Rattle.run_laws.specs.ring_runs.Rings.{AddressesFit}
-use Rattle.record_lines.specs.declared.line.Line.{Line}
 use Rattle.value_words.specs.Words.{split_on}
 use Rattle.run_audit.specs.Audit.{judged, judged_text}
 use Rattle.run_audit.specs.Table.{verdict_of}
-use Rattle.world_laws.specs.world_answers.Answers.{Answered, events_in, answered_after, answered_records, all_worded}
+use Rattle.world_laws.specs.world_answers.Answers.{Answered, events_in, answered_records, all_worded}
 use Rattle.world_laws.proofs.world_answers.Words.{all_events}
 use Rattle.world_safety.specs.Events.{AllMayHappen, run_of_events}
 use Rattle.world_safety.specs.Scripts.{IsSafeScript}
@@ -25,7 +20,7 @@ use Rattle.world_safety.proofs.Runs.{every_run_is_reached}
 use Rattle.world_safety.proofs.Scripts.{every_script_is_safe}
 use Rattle.world_safety.proofs.SteadyRuns.{history_records}
 use Rattle.world_safety.proofs.Traces.{run_has_the_records}
-use Rattle.audit_laws.specs.Law.{AreShown, IsSeenText, EveryTextIsSeen, EveryScriptTextIsSeen}
+use Rattle.audit_laws.specs.Law.{IsSeenText, EveryTextIsSeen, EveryScriptTextIsSeen}
 use Rattle.audit_laws.specs.Records.{OfRun}
 use Rattle.audit_laws.proofs.Runs.{runs_are_audited}
 use Rattle.audit_laws.proofs.Texts.{texts_are_seen}

@@ -14,7 +14,8 @@ use Rattle.log_laws.specs.Logs.{Logs, BasesComeFromGroups}
 use Rattle.record_lines.specs.declared.line.Line.{Line}
 use Rattle.line_laws.specs.Shown.{ShowsWhole}
 use Rattle.run_audit.specs.declared.broken.Verdict.TheVariants.{Seen}
-use Rattle.run_audit.specs.Audit.{Is, judged_text}
+use Rattle.run_audit.specs.declared.broken.Judged.TheVariants.{Is}
+use Rattle.run_audit.specs.Audit.{judged_text}
 use Rattle.world_laws.specs.world_answers.Answers.{Answered, events_in, answered_records}
 use Rattle.world_safety.specs.Events.{AllMayHappen}
 use Rattle.audit_laws.specs.Records.{OfRun}

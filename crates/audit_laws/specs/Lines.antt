@@ -1,5 +1,5 @@
 -- The lines of records: what each of them shows, the latest first.
-use Rattle.std.specs.Prelude.{ℕ, true, List, [], ◌∷◌, ◌++◌, Option, Some, None, codes, decimal}
+use Rattle.std.specs.Prelude.{ℕ, true, List, [], ◌∷◌, ◌++◌, Option, Some, codes, decimal}
 use Rattle.rsct_packet.specs.Mask.{nodes_of}
 use Rattle.client_callbacks.specs.declared.told.Told.{Told}
 use Rattle.client_callbacks.specs.declared.told.Told.TheVariants as told
