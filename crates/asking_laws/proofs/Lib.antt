@@ -1,0 +1,5 @@
+pub mod Calls
+pub mod Walked
+pub mod Law
+pub mod Runs
+pub mod Worked
