@@ -34,7 +34,7 @@ use Rattle.daemon_model.specs.Daemon.{Daemon, begun_for, serves_nobody}
 use Rattle.daemon_model.specs.Actions.{did}
 use Rattle.daemon_model.specs.Sent.{Exchange}
 use Rattle.network_model.specs.Network.{Act, Begins, Does, Ends, Net, no_net, skipped, noted_since, went_on, starts, ends, idles, begins, does_if, acted}
-use Rattle.network_model.specs.Fits.{IsSpelledSend, AllMayAct}
+use Rattle.network_model.specs.Fits.{IsSpelledSend, AllMayAct, NetworkRun}
 use Rattle.network_model.specs.Executions.{what_of, TimedLife, untimed, Ordered}
 use Rattle.network_laws.proofs.Going.{begun_records}
 use Rattle.network_laws.proofs.Orders.{are_lives}
@@ -143,14 +143,23 @@ module _ (c : Config) (free : is_fixed c.mode ≡ false) where
       let rest = acts_logged acts (acted c net a) (es ++ one.events) one.world one.stand may.1 (reverse (written c net a) ++ ls) (act_logged net (told c net es w k) a ls l) in
       subst (Logged (fold (acted c) (acted c net a) acts)) (sym (ap (λ xs. xs ++ ls) (reverse-append (written c net a) (logged c (acted c net a) acts)) ∙ append_assoc (reverse (logged c (acted c net a) acts)) (reverse (written c net a)) ls)) rest
 
-pub logs_of_daemons_are_seen : LogsOfDaemonsAreSeen
-logs_of_daemons_are_seen c acts run =
+-- a run of which the logs of the daemons have the records
+pub record DaemonLogs (c : Config) (acts : List Act) : Type 0 where
+  pub scene : Scene
+  pub reached : Reached c scene
+  pub logs : Logs (records_of scene.before) (reverse (logged c no_net acts))
+
+pub daemons_log : (c : Config) (acts : List Act) → NetworkRun IsSpelledSend c acts → DaemonLogs c acts
+daemons_log c acts run =
     let k : Stand c no_net [] (empty_world c) = nothing_stands c run.mode in
     let g : AllGo c no_net [] acts = all_go c run.mode acts no_net [] (empty_world c) k run.may in
     let t : Told c (fold (acted c) no_net acts) = told c (fold (acted c) no_net acts) g.events g.world g.stand in
     let ls : List Happened = reverse (logged c no_net acts) in
     let l = acts_logged c run.mode acts no_net [] (empty_world c) k run.may [] (record { logs = Nothing; lives = λ n up. absurd (cc) }) in
-    every_run_is_seen_in_logs c t.scene t.reached run.mode ls (subst (λ rs. Logs rs ls) (sym t.records) (subst (Logs (reverse (fold (acted c) no_net acts).records)) (append-nil ls) l.logs))
+    record { scene = t.scene; reached = t.reached; logs = subst (λ rs. Logs rs ls) (sym t.records) (subst (Logs (reverse (fold (acted c) no_net acts).records)) (append-nil ls) l.logs) }
+
+pub logs_of_daemons_are_seen : LogsOfDaemonsAreSeen
+logs_of_daemons_are_seen c acts run = let d : DaemonLogs c acts = daemons_log c acts run in every_run_is_seen_in_logs c d.scene d.reached run.mode (reverse (logged c no_net acts)) d.logs
 
 -- ---- executions
 
