@@ -142,7 +142,7 @@ starts_standing w n old =
     let rs : List Happened = (started w.config n (w.incs n + 1)).records in
     let q = begins w.config n (w.incs n + 1) (records_of w.before) old.enter in
     let cores : (m : ℕ) → UpIf (reverse rs ++ records_of w.before) m (at_node w.cores n (Some (started w.config n (w.incs n + 1))) m) =
-        each_set (λ m o. UpIf (reverse rs ++ records_of w.before) m o) w.cores n (Some (started w.config n (w.incs n + 1))) q.1 (λ m ne. up_same (records_of w.before) (reverse rs ++ records_of w.before) m (q.2 m ne) (w.cores m) (old.up m)) in
+    each_set (λ m o. UpIf (reverse rs ++ records_of w.before) m o) w.cores n (Some (started w.config n (w.incs n + 1))) q.1 (λ m ne. up_same (records_of w.before) (reverse rs ++ records_of w.before) m (q.2 m ne) (w.cores m) (old.up m)) in
     record {
       up = λ m. subst (λ xs. UpIf xs m (at_node w.cores n (Some (started w.config n (w.incs n + 1))) m)) (sym (records_with w.before rs)) (cores m);
       enter = subst AllEnterUp (sym (records_with w.before rs)) q.0;
