@@ -1,8 +1,9 @@
-/* callers SETTINGS CLIENTS BYTES SECONDS: so many clients of clients/c, all in this process and at the three daemons of the
- * settings by turns, which are the members of one group and each set its value again and again, with one call outstanding
- * each. After a second they are measured, and one line is written: calls, the entries heard by who heard fewest, the median
- * and the 99th percentile of the microseconds from a call to the moment when its caller hears it, calls that were refused,
- * and the microseconds of processor time that this process took. bench/clients runs it. */
+/* callers SETTINGS CLIENTS BYTES SECONDS [GROUPS]: so many clients of clients/c, all in this process and at the three daemons
+ * of the settings by turns, which are the members of one group, or of so many groups each three in turn, and each set its
+ * value again and again, with one call outstanding each. After a second they are measured, and one line is written: calls,
+ * the entries heard by who heard fewest, the median and the 99th percentile of the microseconds from a call to the moment
+ * when its caller hears it, calls that were refused, and the microseconds of processor time that this process took.
+ * bench/clients and bench/peers run it. */
 #define _POSIX_C_SOURCE 200809L
 #include "../clients/c/hags.h"
 
@@ -17,6 +18,7 @@ enum { NODES = 3, MOST_CLIENTS = 64, MOST_BYTES = 1024, MOST_CALLS = 1 << 22, MO
 typedef struct {
     hags *client;
     int index;
+    char group[16];
     long calls, heard;
     bool is_waiting, is_member;
     int64_t began;
@@ -25,7 +27,7 @@ typedef struct {
     size_t members;
 } caller;
 
-static int bytes;
+static int bytes, groups = 1;
 static long refused, count;
 static int64_t *times;
 
@@ -45,7 +47,7 @@ static void set_value(caller *it) {
     if (length < bytes) memset(it->value + length, 'x', (size_t)(bytes - length));
     it->is_waiting = true;
     it->began = now(CLOCK_MONOTONIC);
-    hags_result result = hags_state(it->client, "bench", false, (hags_bytes){(size_t)bytes, it->value});
+    hags_result result = hags_state(it->client, it->group, false, (hags_bytes){(size_t)bytes, it->value});
     if (result != HAGS_LATE && result != HAGS_OK) stop("state", result);
 }
 
@@ -78,7 +80,14 @@ static void act(caller *it, bool sets) {
     if (sets && !it->is_waiting && answer != HAGS_LATE) set_value(it);
 }
 
-/* Lets all go on for so long, or until each knows all members. */
+/* How many of so many clients are members of the group of this one. */
+static int members_of(int index, int clients) {
+    int count = 0;
+    for (int at = 0; at < clients; at++) count += at / NODES % groups == index / NODES % groups;
+    return count;
+}
+
+/* Lets all go on for so long, or until each knows all members of its group. */
 static void pump(int all, caller *callers, int clients, int64_t microseconds, bool sets) {
     struct epoll_event ready[MOST_CLIENTS];
     int64_t end = now(CLOCK_MONOTONIC) + microseconds;
@@ -86,7 +95,7 @@ static void pump(int all, caller *callers, int clients, int64_t microseconds, bo
         int found = epoll_wait(all, ready, MOST_CLIENTS, 20);
         for (int at = 0; at < found; at++) act(ready[at].data.ptr, sets);
         int complete = 0;
-        for (int at = 0; at < clients; at++) complete += callers[at].members == (size_t)clients;
+        for (int at = 0; at < clients; at++) complete += callers[at].members == (size_t)members_of(at, clients);
         if (!sets && complete == clients) return;
     }
 }
@@ -100,10 +109,11 @@ static void begin(caller *it, int index, const char *settings, int all) {
     char name[HAGS_MOST_NAME + 1];
     snprintf(name, sizeof name, "c%d", index);
     *it = (caller){.index = index, .client = hags_new(settings, 1 + index % NODES)};
+    snprintf(it->group, sizeof it->group, "bench%d", index / NODES % groups);
     if (!it->client) stop("settings", HAGS_BAD);
     hags_patience(it->client, 60000);
     hags_result result = hags_open(it->client, name);
-    if (result == HAGS_OK) result = hags_join(it->client, "bench", (unsigned)index + 1, NULL);
+    if (result == HAGS_OK) result = hags_join(it->client, it->group, (unsigned)index + 1, NULL);
     if (result != HAGS_OK) stop("join", result);
     hags_patience(it->client, 0);
     struct epoll_event readable = {.events = EPOLLIN, .data.ptr = it};
@@ -113,12 +123,14 @@ static void begin(caller *it, int index, const char *settings, int all) {
 int main(int words, char **word) {
     static char settings[MOST_SETTINGS];
     static caller callers[MOST_CLIENTS];
-    FILE *file = words == 5 ? fopen(word[1], "r") : NULL;
+    FILE *file = words == 5 || words == 6 ? fopen(word[1], "r") : NULL;
     if (!file || !fread(settings, 1, sizeof settings - 1, file)) stop("settings", HAGS_FAULT);
     fclose(file);
     int clients = atoi(word[2]);
     bytes = atoi(word[3]);
-    if (clients < 1 || clients > MOST_CLIENTS || bytes < 20 || bytes > MOST_BYTES) stop("words", HAGS_BAD);
+    if (words == 6) groups = atoi(word[5]);
+    bool are_fit = clients >= 1 && clients <= MOST_CLIENTS && bytes >= 20 && bytes <= MOST_BYTES && groups >= 1;
+    if (!are_fit) stop("words", HAGS_BAD);
     times = malloc(MOST_CALLS * sizeof *times);
     int all = epoll_create1(0);
     if (!times || all < 0) stop("memory", HAGS_NO_MEMORY);
