@@ -1,5 +1,6 @@
 -- The text of a run's records is seen, by the table of rules.
-use Rattle.std.specs.Prelude.{ℕ, ◌≡◌, List, [], ◌∷◌, length, flat_map, reverse}
+use Rattle.std.specs.Prelude.{ℕ, ◌≡◌, true, List, [], ◌∷◌, length, flat_map, reverse}
+use Rattle.value_words.specs.Words.{split_on}
 use Rattle.node_state.specs.declared.config.Config.{Config}
 use Rattle.node_state.specs.declared.happened.Happened.{Happened}
 use Rattle.world_model.specs.declared.script.Script.{Script}
@@ -12,6 +13,8 @@ use Rattle.step_refinement.specs.Runs.{Reached}
 use Rattle.run_laws.specs.ring_runs.Rings.{AddressesFit}
 use Rattle.log_laws.specs.Logs.{Logs, BasesComeFromGroups}
 use Rattle.record_lines.specs.declared.line.Line.{Line}
+use Rattle.record_lines.specs.Fits.{line_fits}
+use Rattle.record_lines.specs.Writing.{line_text}
 use Rattle.line_laws.specs.Shown.{ShowsWhole}
 use Rattle.run_audit.specs.declared.broken.Verdict.TheVariants.{Seen}
 use Rattle.run_audit.specs.declared.broken.Judged.TheVariants.{Is}
@@ -27,6 +30,10 @@ RunsAreAudited = (c : Config) (w : Scene) → Reached c w → ((net : ℕ) → A
 -- so do those of them that logs have, where bases come from views in which their groups were
 abbrev pub LogsAreAudited : Type 0
 LogsAreAudited = (rs ls : List Happened) → Logs rs ls → OfRun rs → BasesComeFromGroups rs → OfRun ls
+
+-- no line that fits has a line feed: cut at them its text is one piece
+abbrev pub LinesAreOnePiece : Type 0
+LinesAreOnePiece = (l : Line) → line_fits l ≡ true → split_on 10 (line_text l) ≡ line_text l ∷ []
 
 -- Each record shows the line at its place, and that line fits: a record of which a number is out of range, or a name too long, has no
 -- such line.

@@ -1,10 +1,13 @@
 //! The text of a run is seen.
-ghost use Rattle.std.specs.Prelude.{◌≡◌, List, [], ◌∷◌, true};
-ghost use Rattle.value_words.specs.Words.{split_on};
-ghost use Rattle.record_lines.specs.declared.line.Line.{Line};
-ghost use Rattle.record_lines.specs.Fits.{line_fits};
-ghost use Rattle.record_lines.specs.Writing.{line_text};
-ghost use Rattle.audit_laws.specs.Law.{EveryScriptTextIsSeen, EveryTextIsSeen, LogTextsAreSeen, LogsAreAudited, RunsAreAudited, TextsAreSeen};
+ghost use Rattle.audit_laws.specs.Law.{
+  EveryScriptTextIsSeen,
+  EveryTextIsSeen,
+  LinesAreOnePiece,
+  LogTextsAreSeen,
+  LogsAreAudited,
+  RunsAreAudited,
+  TextsAreSeen,
+};
 
 /// The records of every run show all that the rules of a transcript ask for, whatever starts, stops and steps, where the addresses
 /// of each network differ.
@@ -16,7 +19,7 @@ pub fn runs_are_audited()
 /// The text of a line that fits has no line feed: cut at them it is one piece.
 #[tactic(auto, using(crate::proofs::Feeds::line_is_whole))]
 pub fn lines_are_one_piece()
-    ensures { (l : Line) → line_fits l ≡ true → split_on 10 (line_text l) ≡ line_text l ∷ [] }
+    ensures { LinesAreOnePiece }
 {}
 
 /// The text of such records, of which each has a line that fits, is judged as seen, with as many lines.
