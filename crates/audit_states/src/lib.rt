@@ -11,7 +11,7 @@ mod whole_lists;
 
 pub use basing::Basing;
 pub use comings::{Comings, IncKey};
-pub use folding::{fold, front};
+pub use folding::front;
 pub use list_bases::{ListBase, ListBases};
 pub use list_states::ListStates;
 pub use row_states::{RowState, RowStates};
